@@ -1,4 +1,5 @@
 pub mod Cause
 pub mod Entries
 pub mod Memory
+pub mod Seen
 pub mod inner

@@ -39,9 +39,7 @@ impl NoCache {
 impl Cache for NoCache {
     ghost use Rattle.std.specs.Prelude.{Some, []};
 
-    ghost entries = { λ _. Some [] };
-
-    ghost faults = { λ s. s };
+    ghost seen = { λ s. record { entries = Some []; faults = s } };
 
     fn find(&mut self, _alloc: Global, _key: &[u8]) -> Result<Option<Vec<u8>>, FindFault> {
         Ok(None)

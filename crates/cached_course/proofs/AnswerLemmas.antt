@@ -3,12 +3,13 @@ use Rattle.std.proofs.Common.{◌≡◌, ◌∙◌, ◌≤◌, inl, inr, ℕ, Li
 use Rattle.std.specs.Prelude.{IfSome}
 use Rattle.cache_store.specs.Entries.{with_entries}
 use Rattle.cache_store.specs.declared.entry.CacheEntry.{CacheEntry}
-use Rattle.crew.specs.Hosts.{Account}
+use Rattle.cache_store.specs.Seen.{SeenCache}
+use Rattle.outside.specs.Accounts.{Account}
 use Rattle.kept_results.specs.Keeping.{WereKept}
 use Rattle.kept_results.specs.Kept.{FindsEach}
 use Rattle.outside.specs.Cause.{Rose}
 use Rattle.outside.specs.Says.{HasLine}
-use Rattle.outside.specs.Seen.{Seen, SeenShelf}
+use Rattle.outside.specs.Seen.{SeenScreen, SeenShelf, SeenSource}
 use Rattle.outside.specs.Told.{WhereTold}
 use Rattle.outside.specs.declared.file.File.{File as NamedBytes}
 use Rattle.run_course.specs.Answers.{IsRefused}
@@ -23,14 +24,14 @@ use Rattle.run_texts.specs.declared.status.Status.{Status}
 use Rattle.run_texts.specs.declared.status.Status.TheVariants.{Done, GaveUp, Usage, ScriptRefused, InputRefused, Trap, ReadFault, WriteFault, WantOfMemory, TooLong, NoFile, PlanRefused}
 use Rattle.saved_results.specs.declared.saved.Saved.{Saved}
 use Rattle.script_program.specs.Script.{Script}
-use Rattle.cached_course.specs.Answers.{Answers, AsksHosts, AsksRun, HasLooked, IsKept, SeenCache, WasReused}
+use Rattle.cached_course.specs.Answers.{Answers, AsksHosts, AsksRun, HasLooked, IsKept, WasReused}
 use Rattle.cached_course.specs.Kept.{HasKept}
 use Rattle.cached_course.specs.inner.Course.{AsksHostsInCall, DeliversKept, IsPrepared, IsStop}
 
 -- ---- what comes to its writing
 
 may_deliver : (files : List NamedBytes) (text : List ℕ) (kept : List CacheEntry)
-    (shelf shelf' : SeenShelf) (screen screen' : Seen (List ℕ)) (cache later : SeenCache)
+    (shelf shelf' : SeenShelf) (screen screen' : SeenScreen) (cache later : SeenCache)
     (status : Status)
     → DeliversKept files text kept shelf shelf' screen screen' cache later status
     → MayHaveRun status
@@ -54,35 +55,34 @@ may_deliver files text kept shelf shelf' screen screen' cache later
     (PlanRefused step kind) is = absurd is
 
 -- all files that the run reads were asked for
-pub delivered_for : (words : List (List ℕ)) (told : Option (List NamedBytes))
-    (asked asked' : Seen (List (List ℕ))) (files : List NamedBytes) (text : List ℕ)
-    (kept : List CacheEntry) (shelf shelf' : SeenShelf) (screen screen' : Seen (List ℕ))
-    (cache later : SeenCache) (status : Status)
+pub delivered_for : (words : List (List ℕ)) (source source' : SeenSource)
+    (files : List NamedBytes) (text : List ℕ) (kept : List CacheEntry)
+    (shelf shelf' : SeenShelf) (screen screen' : SeenScreen) (cache later : SeenCache) (status : Status)
     → DeliversKept files text kept shelf shelf' screen screen' cache later status
-    → AsksAll words told asked asked' → AsksFor words told asked asked' status
-delivered_for words told asked asked' files text kept shelf shelf' screen screen' cache later
+    → AsksAll words source source' → AsksFor words source source' status
+delivered_for words source source' files text kept shelf shelf' screen screen' cache later
     Done is all = all
-delivered_for words told asked asked' files text kept shelf shelf' screen screen' cache later
+delivered_for words source source' files text kept shelf shelf' screen screen' cache later
     (WriteFault place) is all = all
-delivered_for words told asked asked' files text kept shelf shelf' screen screen' cache later
+delivered_for words source source' files text kept shelf shelf' screen screen' cache later
     Usage is all = absurd is
-delivered_for words told asked asked' files text kept shelf shelf' screen screen' cache later
+delivered_for words source source' files text kept shelf shelf' screen screen' cache later
     (ScriptRefused line kind) is all = absurd is
-delivered_for words told asked asked' files text kept shelf shelf' screen screen' cache later
+delivered_for words source source' files text kept shelf shelf' screen screen' cache later
     (InputRefused name row column kind) is all = absurd is
-delivered_for words told asked asked' files text kept shelf shelf' screen screen' cache later
+delivered_for words source source' files text kept shelf shelf' screen screen' cache later
     (Trap origin kind element) is all = all
-delivered_for words told asked asked' files text kept shelf shelf' screen screen' cache later
+delivered_for words source source' files text kept shelf shelf' screen screen' cache later
     (ReadFault name) is all = absurd is
-delivered_for words told asked asked' files text kept shelf shelf' screen screen' cache later
+delivered_for words source source' files text kept shelf shelf' screen screen' cache later
     (GaveUp stage phase task) is all = all
-delivered_for words told asked asked' files text kept shelf shelf' screen screen' cache later
+delivered_for words source source' files text kept shelf shelf' screen screen' cache later
     WantOfMemory is all = absurd is
-delivered_for words told asked asked' files text kept shelf shelf' screen screen' cache later
+delivered_for words source source' files text kept shelf shelf' screen screen' cache later
     (TooLong name limit) is all = absurd is
-delivered_for words told asked asked' files text kept shelf shelf' screen screen' cache later
+delivered_for words source source' files text kept shelf shelf' screen screen' cache later
     (NoFile name) is all = absurd is
-delivered_for words told asked asked' files text kept shelf shelf' screen screen' cache later
+delivered_for words source source' files text kept shelf shelf' screen screen' cache later
     (PlanRefused step kind) is all = all
 
 -- ---- a cache that was to keep some entries
@@ -113,21 +113,21 @@ calm_all kept first last None after all calm = tt
 calm_all kept first last (Some old) after all calm = all calm
 
 pub has_kept : (kept : List CacheEntry) (before after : SeenCache)
-    → is_some after.told ≡ is_some before.told
-    → IfSome before.told (λ entries. IfSome after.told (WereKept entries kept))
-    → IfSome before.told (λ entries. (Rose before.faults after.faults → ⊥)
-    → after.told ≡ Some (with_entries entries kept))
+    → is_some after.entries ≡ is_some before.entries
+    → IfSome before.entries (λ entries. IfSome after.entries (WereKept entries kept))
+    → IfSome before.entries (λ entries. (Rose before.faults after.faults → ⊥)
+    → after.entries ≡ Some (with_entries entries kept))
     → HasKept kept before after
 has_kept kept before after same some all = record {
-  some = where_kept kept before.told after.told same some;
+  some = where_kept kept before.entries after.entries same some;
   all = λ calm.
-      all_kept kept before.told after.told same
-      (calm_all kept before.faults after.faults before.told after.told all calm);
+      all_kept kept before.entries after.entries same
+      (calm_all kept before.faults after.faults before.entries after.entries all calm);
 }
 
 -- ---- a cache that was called again
 
-module _ (cache middle later : SeenCache) (same : middle.told ≡ cache.told)
+module _ (cache middle later : SeenCache) (same : middle.entries ≡ cache.entries)
     (first : cache.faults ≤ middle.faults) (second : middle.faults ≤ later.faults) where
   rose_then : Rose cache.faults middle.faults → Rose cache.faults later.faults
   rose_then rose = omega (arith, rose, second)
@@ -159,7 +159,7 @@ module _ (cache middle later : SeenCache) (same : middle.told ≡ cache.told)
     was = record {
       kept = it.was.kept;
       found = it.was.found;
-      finds = finds_then it.script it.asked it.looked cache.told it.was.finds;
+      finds = finds_then it.script it.asked it.looked cache.entries it.was.finds;
     };
   }
 
@@ -167,11 +167,11 @@ module _ (cache middle later : SeenCache) (same : middle.told ≡ cache.told)
   kept_since kept has = record {
     some = subst
         (λ (o : Option (List CacheEntry)).
-        WhereTold o later.told (λ old new. WereKept old kept new)) same has.some;
+        WhereTold o later.entries (λ old new. WereKept old kept new)) same has.some;
     all = λ calm.
         subst
         (λ (o : Option (List CacheEntry)).
-        WhereTold o later.told (λ old new. new ≡ with_entries old kept)) same
+        WhereTold o later.entries (λ old new. new ≡ with_entries old kept)) same
         (has.all (λ rose. calm (rose_since rose)));
   }
 
@@ -179,11 +179,11 @@ module _ (cache middle later : SeenCache) (same : middle.told ≡ cache.told)
 
   module _ (words : List (List ℕ)) (before after : World) (files : List NamedBytes)
       (text : List ℕ) (kept : List CacheEntry)
-      (it : IsPrepared words before.source.told before.hosts after.hosts cache middle files text
+      (it : IsPrepared words before.source.files before.hosts after.hosts cache middle files text
       kept) where
     abbrev was_reused : WasReused words before after cache later files text
     was_reused = record {
-      it = looked_then words before.source.told it.it;
+      it = looked_then words before.source.files it.it;
       table = it.table;
       writes = it.writes;
     }
@@ -201,7 +201,7 @@ module _ (cache middle later : SeenCache) (same : middle.told ≡ cache.told)
         → Answers words before after cache later status
     delivered Done left = (files, text, was_reused, left.0, is_kept left.1, left.2)
     delivered (WriteFault (File name)) left =
-        (files, text, was_reused, left.0, ap (λ (c : SeenCache). c.told) left.1 ∙ same, left.2)
+        (files, text, was_reused, left.0, ap (λ (c : SeenCache). c.entries) left.1 ∙ same, left.2)
     delivered (WriteFault Screen) left =
         (files, text, was_reused, left.0, is_kept left.1, left.2)
     delivered Usage left = absurd left
@@ -231,7 +231,7 @@ module _ (cache middle later : SeenCache) (same : middle.told ≡ cache.told)
 
   pub delivered_asks : {T : Type 0} (words : List (List ℕ)) (told : Option (List NamedBytes))
       (olds news : List Account) (files : List NamedBytes) (text : List ℕ)
-      (kept : List CacheEntry) (shelf shelf' : SeenShelf) (screen screen' : Seen (List ℕ))
+      (kept : List CacheEntry) (shelf shelf' : SeenShelf) (screen screen' : SeenScreen)
       (status : Status) (it : T)
       → DeliversKept files text kept shelf shelf' screen screen' middle later status
       → AsksHostsInCall {T = T} words told olds news cache middle (Ok it)
@@ -249,7 +249,7 @@ module _ (cache middle later : SeenCache) (same : middle.told ≡ cache.told)
 -- ---- what writes nothing
 
 module _ (words : List (List ℕ)) (before after : World) (cache later : SeenCache)
-    (same : later.told ≡ cache.told) where
+    (same : later.entries ≡ cache.entries) where
   pub refusal : (status : Status)
       → IsStop words before.source after.source before.hosts after.hosts cache later
       (Refused status)

@@ -5,7 +5,7 @@ use Rattle.std.specs.List.{AllByRecursion as Each}
 use Rattle.std.proofs.lemmas.List.Elements.{recursion_from_All}
 use Rattle.cache_store.specs.declared.entry.CacheEntry.{CacheEntry}
 use Rattle.command_words.specs.declared.words.Command.TheVariants.{Run}
-use Rattle.crew.specs.Hosts.{Account}
+use Rattle.outside.specs.Accounts.{Account}
 use Rattle.exec_plan.specs.declared.plan.Plan.{Plan}
 use Rattle.flume_value.specs.Ranges.{IsHeld}
 use Rattle.kept_results.specs.Keyed.{keyed_nodes}
@@ -15,7 +15,7 @@ use Rattle.key_meaning.specs.Keyed.{IsShort}
 use Rattle.keyed_loading.specs.Files.{AreFilesOf}
 use Rattle.keyed_loading.specs.Keyed.{LoadsKeyed}
 use Rattle.outside.specs.Asked.{Asks, AsksFront}
-use Rattle.outside.specs.Seen.{Seen}
+use Rattle.outside.specs.Seen.{SeenSource}
 use Rattle.outside.specs.declared.file.File.{File}
 use Rattle.run_course.specs.Answers.{IsCause}
 use Rattle.run_course.specs.Asked.{AskFor}
@@ -41,19 +41,13 @@ use Rattle.run_texts.specs.declared.status.Status.TheVariants.{Done, GaveUp, Usa
 use Rattle.script_keys.specs.declared.outline.Outline.{Outline}
 use Rattle.script_program.specs.Script.{Script}
 use Rattle.script_program.specs.declared.made.Output.{Output}
-use Rattle.cached_course.specs.Answers.{SeenCache}
+use Rattle.cache_store.specs.Seen.{SeenCache}
 use Rattle.cached_course.specs.Looked.{AreAsked}
 use Rattle.cached_course.specs.declared.missing.Missing.{Missing}
 use Rattle.cached_course.specs.declared.saving.Given.{Given}
 use Rattle.cached_course.specs.inner.Course.{IsStop, StopsRun, WasRun, counted_too}
 use Rattle.cached_course.specs.inner.Missing.{entry_of, kept_value}
 use Rattle.cached_course.proofs.ReadLemmas.{accepted}
-
-abbrev SeenSource : Type 0
-SeenSource = Seen (List File)
-
-abbrev SeenAsks : Type 0
-SeenAsks = Seen (List (List ℕ))
 
 -- ---- what was loaded
 
@@ -110,14 +104,14 @@ module _ (words : List (List ℕ)) (before middle after : SeenSource) (olds news
   script_stops (Trap origin kind element) cause = absurd cause
   script_stops (PlanRefused step kind) cause = absurd cause
 
-  module _ (script : Script) (loaded : IsLoaded before.told name script)
-      (told : middle.told ≡ before.told) (since : before.faults ≤ middle.faults) where
+  module _ (script : Script) (loaded : IsLoaded before.files name script)
+      (told : middle.files ≡ before.files) (since : before.faults ≤ middle.faults) where
     inputs_for : (status : Status)
         → IsInputsCause s.tries middle after (inputs_of script) status
         → IsCause words before after olds news status
     inputs_for status cause =
         inputs_cause words before after olds news (Run s None) script status
-        (reads words before.told (Run s None) name script (asks, loaded))
+        (reads words before.files (Run s None) name script (asks, loaded))
         (inputs_since s.tries before middle after (inputs_of script) status told since cause)
 
     pub inputs_stop : (status : Status)
@@ -139,21 +133,21 @@ module _ (words : List (List ℕ)) (before middle after : SeenSource) (olds news
 
 -- ---- what its source was asked for
 
-module _ (words : List (List ℕ)) (told : Option (List File)) (before middle after : SeenAsks)
-    (s : RunSettings) (name : List ℕ) (asks : AskFor words (Run s None) name) (script : Script)
-    (loaded : IsLoaded told name script) (first : Asks s.tries (name ∷ []) before middle) where
+module _ (words : List (List ℕ)) (before middle after : SeenSource) (s : RunSettings)
+    (name : List ℕ) (asks : AskFor words (Run s None) name) (script : Script)
+    (loaded : IsLoaded before.files name script)
+    (first : Asks s.tries (name ∷ []) before middle) where
   abbrev names : List (List ℕ)
   names = file_names (inputs_of script)
 
   -- not all inputs have rows
-  pub inputs_asked : (source source' : SeenSource) (status : Status)
-      → IsInputsCause s.tries source source' (inputs_of script) status
-      → AsksFront s.tries names middle after
-      → AsksFor words told before after status
-  inputs_asked source source' status cause front =
-      command_for words told (Run s None) name script before middle after asks loaded first
+  pub inputs_asked : (status : Status)
+      → IsInputsCause s.tries middle after (inputs_of script) status
+      → AsksFront s.tries names middle after → AsksFor words before after status
+  inputs_asked status cause front =
+      command_for words (Run s None) name script before middle after asks loaded first
       {T = Status} (Err (Refused status))
-      (inputs_with s.tries (names ++ []) middle after s.tries source source' (inputs_of script)
+      (inputs_with s.tries (names ++ []) middle after s.tries middle after (inputs_of script)
       status cause (front_more s.tries names [] middle after front))
 
   -- all have
@@ -162,9 +156,9 @@ module _ (words : List (List ℕ)) (told : Option (List File)) (before middle af
     whole =
         subst (λ (l : List (List ℕ)). Asks s.tries l middle after) (sym (append-nil names)) rest
 
-    pub memory_asked : AsksFor words told before after WantOfMemory
+    pub memory_asked : AsksFor words before after WantOfMemory
     memory_asked =
-        command_for words told (Run s None) name script before middle after asks loaded first
+        command_for words (Run s None) name script before middle after asks loaded first
         {T = Status} (Err (Refused WantOfMemory))
         (whole_front s.tries (names ++ []) middle after whole)
 
@@ -180,9 +174,9 @@ module _ (words : List (List ℕ)) (told : Option (List File)) (before middle af
         run.0 olds news (Err why) run.2 whole
 
     pub run_asked : {T : Type 0} (given : Given) (olds news : List Account) (r : Result T Stop)
-        → IfErr r (StopsRun s given olds news) → AsksInCall words told before after r
+        → IfErr r (StopsRun s given olds news) → AsksInCall words before after r
     run_asked {T = T} given olds news r stops =
-        command_for words told (Run s None) name script before middle after asks loaded first
+        command_for words (Run s None) name script before middle after asks loaded first
         {T = T} r (until {T = T} given olds news r stops)
 
 -- ---- what hosts may have been asked for

@@ -19,7 +19,7 @@ use Rattle.script_program.specs.Saved.{with_saved}
 use Rattle.script_program.specs.Script.{Node, Script}
 use Rattle.script_program.specs.declared.made.Made.{Made}
 use Rattle.script_program.specs.declared.made.Made.TheVariants as made
-use Rattle.cached_course.specs.Answers.{SeenCache}
+use Rattle.cache_store.specs.Seen.{SeenCache}
 use Rattle.cached_course.specs.Looked.{WereLooked, not_found}
 use Rattle.cached_course.specs.declared.found.Found.{Found as Apart}
 use Rattle.cached_course.specs.declared.saving.Given.{Given}

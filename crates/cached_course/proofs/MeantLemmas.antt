@@ -3,6 +3,7 @@ use Rattle.std.proofs.Common.{◌≡◌, ◌∙◌, ℕ, List, [], ◌∷◌, ma
 use Rattle.std.specs.Prelude.{IfSome, IsSome, IsSomeAnd}
 use Rattle.std.specs.List.{AllByRecursion as Each, Contains}
 use Rattle.cache_store.specs.declared.entry.CacheEntry.{CacheEntry}
+use Rattle.cache_store.specs.Seen.{SeenCache}
 use Rattle.flume_collection.specs.declared.trap.Trap.{Trap}
 use Rattle.flume_value.proofs.EachLemmas.{Each-both, Each-map, Each-weaker}
 use Rattle.flume_value.specs.Canonical.{canonical}
@@ -33,7 +34,7 @@ use Rattle.saved_results.specs.declared.saved.Saved.{Saved}
 use Rattle.saved_results.specs.declared.saved.Size.{Size}
 use Rattle.script_program.specs.Saved.{HasNoSaved, with_saved}
 use Rattle.script_program.specs.Script.{Script}
-use Rattle.cached_course.specs.Answers.{HasLooked, SeenCache, found}
+use Rattle.cached_course.specs.Answers.{HasLooked, found}
 use Rattle.cached_course.specs.Kept.{HasKept, bytes_kept, entries_kept, value_kept}
 use Rattle.cached_course.specs.Looked.{not_found}
 use Rattle.cached_course.specs.Promises.{IsAsMeant}
@@ -86,7 +87,7 @@ sizes_kept_so (line ∷ lines) = ap (λ l. line.1 ∷ l) (sizes_kept_so lines)
 -- ---- a run
 
 module _ (laws : Laws) (words : List (List ℕ)) (told : List File) (cache later : SeenCache)
-    (entries : List CacheEntry) (tells : cache.told ≡ Some entries) (sound : AreSound entries)
+    (entries : List CacheEntry) (tells : cache.entries ≡ Some entries) (sound : AreSound entries)
     (it : HasLooked words (Some told) cache later) (rows : List (List Value)) (table : Table)
     (reused : IsReused (Some told) it.script (found it) rows table) where
   abbrev script : Script
@@ -262,9 +263,8 @@ module _ (laws : Laws) (words : List (List ℕ)) (told : List File) (cache later
         → HasKept (entries_kept script it.asked it.looked table) cache later → IsSound later
     left_sound held kept =
         told_sound (entries_kept script it.asked it.looked table) entries sound (all_right held)
-        later.told
-        (subst (λ (o : Option (List CacheEntry)).
-        WhereTold o later.told
+        later.entries (subst (λ (o : Option (List CacheEntry)).
+        WhereTold o later.entries
         (λ old new. WereKept old (entries_kept script it.asked it.looked table) new)) tells
         kept.some)
 
@@ -283,7 +283,7 @@ pub meant_for : Laws → (words : List (List ℕ)) (told : Option (List File))
 meant_for laws words None cache later it rows table some sound reused =
     absurd (true≢false (sym some))
 meant_for laws words (Some files) cache later it rows table some sound reused =
-    let own = told_entries cache.told sound in
+    let own = told_entries cache.entries sound in
     as_meant laws words files cache later own.0 own.1 own.2 it rows table reused
 
 pub sound_for : Laws → ((one other : Keyed) → key one ≡ key other → IsSameFor one other)
@@ -301,6 +301,6 @@ sound_for laws key_law clean_law words None cache later it rows table some sound
     absurd (true≢false (sym some))
 sound_for laws key_law clean_law words (Some files) cache later it rows table some sound reused none
     held kept =
-    let own = told_entries cache.told sound in
+    let own = told_entries cache.entries sound in
     left_sound laws words files cache later own.0 own.1 own.2 it rows table reused none key_law
     clean_law held kept

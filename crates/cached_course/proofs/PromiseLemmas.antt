@@ -3,6 +3,7 @@ use Rattle.std.proofs.Common.{◌≡◌, ◌≤◌, ◌⊎◌, inl, inr, ℕ, fa
 use Rattle.std.specs.Prelude.{IsSome, IsSomeAnd}
 use Rattle.std.specs.List.{AllByRecursion}
 use Rattle.cache_store.specs.declared.entry.CacheEntry.{CacheEntry}
+use Rattle.cache_store.specs.Seen.{SeenCache}
 use Rattle.command_words.specs.declared.words.Command.{Command}
 use Rattle.command_words.specs.declared.words.Command.TheVariants.{Run}
 use Rattle.flume_value.specs.Ranges.{IsHeld}
@@ -12,7 +13,7 @@ use Rattle.kept_results.specs.of_direct_meaning.Inputs.{inputs_of}
 use Rattle.outside.proofs.AskLemmas.{asks_none}
 use Rattle.outside.specs.Asked.{Asks}
 use Rattle.outside.specs.Cause.{RoseBy}
-use Rattle.outside.specs.Seen.{Seen}
+use Rattle.outside.specs.Seen.{SeenSource}
 use Rattle.outside.specs.declared.file.File.{File as NamedBytes}
 use Rattle.outside.specs.declared.host.Phase.{Phase}
 use Rattle.plan_phases.specs.Phases.{with_tasks}
@@ -22,7 +23,7 @@ use Rattle.run_course.specs.Asked.{tries_of}
 use Rattle.run_course.specs.Asks.{AsksFor}
 use Rattle.run_course.specs.Lent.{lent}
 use Rattle.run_course.specs.Promises.{EndsWith, IsEnded, IsUnlessFailed}
-use Rattle.run_course.specs.World.{Keeps, World, asks}
+use Rattle.run_course.specs.World.{Keeps, World}
 use Rattle.run_course.specs.Written.{Table}
 use Rattle.run_course.specs.of_script_loading.Loads.{AllHaveRows}
 use Rattle.run_course.specs.of_script_run.Runs.{phases_of}
@@ -37,7 +38,7 @@ use Rattle.run_texts.specs.declared.status.Place.TheVariants.{File, Screen}
 use Rattle.run_texts.specs.declared.status.Status.{Status}
 use Rattle.run_texts.specs.declared.status.Status.TheVariants.{Done, GaveUp, Usage, ScriptRefused, InputRefused, Trap, ReadFault, WriteFault, WantOfMemory, TooLong, NoFile, PlanRefused}
 use Rattle.script_program.specs.Script.{Script}
-use Rattle.cached_course.specs.Answers.{Answers, AsksHosts, HasLooked, IsGaveUp, IsKept, SeenCache, WasReused, found, lists_run, script_run}
+use Rattle.cached_course.specs.Answers.{Answers, AsksHosts, HasLooked, IsGaveUp, IsKept, WasReused, found, lists_run, script_run}
 use Rattle.cached_course.specs.Kept.{HasKept, entries_kept, value_kept}
 use Rattle.cached_course.specs.Looked.{not_found}
 use Rattle.cached_course.specs.Promises.{CanRun, Ends, IsAsMeant, Promises}
@@ -69,7 +70,7 @@ settings_of s t same = cc
 
 module _ (words : List (List ℕ)) (before after : World) (cache later : SeenCache) where
   abbrev told : Option (List NamedBytes)
-  told = before.source.told
+  told = before.source.files
 
   abbrev Says : Status → Type 0
   Says status = Answers words before after cache later status
@@ -283,7 +284,7 @@ module _ (words : List (List ℕ)) (before after : World) (cache later : SeenCac
         law words told cache later was.it was.writes.rows was.table tells is through.meant
         through.through kept.held kept.has
 
-    same_sound : later.told ≡ cache.told → IsSound later
+    same_sound : later.entries ≡ cache.entries → IsSound later
     same_sound same = subst (λ (o : Option (List CacheEntry)). IsSomeAnd o AreSound) (sym same) is
 
     sound : (status : Status) → Says status → IsSound later
@@ -304,9 +305,9 @@ module _ (words : List (List ℕ)) (before after : World) (cache later : SeenCac
   -- ---- all of it
 
   pub promises : MeantLaw → SoundLaw → (status : Status) → Says status → Keeps before after
-      → AsksFor words told (asks before) (asks after) status
+      → AsksFor words before.source after.source status
       → AsksHosts words told before.hosts after.hosts cache later status
-      → is_some later.told ≡ is_some cache.told → cache.faults ≤ later.faults
+      → is_some later.entries ≡ is_some cache.entries → cache.faults ≤ later.faults
       → Promises words before after cache later status
   promises meant_law sound_law status answers kept asked hosts tells rises = record {
     answers = answers;
@@ -335,11 +336,10 @@ module _ (words : List (List ℕ)) (before after : World) (cache later : SeenCac
 -- no memory was found, and nothing was asked for
 pub of_memory : MeantLaw → SoundLaw → (words : List (List ℕ)) (before after : World)
     (cache : SeenCache) → IsRefused WantOfMemory before after → Keeps before after
-    → asks after ≡ asks before → after.hosts ≡ before.hosts
+    → after.source ≡ before.source → after.hosts ≡ before.hosts
     → Promises words before after cache cache WantOfMemory
 of_memory meant_law sound_law words before after cache refused kept same hosts =
     promises words before after cache cache meant_law sound_law WantOfMemory
     (record { cause = tt; refused = refused; entries = refl }) kept
-    (inl (subst (λ (it : Seen (List (List ℕ))). Asks 0 [] (asks before) it) (sym same)
-    (asks_none 0 (asks before))))
-    (inl (sym hosts)) refl (omega arith)
+    (inl (subst (λ (it : SeenSource). Asks 0 [] before.source it) (sym same)
+    (asks_none 0 before.source))) (inl (sym hosts)) refl (omega arith)

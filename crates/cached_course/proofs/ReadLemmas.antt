@@ -1,5 +1,6 @@
 -- How far a call came that has looked for what was kept, in the words of the run without a cache.
 use Rattle.std.proofs.Common.{ℕ, List, Option, None}
+use Rattle.cache_store.specs.Seen.{SeenCache}
 use Rattle.command_words.specs.declared.words.Command.TheVariants.{Run}
 use Rattle.outside.specs.declared.file.File.{File}
 use Rattle.run_course.specs.Asked.{AskOn}
@@ -7,7 +8,7 @@ use Rattle.run_course.specs.of_script_loading.Accepted.{Accepted}
 use Rattle.script_keys.specs.declared.outline.Outline.{Outline}
 use Rattle.script_program.specs.Script.{Script}
 use Rattle.keyed_loading.specs.Keyed.{IsKeyed}
-use Rattle.cached_course.specs.Answers.{HasLooked, SeenCache}
+use Rattle.cached_course.specs.Answers.{HasLooked}
 
 -- bytes of a keyed script are accepted as it
 pub accepted : (bytes : List ℕ) (script : Script) (outlines : List Outline) (texts : List (List ℕ))

@@ -2,7 +2,7 @@
 use Rattle.std.proofs.Common.{◌≡◌, ◌∙◌, ℕ, List, ◌++◌, map, Option, Some, sym, subst, codes}
 use Rattle.std.specs.List.{AllByRecursion as Each, AllZip}
 use Rattle.cache_store.specs.declared.entry.CacheEntry.{CacheEntry}
-use Rattle.crew.specs.Hosts.{Account}
+use Rattle.outside.specs.Accounts.{Account}
 use Rattle.exec_plan.specs.declared.plan.Plan.{Plan}
 use Rattle.flume_value.specs.Ranges.{IsHeld}
 use Rattle.flume_value.specs.declared.value.Value.{Value}
@@ -20,7 +20,7 @@ use Rattle.run_course.specs.of_script_plans.Plans.{IsScriptPlan}
 use Rattle.run_settings.specs.Settings.{RunSettings}
 use Rattle.run_texts.specs.Texts.{size_lines}
 use Rattle.script_program.specs.Script.{Script}
-use Rattle.cached_course.specs.Answers.{SeenCache}
+use Rattle.cache_store.specs.Seen.{SeenCache}
 use Rattle.cached_course.specs.Kept.{entries_kept, value_kept}
 use Rattle.cached_course.specs.Looked.{not_found}
 use Rattle.cached_course.specs.Reused.{Found, IsReused, WritesReused, known}

@@ -3,15 +3,16 @@ use Rattle.std.proofs.Common.{◌≡◌, ◌∙◌, ◌⊎◌, inl, inr, ℕ, ze
 use Rattle.std.specs.List.{AllByRecursion as Each, Contains}
 use Rattle.std.specs.Option.{option_map}
 use Rattle.cache_store.specs.declared.entry.CacheEntry.{CacheEntry}
+use Rattle.cache_store.specs.Seen.{SeenCache}
 use Rattle.command_words.specs.declared.words.Command.TheVariants.{Run}
-use Rattle.crew.specs.Hosts.{Account}
+use Rattle.outside.specs.Accounts.{Account}
 use Rattle.exec_plan.specs.declared.plan.Plan.{Plan}
 use Rattle.flume_value.specs.declared.value.Value.{Value}
 use Rattle.kept_results.specs.of_direct_meaning.Direct.{meaning}
 use Rattle.kept_results.specs.of_direct_meaning.Inputs.{inputs_of}
 use Rattle.kept_results.proofs.FoundLemmas.{IsRead, firsts}
 use Rattle.kept_results.proofs.ListLemmas.{numbers_of}
-use Rattle.outside.specs.Seen.{Seen}
+use Rattle.outside.specs.Seen.{SeenSource}
 use Rattle.outside.specs.declared.file.File.{File}
 use Rattle.outside.specs.declared.host.Phase.{Phase}
 use Rattle.plan_phases.specs.Told.{IsGivenUp}
@@ -34,7 +35,7 @@ use Rattle.script_program.specs.Needed.{has}
 use Rattle.script_program.specs.Saved.{saved_from, saved_node}
 use Rattle.script_program.specs.Script.{Node, Script}
 use Rattle.written_types.specs.Named.{Named}
-use Rattle.cached_course.specs.Answers.{AsksRun, HasLooked, SeenCache}
+use Rattle.cached_course.specs.Answers.{AsksRun, HasLooked}
 use Rattle.cached_course.specs.Looked.{AreAsked}
 use Rattle.cached_course.specs.declared.saving.Given.{Given}
 use Rattle.cached_course.specs.inner.Course.{AsksPhases, GivesUp, IsPrepared, IsRunning, IsStop, StopsRun, Traps, WasGiven, WasRun}
@@ -57,14 +58,14 @@ names_from found k (entry ∷ nodes) (suc n) = names_from found (suc k) nodes n
 
 -- ---- what it comes to
 
-module _ (words : List (List ℕ)) (before after : Seen (List File)) (olds news : List Account)
+module _ (words : List (List ℕ)) (before after : SeenSource) (olds news : List Account)
     (cache later : SeenCache) (s : RunSettings) (name : List ℕ) (script : Script)
     (asked : List (ℕ × List ℕ)) (asks : AskFor words (Run s None) name)
-    (of_script : AreAsked before.told name script asked) (rows : List (List Value))
-    (have : AllHaveRows before.told (inputs_of script) rows) (given : Given)
+    (of_script : AreAsked before.files name script asked) (rows : List (List Value))
+    (have : AllHaveRows before.files (inputs_of script) rows) (given : Given)
     (is : WasGiven script asked rows cache later given) where
   -- how far the call came
-  abbrev pub it_here : HasLooked words before.told cache later
+  abbrev pub it_here : HasLooked words before.files cache later
   it_here = record {
     settings = s;
     name = name;
@@ -77,10 +78,10 @@ module _ (words : List (List ℕ)) (before after : Seen (List File)) (olds news 
   }
 
   abbrev later_here : Script
-  later_here = script_here before.told script asked rows cache later given is
+  later_here = script_here before.files script asked rows cache later given is
 
   abbrev given_here : List (List Value)
-  given_here = lists_here before.told script asked rows cache later given is
+  given_here = lists_here before.files script asked rows cache later given is
 
   running : (table : Table) (plan : Plan)
       → meaning given.program.script given.lists ≡ Some table
@@ -91,8 +92,8 @@ module _ (words : List (List ℕ)) (before after : Seen (List File)) (olds news 
     rows = rows;
     table = table;
     plan = plan;
-    meant = reused before.told script asked rows cache later given is table have means;
-    planned = planned_here before.told script asked rows cache later given is plan planned;
+    meant = reused before.files script asked rows cache later given is table have means;
+    planned = planned_here before.files script asked rows cache later given is plan planned;
   }
 
   -- it writes and keeps
@@ -104,15 +105,15 @@ module _ (words : List (List ℕ)) (before after : Seen (List File)) (olds news 
 
   pub prepared : (files : List File) (text : List ℕ) (kept : List CacheEntry)
       → WasRun s given (lent s olds) (lent s news) files text kept
-      → IsPrepared words before.told olds news cache later files text kept
+      → IsPrepared words before.files olds news cache later files text kept
   prepared files text kept run = record {
     it = it_here;
     table = run.table;
-    writes = writes_here before.told script asked rows cache later given is s olds news files text
+    writes = writes_here before.files script asked rows cache later given is s olds news files text
         kept have run;
-    keeps = keeps_here before.told script asked rows cache later given is s (lent s olds)
+    keeps = keeps_here before.files script asked rows cache later given is s (lent s olds)
         (lent s news) files text kept read_here run;
-    held = held_here before.told script asked rows cache later given is s (lent s olds)
+    held = held_here before.files script asked rows cache later given is s (lent s olds)
         (lent s news) files text kept read_here run;
   }
 
@@ -165,7 +166,7 @@ module _ (words : List (List ℕ)) (before after : Seen (List File)) (olds news 
         (λ (x : Script).
         IsFirstOfPlan s x given.lists plan (lent s olds) (lent s news) trap.trap) is.program
         at.told.1),
-    sym (names_from (numbers_of (found_here before.told script asked rows cache later given is)) 0
+    sym (names_from (numbers_of (found_here before.files script asked rows cache later given is)) 0
         script.nodes trap.trap.origin)
         ∙ (λ i. name_at (sym is.program i) trap.trap.origin) ∙ at.named,
   )
@@ -180,13 +181,13 @@ module _ (words : List (List ℕ)) (before after : Seen (List File)) (olds news 
   -- what hosts were asked for
   pub asks_here : AsksPhases s given (lent s olds) (lent s news)
       → drop s.workers news ≡ drop s.workers olds
-      → AsksRun words before.told olds news cache later
+      → AsksRun words before.files olds news cache later
   asks_here phases others = record {
     it = it_here;
     rows = rows;
     plan = phases.0;
     inputs = have;
-    planned = planned_here before.told script asked rows cache later given is phases.0 phases.1;
+    planned = planned_here before.files script asked rows cache later given is phases.0 phases.1;
     sources = phases.2 ∙ ap length is.lists;
     asked = subst
         (λ (l : List (List Value)).

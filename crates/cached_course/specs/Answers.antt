@@ -2,10 +2,10 @@
 -- are those of the run without a cache.
 use Rattle.std.specs.Prelude.{◌≡◌, ◌⊎◌, ℕ, List, Option, Some, None, drop, length}
 use Rattle.std.specs.List.{AllByRecursion, Contains}
+use Rattle.cache_store.specs.Seen.{SeenCache}
 use Rattle.run_course.specs.of_build_law.Worlds.{script_world}
-use Rattle.cache_store.specs.declared.entry.CacheEntry.{CacheEntry}
 use Rattle.command_words.specs.declared.words.Command.TheVariants.{Run}
-use Rattle.crew.specs.Hosts.{Account}
+use Rattle.outside.specs.Accounts.{Account}
 use Rattle.kept_results.specs.of_direct_meaning.Direct.{traps_of}
 use Rattle.exec_plan.specs.declared.plan.Plan.{Plan}
 use Rattle.flume_value.specs.declared.fault.Kind.{Kind}
@@ -14,7 +14,6 @@ use Rattle.flume_value.specs.declared.value.Value.{Value}
 use Rattle.kept_results.specs.Lists.{found_of, given_to, later_of}
 use Rattle.outside.specs.Saves.{HasFiles}
 use Rattle.outside.specs.Says.{HasLine}
-use Rattle.outside.specs.Seen.{Seen}
 use Rattle.outside.specs.declared.file.File.{File as NamedBytes}
 use Rattle.outside.specs.declared.host.Phase.{Phase}
 use Rattle.plan_phases.specs.Told.{IsGivenUp}
@@ -38,10 +37,6 @@ use Rattle.kept_results.specs.of_direct_meaning.Inputs.{inputs_of}
 use Rattle.cached_course.specs.Kept.{HasKept, entries_kept, value_kept}
 use Rattle.cached_course.specs.Looked.{AreAsked, WereLooked, not_found}
 use Rattle.cached_course.specs.Reused.{Found, IsReused, WritesReused}
-
--- what a cache tells, and how often it has failed
-abbrev pub SeenCache : Type 0
-SeenCache = Seen (List CacheEntry)
 
 -- How far the call came: its words ask for a run of a script, of whose collections that are asked
 -- for this was found.
@@ -73,9 +68,9 @@ module _ {words : List (List ℕ)} {told : Option (List NamedBytes)} {cache late
 -- the call came to its writing, with these files and this text
 pub record WasReused (words : List (List ℕ)) (before after : World) (cache later : SeenCache)
     (files : List NamedBytes) (text : List ℕ) : Type 0 where
-  pub it : HasLooked words before.source.told cache later
+  pub it : HasLooked words before.source.files cache later
   pub table : Table
-  pub writes : WritesReused it.settings before.source.told before.hosts after.hosts it.script
+  pub writes : WritesReused it.settings before.source.files before.hosts after.hosts it.script
       (found it) files text table
 
 module _ (words : List (List ℕ)) (before after : World) (cache later : SeenCache) where
@@ -102,7 +97,7 @@ module _ (words : List (List ℕ)) (before after : World) (cache later : SeenCac
   IsFileFault name =
       (files : List NamedBytes) × (text : List ℕ)
       × WasReused words before after cache later files text
-      × FailsAtFile name files before.shelf after.shelf × (later.told ≡ cache.told)
+      × FailsAtFile name files before.shelf after.shelf × (later.entries ≡ cache.entries)
       × HasLine (line_of (WriteFault (File name))) before.screen after.screen
 
   -- WriteFault of the screen: it failed in its text, behind the files and what was kept
@@ -117,12 +112,12 @@ module _ (words : List (List ℕ)) (before after : World) (cache later : SeenCac
 
   -- Trap: it is the first of the tasks of the plan that is run, and of the meaning of what is run
   pub record IsTrap (origin : ℕ) (kind : Kind) (element : Value) : Type 0 where
-    pub it : HasLooked words before.source.told cache later
+    pub it : HasLooked words before.source.files cache later
     pub rows : List (List Value)
     pub table : Table
     pub plan : Plan
     pub name : List ℕ
-    pub meant : IsReused before.source.told it.script (found it) rows table
+    pub meant : IsReused before.source.files it.script (found it) rows table
     pub trap : Contains (traps_of table)
         (record { origin = origin; element = element; kind = kind })
     pub planned : IsScriptPlan (script_run it) plan
@@ -132,28 +127,28 @@ module _ (words : List (List ℕ)) (before after : World) (cache later : SeenCac
     pub named : name_at it.script origin ≡ Some name
     pub shelf : after.shelf ≡ before.shelf
     pub line : HasLine (trap_line name kind element) before.screen after.screen
-    pub entries : later.told ≡ cache.told
+    pub entries : later.entries ≡ cache.entries
 
   -- GaveUp: of this task of the plan that is run no attempt has won
   pub record IsGaveUp (stage : ℕ) (phase : Phase) (task : ℕ) : Type 0 where
-    pub it : HasLooked words before.source.told cache later
+    pub it : HasLooked words before.source.files cache later
     pub rows : List (List Value)
     pub table : Table
     pub plan : Plan
-    pub meant : IsReused before.source.told it.script (found it) rows table
+    pub meant : IsReused before.source.files it.script (found it) rows table
     pub planned : IsScriptPlan (script_run it) plan
     pub given_up : IsGivenUp it.settings.tries it.settings.drill
         (script_world (script_run it) (lists_run it rows))
         (phases_of it.settings (script_run it) (lists_run it rows) plan)
         (lent it.settings before.hosts) (lent it.settings after.hosts) stage phase task
     pub refused : IsRefused (GaveUp stage phase task) before after
-    pub entries : later.told ≡ cache.told
+    pub entries : later.entries ≡ cache.entries
 
   -- a refusal before anything is looked for: its cause is that of the run without a cache
   pub record IsStopped (status : Status) : Type 0 where
     pub cause : IsCause words before.source after.source before.hosts after.hosts status
     pub refused : IsRefused status before after
-    pub entries : later.told ≡ cache.told
+    pub entries : later.entries ≡ cache.entries
 
   -- what each answer says
   abbrev pub Answers : Status → Type 0

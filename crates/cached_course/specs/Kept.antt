@@ -2,6 +2,7 @@
 use Rattle.std.specs.Prelude.{◌≡◌, ℕ, List, Option, map}
 use Rattle.cache_store.specs.Entries.{with_entries}
 use Rattle.cache_store.specs.declared.entry.CacheEntry.{CacheEntry}
+use Rattle.cache_store.specs.Seen.{SeenCache}
 use Rattle.kept_results.specs.of_direct_meaning.Direct.{made_at}
 use Rattle.flume_value.specs.Canonical.{canonical}
 use Rattle.flume_value.specs.declared.value.Value.{Value}
@@ -9,7 +10,6 @@ use Rattle.kept_results.specs.Keeping.{WereKept}
 use Rattle.kept_results.specs.Lists.{found_of}
 use Rattle.kept_results.specs.Sizes.{rested_nodes, to_keep}
 use Rattle.outside.specs.Cause.{Rose}
-use Rattle.outside.specs.Seen.{Seen}
 use Rattle.outside.specs.Told.{WhereTold}
 use Rattle.run_course.specs.Written.{Table}
 use Rattle.kept_results.specs.of_saved_meaning.Found.{members_of}
@@ -39,7 +39,7 @@ entries_kept script asked looked table =
     (not_found asked looked)
 
 -- The cache has its entries with these, one after the other; where it failed, with some of them.
-pub record HasKept (kept : List CacheEntry) (before after : Seen (List CacheEntry)) : Type 0 where
-  pub some : WhereTold before.told after.told (λ old new. WereKept old kept new)
+pub record HasKept (kept : List CacheEntry) (before after : SeenCache) : Type 0 where
+  pub some : WhereTold before.entries after.entries (λ old new. WereKept old kept new)
   pub all : (Rose before.faults after.faults → ⊥) →
-      WhereTold before.told after.told (λ old new. new ≡ with_entries old kept)
+      WhereTold before.entries after.entries (λ old new. new ≡ with_entries old kept)

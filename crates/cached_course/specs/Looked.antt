@@ -1,7 +1,7 @@
 -- What a run looks for in a cache, and what it finds.
 use Rattle.std.specs.Prelude.{◌≡◌, ◌++◌, ℕ, List, [], ◌∷◌, Option, Some, None, IfSome}
 use Rattle.std.specs.List.{AllByRecursion}
-use Rattle.cache_store.specs.declared.entry.CacheEntry.{CacheEntry}
+use Rattle.cache_store.specs.Seen.{SeenCache}
 use Rattle.key_meaning.specs.Keyed.{IsShort}
 use Rattle.kept_results.specs.of_direct_meaning.Inputs.{inputs_of}
 use Rattle.kept_results.specs.Keyed.{keyed_nodes}
@@ -9,7 +9,6 @@ use Rattle.kept_results.specs.Kept.{AreFound, AreKept, FindsEach}
 use Rattle.keyed_loading.specs.Files.{AreFilesOf}
 use Rattle.keyed_loading.specs.Keyed.{LoadsKeyed}
 use Rattle.outside.specs.Cause.{Rose}
-use Rattle.outside.specs.Seen.{Seen}
 use Rattle.outside.specs.declared.file.File.{File}
 use Rattle.saved_results.specs.declared.saved.Saved.{Saved}
 use Rattle.script_keys.specs.declared.outline.Outline.{Outline}
@@ -32,10 +31,10 @@ pub record AreAsked (told : Option (List File)) (name : List ℕ) (script : Scri
 -- What was found of each: nothing but what may be kept of it and stands under its key; and just
 -- that, where the cache did not fail.
 pub record WereLooked (script : Script) (asked : List (ℕ × List ℕ)) (looked : List (Option Saved))
-    (before after : Seen (List CacheEntry)) : Type 0 where
+    (before after : SeenCache) : Type 0 where
   pub kept : AreKept script asked looked
-  pub found : IfSome before.told (λ entries. AreFound script entries asked looked)
-  pub finds : IfSome before.told (λ entries. (Rose before.faults after.faults → ⊥) →
+  pub found : IfSome before.entries (λ entries. AreFound script entries asked looked)
+  pub finds : IfSome before.entries (λ entries. (Rose before.faults after.faults → ⊥) →
       FindsEach script entries asked looked)
 
 -- one that is asked for, where nothing was found of it

@@ -1,6 +1,7 @@
 -- What a run promises that reuses what was kept. The words are those of the run without a cache.
 use Rattle.std.specs.Prelude.{◌≡◌, ◌≤◌, ◌⊎◌, ℕ, false, List, Option, None, [], IsSome, is_some}
 use Rattle.std.specs.List.{Contains}
+use Rattle.cache_store.specs.Seen.{SeenCache}
 use Rattle.csv_rows.specs.declared.fault.RowKind.{RowKind}
 use Rattle.command_words.specs.declared.words.Command.TheVariants.{Run}
 use Rattle.kept_results.specs.of_direct_meaning.Direct.{sizes_of, traps_of}
@@ -18,7 +19,7 @@ use Rattle.run_course.specs.Asked.{AskOn}
 use Rattle.run_course.specs.Asks.{AsksFor}
 use Rattle.run_course.specs.Lent.{lent}
 use Rattle.run_course.specs.Promises.{EndsWith, IsEnded, IsUnlessFailed}
-use Rattle.run_course.specs.World.{Keeps, World, asks}
+use Rattle.run_course.specs.World.{Keeps, World}
 use Rattle.run_course.specs.Written.{IsMeant, Table, files_of}
 use Rattle.run_settings.specs.Settings.{RunSettings}
 use Rattle.run_texts.specs.declared.status.Status.{Status}
@@ -27,7 +28,7 @@ use Rattle.run_course.specs.of_script_loading.Loads.{AllHaveRows}
 use Rattle.run_course.specs.of_script_plans.Plans.{IsScriptPlan}
 use Rattle.script_program.specs.Script.{Script}
 use Rattle.run_course.specs.of_script_run.Runs.{phases_of}
-use Rattle.cached_course.specs.Answers.{Answers, AsksHosts, HasLooked, SeenCache, found, lists_run, script_run}
+use Rattle.cached_course.specs.Answers.{Answers, AsksHosts, HasLooked, found, lists_run, script_run}
 use Rattle.cached_course.specs.Reused.{Found, IsReused, all_sizes}
 use Rattle.cached_course.specs.Sound.{IsSound}
 
@@ -51,13 +52,13 @@ pub record IsAsMeant (told : Option (List File)) (script : Script) (found : Foun
 -- the shelf nor the screen fails, and its hosts can end its tasks, whatever is found.
 pub record CanRun (words : List (List ℕ)) (before after : World) (cache later : SeenCache)
     (s : RunSettings) (script : Script) (rows : List (List Value)) : Type 0 where
-  pub told : IsSome before.source.told
-  pub reads : AskOn words before.source.told (Run s None) script
-  pub inputs : AllHaveRows before.source.told (inputs_of script) rows
+  pub told : IsSome before.source.files
+  pub reads : AskOn words before.source.files (Run s None) script
+  pub inputs : AllHaveRows before.source.files (inputs_of script) rows
   pub source : RoseBy s.tries before.source.faults after.source.faults → ⊥
   pub shelf : Rose before.shelf.faults after.shelf.faults → ⊥
   pub screen : Rose before.screen.faults after.screen.faults → ⊥
-  pub hosts : (it : HasLooked words before.source.told cache later) (plan : Plan)
+  pub hosts : (it : HasLooked words before.source.files cache later) (plan : Plan)
       → IsScriptPlan (script_run it) plan
       → CanFinishAll s.tries s.drill
       (with_tasks (phases_of s (script_run it) (lists_run it rows) plan)) (lent s before.hosts)
@@ -66,9 +67,9 @@ pub record CanRun (words : List (List ℕ)) (before after : World) (cache later 
 -- the run came to its end by the meaning of what it ran
 pub record Ends (words : List (List ℕ)) (before : World) (cache later : SeenCache)
     (rows : List (List Value)) (status : Status) : Type 0 where
-  pub it : HasLooked words before.source.told cache later
+  pub it : HasLooked words before.source.files cache later
   pub table : Table
-  pub meant : IsReused before.source.told it.script (found it) rows table
+  pub meant : IsReused before.source.files it.script (found it) rows table
   pub ends : EndsWith (traps_of table) status
 
 -- ---- the promises
@@ -80,16 +81,16 @@ pub record Promises (words : List (List ℕ)) (before after : World) (cache late
   -- what each answer says: what was written and kept, or why not
   pub answers : Answers words before after cache later status
   -- what the source was asked for, as without a cache; and what hosts were asked for
-  pub asked : AsksFor words before.source.told (asks before) (asks after) status
-  pub asked_hosts : AsksHosts words before.source.told before.hosts after.hosts cache later
+  pub asked : AsksFor words before.source after.source status
+  pub asked_hosts : AsksHosts words before.source.files before.hosts after.hosts cache later
       status
   -- these come wherever their cause stands, where files are told
-  pub always_too_long : IsSome before.source.told → (name : List ℕ) (limit : ℕ) →
+  pub always_too_long : IsSome before.source.files → (name : List ℕ) (limit : ℕ) →
       IsTooLong name limit words before.source → IsUnlessFailed (TooLong name limit) status
-  pub always_script_refused : IsSome before.source.told → (line : ℕ) (kind : ScriptKind) →
+  pub always_script_refused : IsSome before.source.files → (line : ℕ) (kind : ScriptKind) →
       IsScriptRefused line kind words before.source →
       IsUnlessFailed (ScriptRefused line kind) status
-  pub always_input_refused : IsSome before.source.told →
+  pub always_input_refused : IsSome before.source.files →
       (name : List ℕ) (row column : ℕ) (kind : RowKind) →
       IsInputRefused name row column kind words before.source →
       IsUnlessFailed (InputRefused name row column kind) status
@@ -99,15 +100,15 @@ pub record Promises (words : List (List ℕ)) (before after : World) (cache late
       (status ≡ WantOfMemory) ⊎ Ends words before cache later rows status
   -- over a sound cache whatever was found, what is run means what the script means, and the cache
   -- that is left is sound
-  pub as_meant : IsSome before.source.told → IsSound cache →
-      (it : HasLooked words before.source.told cache later) (rows : List (List Value))
-      (table : Table) → IsReused before.source.told it.script (found it) rows table →
-      IsAsMeant before.source.told it.script (found it) rows table
-  pub sound : IsSome before.source.told → IsSound cache → IsSound later
+  pub as_meant : IsSome before.source.files → IsSound cache →
+      (it : HasLooked words before.source.files cache later) (rows : List (List Value))
+      (table : Table) → IsReused before.source.files it.script (found it) rows table →
+      IsAsMeant before.source.files it.script (found it) rows table
+  pub sound : IsSome before.source.files → IsSound cache → IsSound later
   -- the source tells what it told, the cache tells where it told, no count of failures falls, and
   -- what hosts tell only grows
   pub kept : Keeps before after
-  pub tells : is_some later.told ≡ is_some cache.told
+  pub tells : is_some later.entries ≡ is_some cache.entries
   pub rises : cache.faults ≤ later.faults
   -- no file is left begun
   pub ended : before.shelf.begun ≡ false → IsEnded status after.shelf

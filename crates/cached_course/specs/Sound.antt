@@ -2,6 +2,7 @@
 use Rattle.std.specs.Prelude.{◌≡◌, ℕ, List, [], IfSome, IsSomeAnd, Some, map}
 use Rattle.cache_store.specs.Entries.{found_in}
 use Rattle.cache_store.specs.declared.entry.CacheEntry.{CacheEntry}
+use Rattle.cache_store.specs.Seen.{SeenCache}
 use Rattle.kept_results.specs.of_direct_meaning.Direct.{made_at}
 use Rattle.flume_collection.specs.Collection.{Collection}
 use Rattle.flume_value.specs.Canonical.{canonical}
@@ -9,7 +10,6 @@ use Rattle.flume_value.specs.Ranges.{IsHeld}
 use Rattle.flume_value.specs.declared.value.Value.{Value}
 use Rattle.key_meaning.specs.Keyed.{Keyed, key}
 use Rattle.key_meaning.specs.Rested.{rested_sizes}
-use Rattle.outside.specs.Seen.{Seen}
 use Rattle.saved_results.specs.Saved.{saved_value}
 use Rattle.saved_results.specs.declared.saved.Saved.{Saved}
 use Rattle.saved_results.specs.declared.saved.Size.{Size}
@@ -43,5 +43,5 @@ abbrev pub AreSound : List CacheEntry → Type 0
 AreSound entries = (it : Keyed) → IfSome (found_in entries (key it)) (IsValueOf it)
 
 -- the cache tells its entries, and they are sound
-abbrev pub IsSound : Seen (List CacheEntry) → Type 0
-IsSound cache = IsSomeAnd cache.told AreSound
+abbrev pub IsSound : SeenCache → Type 0
+IsSound cache = IsSomeAnd cache.entries AreSound

@@ -3,9 +3,7 @@
 ghost use Rattle.std.specs.Prelude.{◌≡◌, ◌≤◌, ◌<◌, List, None, Some, ℕ, drop, is_some, length, map, slice_get};
 ghost use Rattle.std.specs.Option.{option_map};
 ghost use Rattle.command_words.specs.declared.words.Command.TheVariants.{Run};
-ghost use Rattle.crew.specs.Hosts.{account};
 ghost use Rattle.outside.specs.Saves.{output_file};
-ghost use Rattle.outside.specs.Seen.{seen, seen_shelf};
 ghost use Rattle.run_course.specs.Asked.{AskFor};
 ghost use Rattle.run_course.specs.Asks.{AsksFor};
 ghost use Rattle.run_course.specs.World.{Keeps, world};
@@ -40,15 +38,11 @@ pub fn run_cached<X: Threads + Sync, R: Source, H: Host + Send, K: Shelf, P: Scr
     cache: &mut C,
 ) -> Status
     requires { length hosts.old ≡ 16 }
-    ensures promises { (words : List (List ℕ)) →
-        AskFor words (Run settings.now None) name.now → Promises words
-        (world (seen R.files R.faults source.old) (R.asked source.old)
-        (seen_shelf K.files K.begun K.left K.faults shelf.old) (seen P.text P.faults screen.old)
-        (map (account H.notes H.losses) hosts.old))
-        (world (seen R.files R.faults source.new) (R.asked source.new)
-        (seen_shelf K.files K.begun K.left K.faults shelf.new) (seen P.text P.faults screen.new)
-        (map (account H.notes H.losses) hosts.new))
-        (seen C.entries C.faults cache.old) (seen C.entries C.faults cache.new) result }
+    ensures promises { (words : List (List ℕ)) → AskFor words (Run settings.now None) name.now →
+        Promises words
+        (world (R.seen source.old) (K.seen shelf.old) (P.seen screen.old) (map H.account hosts.old))
+        (world (R.seen source.new) (K.seen shelf.new) (P.seen screen.new) (map H.account hosts.new))
+        (C.seen cache.old) (C.seen cache.new) result }
     ensures hosts { drop settings.now.workers hosts.new ≡ drop settings.now.workers hosts.old }
 {
     meant_law();
@@ -71,32 +65,22 @@ fn answer<X: Threads + Sync, R: Source, H: Host + Send, K: Shelf, P: Screen, C: 
     cache: &mut C,
 ) -> Status
     requires { length hosts.old ≡ 16 }
-    ensures answers { (words : List (List ℕ)) →
-        AskFor words (Run settings.now None) name.now → Answers words
-        (world (seen R.files R.faults source.old) (R.asked source.old)
-        (seen_shelf K.files K.begun K.left K.faults shelf.old) (seen P.text P.faults screen.old)
-        (map (account H.notes H.losses) hosts.old))
-        (world (seen R.files R.faults source.new) (R.asked source.new)
-        (seen_shelf K.files K.begun K.left K.faults shelf.new) (seen P.text P.faults screen.new)
-        (map (account H.notes H.losses) hosts.new))
-        (seen C.entries C.faults cache.old) (seen C.entries C.faults cache.new) result }
+    ensures answers { (words : List (List ℕ)) → AskFor words (Run settings.now None) name.now →
+        Answers words
+        (world (R.seen source.old) (K.seen shelf.old) (P.seen screen.old) (map H.account hosts.old))
+        (world (R.seen source.new) (K.seen shelf.new) (P.seen screen.new) (map H.account hosts.new))
+        (C.seen cache.old) (C.seen cache.new) result }
     ensures kept { Keeps
-        (world (seen R.files R.faults source.old) (R.asked source.old)
-        (seen_shelf K.files K.begun K.left K.faults shelf.old) (seen P.text P.faults screen.old)
-        (map (account H.notes H.losses) hosts.old))
-        (world (seen R.files R.faults source.new) (R.asked source.new)
-        (seen_shelf K.files K.begun K.left K.faults shelf.new) (seen P.text P.faults screen.new)
-        (map (account H.notes H.losses) hosts.new)) }
+        (world (R.seen source.old) (K.seen shelf.old) (P.seen screen.old) (map H.account hosts.old))
+        (world (R.seen source.new) (K.seen shelf.new) (P.seen screen.new)
+        (map H.account hosts.new)) }
     ensures asked { (words : List (List ℕ)) → AskFor words (Run settings.now None) name.now →
-        AsksFor words (R.files source.old) (seen R.asked R.faults source.old)
-        (seen R.asked R.faults source.new) result }
-    ensures asked_hosts { (words : List (List ℕ)) →
-        AskFor words (Run settings.now None) name.now →
-        AsksHosts words (R.files source.old) (map (account H.notes H.losses) hosts.old)
-        (map (account H.notes H.losses) hosts.new) (seen C.entries C.faults cache.old)
-        (seen C.entries C.faults cache.new) result }
-    ensures tells { is_some (C.entries cache.new) ≡ is_some (C.entries cache.old) }
-    ensures rises { C.faults cache.old ≤ C.faults cache.new }
+        AsksFor words (R.seen source.old) (R.seen source.new) result }
+    ensures asked_hosts { (words : List (List ℕ)) → AskFor words (Run settings.now None) name.now →
+        AsksHosts words (R.seen source.old).files (map H.account hosts.old)
+        (map H.account hosts.new) (C.seen cache.old) (C.seen cache.new) result }
+    ensures tells { is_some (C.seen cache.new).entries ≡ is_some (C.seen cache.old).entries }
+    ensures rises { (C.seen cache.old).faults ≤ (C.seen cache.new).faults }
     ensures hosts { drop settings.now.workers hosts.new ≡ drop settings.now.workers hosts.old }
 {
     match prepare(rt, alloc, settings, name, source, hosts, cache) {
@@ -126,15 +110,12 @@ fn deliver<K: Shelf, P: Screen, C: Cache>(
     cache: &mut C,
 ) -> Status
     ensures delivered { DeliversKept (map output_file reused.written.outputs.items)
-        reused.written.screen.items reused.kept.items
-        (seen_shelf K.files K.begun K.left K.faults shelf.old)
-        (seen_shelf K.files K.begun K.left K.faults shelf.new)
-        (seen P.text P.faults screen.old) (seen P.text P.faults screen.new)
-        (seen C.entries C.faults cache.old) (seen C.entries C.faults cache.new) result }
-    ensures shelf { K.faults shelf.old ≤ K.faults shelf.new }
-    ensures screen { P.faults screen.old ≤ P.faults screen.new }
-    ensures cache { C.faults cache.old ≤ C.faults cache.new }
-    ensures tells { is_some (C.entries cache.new) ≡ is_some (C.entries cache.old) }
+        reused.written.screen.items reused.kept.items (K.seen shelf.old) (K.seen shelf.new)
+        (P.seen screen.old) (P.seen screen.new) (C.seen cache.old) (C.seen cache.new) result }
+    ensures shelf { (K.seen shelf.old).faults ≤ (K.seen shelf.new).faults }
+    ensures screen { (P.seen screen.old).faults ≤ (P.seen screen.new).faults }
+    ensures cache { (C.seen cache.old).faults ≤ (C.seen cache.new).faults }
+    ensures tells { is_some (C.seen cache.new).entries ≡ is_some (C.seen cache.old).entries }
 {
     let Reused { written, kept } = reused;
     if let Err(place) = save_all(shelf, &written.outputs) {
@@ -155,10 +136,9 @@ fn deliver<K: Shelf, P: Screen, C: Cache>(
 
 // Keeps these one after the other, as far as the cache takes them.
 fn keep_behind<C: Cache>(kept: &[CacheEntry], cache: &mut C)
-    ensures kept { HasKept kept.now (seen C.entries C.faults cache.old)
-        (seen C.entries C.faults cache.new) }
-    ensures later { C.faults cache.old ≤ C.faults cache.new }
-    ensures tells { is_some (C.entries cache.new) ≡ is_some (C.entries cache.old) }
+    ensures kept { HasKept kept.now (C.seen cache.old) (C.seen cache.new) }
+    ensures later { (C.seen cache.old).faults ≤ (C.seen cache.new).faults }
+    ensures tells { is_some (C.seen cache.new).entries ≡ is_some (C.seen cache.old).entries }
 {
     keep_each(kept, cache);
 }

@@ -6,7 +6,7 @@ ghost use Rattle.flume_value.specs.declared.value.Value.{Value};
 ghost use Rattle.kept_results.specs.of_direct_meaning.Direct.{traps_of};
 ghost use Rattle.outside.specs.declared.file.File.{File as NamedBytes};
 ghost use Rattle.run_course.specs.Answers.{IsRefused};
-ghost use Rattle.run_course.specs.World.{Keeps, World, asks};
+ghost use Rattle.run_course.specs.World.{Keeps, World};
 ghost use Rattle.run_course.specs.Written.{Table};
 ghost use Rattle.run_texts.specs.declared.status.Status.TheVariants.{WantOfMemory};
 ghost use Rattle.cached_course.specs.Answers.{HasLooked, SeenCache, found};
@@ -55,7 +55,7 @@ pub(crate) fn sound_law()
 /// What a call promises that found no memory before it asked for anything.
 pub fn memory_law()
     ensures { (words : List (List ℕ)) (before after : World) (cache : SeenCache) →
-        IsRefused WantOfMemory before after → Keeps before after → asks after ≡ asks before →
+        IsRefused WantOfMemory before after → Keeps before after → after.source ≡ before.source →
         after.hosts ≡ before.hosts → Promises words before after cache cache WantOfMemory }
 {
     meant_law();

@@ -1,6 +1,5 @@
 // What a run looks for among what was kept, and what it has of that.
 ghost use Rattle.std.specs.Prelude.{◌≡◌, ◌≤◌, IfOk, length};
-ghost use Rattle.outside.specs.Seen.{seen};
 ghost use Rattle.kept_results.specs.Keyed as spec;
 ghost use Rattle.cached_course.specs.inner.Course.{GoesOn, WasLookedUp};
 
@@ -37,9 +36,9 @@ pub fn looked_for<C: Cache>(
     requires { length texts.now ≡ length outlines.now }
     ensures seen { IfOk result (WasLookedUp program.now.script
         (spec.keyed_nodes outlines.now texts.now files.now program.now.script)
-        (seen C.entries C.faults cache.old) (seen C.entries C.faults cache.new)) }
-    ensures entries { C.entries cache.new ≡ C.entries cache.old }
-    ensures later { C.faults cache.old ≤ C.faults cache.new }
+        (C.seen cache.old) (C.seen cache.new)) }
+    ensures entries { (C.seen cache.new).entries ≡ (C.seen cache.old).entries }
+    ensures later { (C.seen cache.old).faults ≤ (C.seen cache.new).faults }
 {
     let keyed = keyed_by(alloc, program, outlines, texts, files)?;
     let asked = keyed.as_slice();

@@ -2,10 +2,9 @@
 ghost use Rattle.std.specs.Prelude.{◌≡◌, ◌≤◌, ◌<◌, ◌⊎◌, ◌++◌, IfErr, IfOk, List, None, OnOk, codes, drop, length, map, ℕ};
 ghost use Rattle.std.specs.List.{AllByRecursion, AllZip};
 ghost use Rattle.command_words.specs.declared.words.Command.TheVariants.{Run};
-ghost use Rattle.crew.specs.Hosts.{Grew, account};
+ghost use Rattle.crew.specs.Hosts.{Grew};
 ghost use Rattle.flume_value.specs.Ranges.{IsHeld};
 ghost use Rattle.outside.specs.Saves.{output_file};
-ghost use Rattle.outside.specs.Seen.{seen};
 ghost use Rattle.run_course.specs.Asked.{AskFor};
 ghost use Rattle.run_course.specs.Lent.{lent};
 ghost use Rattle.run_course.specs.Written.{text_shown};
@@ -75,30 +74,23 @@ pub fn prepare<X: Threads + Sync, R: Source, H: Host + Send, C: Cache>(
 ) -> Result<Reused, Stop>
     requires { length hosts.old ≡ 16 }
     ensures ok { IfOk result (λ it. (words : List (List ℕ)) →
-        AskFor words (Run settings.now None) name.now →
-        IsPrepared words (R.files source.old) (map (account H.notes H.losses) hosts.old)
-        (map (account H.notes H.losses) hosts.new) (seen C.entries C.faults cache.old)
-        (seen C.entries C.faults cache.new) (map output_file it.written.outputs.items)
-        it.written.screen.items it.kept.items) }
+        AskFor words (Run settings.now None) name.now → IsPrepared words (R.seen source.old).files
+        (map H.account hosts.old) (map H.account hosts.new) (C.seen cache.old) (C.seen cache.new)
+        (map output_file it.written.outputs.items) it.written.screen.items it.kept.items) }
     ensures err { IfErr result (λ stop. (words : List (List ℕ)) →
         AskFor words (Run settings.now None) name.now →
-        IsStop words (seen R.files R.faults source.old) (seen R.files R.faults source.new)
-        (map (account H.notes H.losses) hosts.old) (map (account H.notes H.losses) hosts.new)
-        (seen C.entries C.faults cache.old) (seen C.entries C.faults cache.new) stop) }
+        IsStop words (R.seen source.old) (R.seen source.new) (map H.account hosts.old)
+        (map H.account hosts.new) (C.seen cache.old) (C.seen cache.new) stop) }
     ensures asked { (words : List (List ℕ)) → AskFor words (Run settings.now None) name.now →
-        AsksInCall words (R.files source.old) (seen R.asked R.faults source.old)
-        (seen R.asked R.faults source.new) result }
-    ensures asked_hosts { (words : List (List ℕ)) →
-        AskFor words (Run settings.now None) name.now →
-        AsksHostsInCall words (R.files source.old) (map (account H.notes H.losses) hosts.old)
-        (map (account H.notes H.losses) hosts.new) (seen C.entries C.faults cache.old)
-        (seen C.entries C.faults cache.new) result }
-    ensures entries { C.entries cache.new ≡ C.entries cache.old }
-    ensures later { C.faults cache.old ≤ C.faults cache.new }
-    ensures files { R.files source.new ≡ R.files source.old }
-    ensures source { R.faults source.old ≤ R.faults source.new }
-    ensures grew { AllZip Grew (map (account H.notes H.losses) hosts.old)
-        (map (account H.notes H.losses) hosts.new) }
+        AsksInCall words (R.seen source.old) (R.seen source.new) result }
+    ensures asked_hosts { (words : List (List ℕ)) → AskFor words (Run settings.now None) name.now →
+        AsksHostsInCall words (R.seen source.old).files (map H.account hosts.old)
+        (map H.account hosts.new) (C.seen cache.old) (C.seen cache.new) result }
+    ensures entries { (C.seen cache.new).entries ≡ (C.seen cache.old).entries }
+    ensures later { (C.seen cache.old).faults ≤ (C.seen cache.new).faults }
+    ensures files { (R.seen source.new).files ≡ (R.seen source.old).files }
+    ensures source { (R.seen source.old).faults ≤ (R.seen source.new).faults }
+    ensures grew { AllZip Grew (map H.account hosts.old) (map H.account hosts.new) }
     ensures hosts { drop settings.now.workers hosts.new ≡ drop settings.now.workers hosts.old }
 {
     let tries = settings.tries();
@@ -125,12 +117,12 @@ fn look_up<C: Cache>(
     requires inputs { AreInputs script.program.script inputs.rows }
     ensures given { IfOk result (WasGiven script.program.script
         (spec.keyed_nodes script.outlines script.texts inputs.files script.program.script)
-        inputs.rows (seen C.entries C.faults cache.old) (seen C.entries C.faults cache.new)) }
+        inputs.rows (C.seen cache.old) (C.seen cache.new)) }
     ensures inputs { IfOk result (λ given. AreInputs given.program.script given.lists) }
     ensures well_formed { IfOk result (λ given. IsWellFormed given.program.script) }
     ensures ready { IfOk result (λ given. IsReady given.program.script) }
-    ensures entries { C.entries cache.new ≡ C.entries cache.old }
-    ensures later { C.faults cache.old ≤ C.faults cache.new }
+    ensures entries { (C.seen cache.new).entries ≡ (C.seen cache.old).entries }
+    ensures later { (C.seen cache.old).faults ≤ (C.seen cache.new).faults }
 {
     given_law();
     ready_law();
@@ -198,19 +190,15 @@ fn run_given<X: Threads + Sync, H: Host + Send>(
     requires inputs { AreInputs given.program.script given.lists }
     requires sixteen { length hosts.old ≡ 16 }
     ensures ran { IfOk result (λ it. WasRun settings.now given
-        (lent settings.now (map (account H.notes H.losses) hosts.old))
-        (lent settings.now (map (account H.notes H.losses) hosts.new))
+        (lent settings.now (map H.account hosts.old)) (lent settings.now (map H.account hosts.new))
         (map output_file it.written.outputs.items) it.written.screen.items it.kept.items) }
     ensures stop { IfErr result (StopsRun settings.now given
-        (lent settings.now (map (account H.notes H.losses) hosts.old))
-        (lent settings.now (map (account H.notes H.losses) hosts.new))) }
-    ensures asked { (map (account H.notes H.losses) hosts.old
-        ≡ map (account H.notes H.losses) hosts.new)
-        ⊎ AsksPhases settings.now given
-        (lent settings.now (map (account H.notes H.losses) hosts.old))
-        (lent settings.now (map (account H.notes H.losses) hosts.new)) }
-    ensures grew { AllZip Grew (map (account H.notes H.losses) hosts.old)
-        (map (account H.notes H.losses) hosts.new) }
+        (lent settings.now (map H.account hosts.old))
+        (lent settings.now (map H.account hosts.new))) }
+    ensures asked { (map H.account hosts.old ≡ map H.account hosts.new) ⊎ AsksPhases settings.now
+        given (lent settings.now (map H.account hosts.old))
+        (lent settings.now (map H.account hosts.new)) }
+    ensures grew { AllZip Grew (map H.account hosts.old) (map H.account hosts.new) }
     ensures hosts { drop settings.now.workers hosts.new ≡ drop settings.now.workers hosts.old }
 {
     graph_law();
@@ -235,18 +223,16 @@ fn carried_out<X: Threads + Sync, H: Host + Send>(
     requires text { shown.text.items ≡ text_shown given.program.script shown.plan }
     requires sixteen { length hosts.old ≡ 16 }
     ensures ran { IfOk result (λ it. WasRun settings.now given
-        (lent settings.now (map (account H.notes H.losses) hosts.old))
-        (lent settings.now (map (account H.notes H.losses) hosts.new))
+        (lent settings.now (map H.account hosts.old)) (lent settings.now (map H.account hosts.new))
         (map output_file it.written.outputs.items) it.written.screen.items it.kept.items) }
     ensures stop { IfErr result (IsRunStop settings.now given.program.script given.lists
-        shown.plan (lent settings.now (map (account H.notes H.losses) hosts.old))
-        (lent settings.now (map (account H.notes H.losses) hosts.new))) }
+        shown.plan (lent settings.now (map H.account hosts.old))
+        (lent settings.now (map H.account hosts.new))) }
     ensures asked { AsksSomePhases settings.now
         (phases_of settings.now given.program.script given.lists shown.plan)
-        (lent settings.now (map (account H.notes H.losses) hosts.old))
-        (lent settings.now (map (account H.notes H.losses) hosts.new)) }
-    ensures grew { AllZip Grew (map (account H.notes H.losses) hosts.old)
-        (map (account H.notes H.losses) hosts.new) }
+        (lent settings.now (map H.account hosts.old))
+        (lent settings.now (map H.account hosts.new)) }
+    ensures grew { AllZip Grew (map H.account hosts.old) (map H.account hosts.new) }
     ensures hosts { drop settings.now.workers hosts.new ≡ drop settings.now.workers hosts.old }
 {
     let Given {
@@ -280,17 +266,16 @@ fn ran_through<X: Threads + Sync, H: Host + Send>(
     requires of_script { IsPlanOf program.now.script plan.now }
     requires sixteen { length hosts.old ≡ 16 }
     ensures ran { IfOk result (IsRan settings.now program.now.script lists plan.now
-        (lent settings.now (map (account H.notes H.losses) hosts.old))
-        (lent settings.now (map (account H.notes H.losses) hosts.new))) }
+        (lent settings.now (map H.account hosts.old))
+        (lent settings.now (map H.account hosts.new))) }
     ensures stop { IfErr result (IsRunStop settings.now program.now.script lists plan.now
-        (lent settings.now (map (account H.notes H.losses) hosts.old))
-        (lent settings.now (map (account H.notes H.losses) hosts.new))) }
+        (lent settings.now (map H.account hosts.old))
+        (lent settings.now (map H.account hosts.new))) }
     ensures asked { AsksSomePhases settings.now
         (phases_of settings.now program.now.script lists plan.now)
-        (lent settings.now (map (account H.notes H.losses) hosts.old))
-        (lent settings.now (map (account H.notes H.losses) hosts.new)) }
-    ensures grew { AllZip Grew (map (account H.notes H.losses) hosts.old)
-        (map (account H.notes H.losses) hosts.new) }
+        (lent settings.now (map H.account hosts.old))
+        (lent settings.now (map H.account hosts.new)) }
+    ensures grew { AllZip Grew (map H.account hosts.old) (map H.account hosts.new) }
     ensures hosts { drop settings.now.workers hosts.new ≡ drop settings.now.workers hosts.old }
 {
     match ran_on(rt, alloc, program, plan, lists, hosts, settings) {

@@ -4,7 +4,8 @@ use Rattle.std.specs.List.{AllZip}
 use Rattle.outside.specs.declared.host.At.{At}
 use Rattle.outside.specs.Cause.{RoseBy}
 use Rattle.crew.specs.declared.drill.Entry.{Entry}
-use Rattle.crew.specs.Hosts.{Account, Gains, Grew, Passed, Refused, at_place}
+use Rattle.outside.specs.Accounts.{Account, Gains}
+use Rattle.crew.specs.Hosts.{Grew, Passed, Refused, at_place}
 
 -- counts that rise one after the other
 pub rises : (a b c m n : ℕ) → a ≤ b → b ≤ c → RoseBy m a b → RoseBy n b c → RoseBy (m + n) a c

@@ -14,7 +14,8 @@ use Rattle.claim_board.specs.Counts.{one_if, times}
 use Rattle.claim_board.specs.Protocol.{PassState, BoardState, fresh, limit, IsGood}
 use Rattle.claim_board.specs.Told.{draw_of}
 use Rattle.crew.specs.declared.drill.Entry.{Entry}
-use Rattle.crew.specs.Hosts.{Account, at_place, places_below}
+use Rattle.outside.specs.Accounts.{Account}
+use Rattle.crew.specs.Hosts.{at_place, places_below}
 use Rattle.crew.specs.Drills.{Settings, names, same_phase}
 use Rattle.crew.specs.Work.{Turn, Worker, IsAsked, TookTurns, AreWorkers, all_passed, all_downs, drawn_attempt}
 use Rattle.crew.specs.Phases.{HaveGained, all_places, attempt_of_place, times_asked, IsPlaceOf, AreAskedOnce}

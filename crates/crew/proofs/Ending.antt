@@ -19,7 +19,8 @@ use Rattle.claim_board.specs.Laws.{UndecidedWereDrawn}
 use Rattle.claim_board.specs.Told.{closing_state}
 use Rattle.crew.specs.declared.kept.KeptOut.{KeptOut}
 use Rattle.crew.specs.declared.drill.Entry.{Entry}
-use Rattle.crew.specs.Hosts.{Account, HaveRisen, Refused, SomeHost}
+use Rattle.outside.specs.Accounts.{Account}
+use Rattle.crew.specs.Hosts.{HaveRisen, Refused, SomeHost}
 use Rattle.crew.specs.Drills.{Settings, attempt_in, names, is_drilled, same_phase, drilled_tries}
 use Rattle.crew.specs.Outs.{IsOut, RanOn, draw_by}
 use Rattle.crew.specs.Work.{drawn_attempt}

@@ -10,7 +10,8 @@ use Rattle.outside.specs.Cause.{RoseBy}
 use Rattle.outside.specs.declared.host.At.{At}
 use Rattle.claim_board.specs.Counts.{times}
 use Rattle.claim_board.specs.Protocol.{PassState, fresh, limit}
-use Rattle.crew.specs.Hosts.{Account, HaveRisen, Refused, SomeHost, at_place}
+use Rattle.outside.specs.Accounts.{Account}
+use Rattle.crew.specs.Hosts.{HaveRisen, Refused, SomeHost, at_place}
 use Rattle.crew.specs.Drills.{Settings}
 use Rattle.crew.specs.Work.{Turn, Worker, IsAsked, Cause, TookTurns, HaveWorked, all_downs, look_of, drawn_attempt}
 use Rattle.crew.specs.Work.{Cause as cause}

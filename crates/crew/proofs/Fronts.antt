@@ -5,7 +5,7 @@ use Rattle.std.proofs.lemmas.List.Elements.{All-weaker}
 use Rattle.claim_board.specs.Protocol.{BoardState, IsGood}
 use Rattle.claim_board.specs.Boards.{Pass, Tally}
 use Rattle.claim_board.specs.Told.{closing_state}
-use Rattle.crew.specs.Hosts.{Account}
+use Rattle.outside.specs.Accounts.{Account}
 use Rattle.crew.specs.Drills.{Settings}
 use Rattle.crew.specs.Work.{Worker, Cause, CameFar, HaveWorked}
 use Rattle.crew.specs.Workers.{AllTook}

@@ -7,7 +7,8 @@ use Rattle.std.proofs.lemmas.List.Elements.{All-nil, All-cons, All-append, All-w
 use Rattle.claim_board.specs.Protocol.{PassState, Deed, DrewNumber, fresh}
 use Rattle.claim_board.specs.Boards.{Pass, states_of}
 use Rattle.crew.specs.declared.kept.KeptOut.{KeptOut}
-use Rattle.crew.specs.Hosts.{Account, Grew, SomeHost}
+use Rattle.outside.specs.Accounts.{Account}
+use Rattle.crew.specs.Hosts.{Grew, SomeHost}
 use Rattle.crew.specs.Drills.{Settings}
 use Rattle.crew.specs.Outs.{IsOut, RanOn, draw_by}
 use Rattle.crew.specs.Work.{Turn, Worker, AreWorkers, HaveWorked, HasDone, Cause, CameFar, TookTurns, Took, Worked, all_deeds, look_of}

@@ -8,7 +8,8 @@ use Rattle.std.proofs.lemmas.List.Sums.{sum_by-cons, sum_by-append}
 use native.Mathlib.Decide.{ℕ_discrete}
 use mathlib.Core.Logic.{dite}
 use Rattle.claim_board.specs.Counts.{one_if, times, times_first}
-use Rattle.crew.specs.Hosts.{Account, SomeHost}
+use Rattle.outside.specs.Accounts.{Account}
+use Rattle.crew.specs.Hosts.{SomeHost}
 
 module _ (P : Account → Account → Type 0) where
   pub some_host_left : (xs ys us vs : List Account) → SomeHost P xs ys

@@ -8,7 +8,8 @@ use Rattle.claim_board.specs.Boards.{AreBefore, Board, Drawn, IsOpenDraw}
 use Rattle.claim_board.specs.Told.{draw_of}
 use Rattle.crew.specs.declared.kept.KeptOut.{KeptOut}
 use Rattle.crew.specs.declared.drill.Entry.{Entry}
-use Rattle.crew.specs.Hosts.{Account, Gains, at_place, places_below}
+use Rattle.outside.specs.Accounts.{Account, Gains}
+use Rattle.crew.specs.Hosts.{at_place, places_below}
 use Rattle.crew.specs.Drills.{Settings, attempt_in, is_drilled}
 use Rattle.crew.specs.Attempts.{Ran, StoppedDown, StoppedEarly}
 use Rattle.crew.specs.Outs.{IsOut, RanOn}

@@ -11,7 +11,8 @@ use Rattle.claim_board.specs.Counts.{times, times_first}
 use Rattle.claim_board.specs.Protocol.{PassState, Deed, DrewNumber, SawWord, drawn, limit, task_of}
 use Rattle.claim_board.specs.Boards.{AreBefore}
 use Rattle.crew.specs.declared.kept.KeptOut.{KeptOut}
-use Rattle.crew.specs.Hosts.{Account, Gains, Grew}
+use Rattle.outside.specs.Accounts.{Account, Gains}
+use Rattle.crew.specs.Hosts.{Grew}
 use Rattle.crew.specs.Drills.{Settings}
 use Rattle.crew.specs.Outs.{IsOut, RanOn, draw_by}
 use Rattle.crew.specs.Work.{Turn, HasDone, IsAsked, Cause, CameFar, TookTurns, Took, Worked, all_passed, all_downs, all_deeds, deeds_of, look_of}

@@ -4,7 +4,8 @@ use Rattle.outside.specs.Cause.{RoseBy}
 use Rattle.crew.specs.declared.drill.Entry.{Entry}
 use Rattle.crew.specs.declared.attempts.Attempt.{Attempt}
 use Rattle.crew.specs.declared.attempts.Attempt.TheVariants.{Made, Down}
-use Rattle.crew.specs.Hosts.{Account, Gains, at_place, places_below}
+use Rattle.outside.specs.Accounts.{Account, Gains}
+use Rattle.crew.specs.Hosts.{at_place, places_below}
 
 abbrev pub MatchAttempt : {O : Type 0} → Attempt O → Type 0 → Type 0 → Type 0
 MatchAttempt (Made out) P Q = P

@@ -1,31 +1,8 @@
--- What a host tells and counts, and what it has gained since.
-use Rattle.std.specs.Prelude.{◌≡◌, ℕ, zero, suc, ◌+◌, ◌-◌, ◌^◌, ◌≤◌, Bool, true, false, ◌⊎◌, List, [], ◌∷◌, ◌++◌, Option, Some, None, Contains, sum_by}
+-- What hosts have gained since.
+use Rattle.std.specs.Prelude.{◌≡◌, ℕ, zero, suc, ◌+◌, ◌-◌, ◌^◌, ◌≤◌, true, ◌⊎◌, List, [], ◌∷◌, ◌++◌, Contains, sum_by}
+use Rattle.outside.specs.Accounts.{Account, Gains}
 use Rattle.outside.specs.declared.host.At.{At}
-use Rattle.outside.specs.Notes.{Notes}
 use Rattle.crew.specs.declared.drill.Entry.{Entry}
-
--- how often a host was down, whether it tells more, and what it has let through and refused
-pub record Account : Type 0 where
-  pub losses : ℕ
-  pub tells : Bool
-  pub passed : List At
-  pub downs : List At
-
-abbrev pub account_of : Option Notes → ℕ → Account
-account_of None losses = record { losses = losses; tells = false; passed = []; downs = [] }
-account_of (Some notes) losses =
-    record { losses = losses; tells = true; passed = notes.passed; downs = notes.downs }
-
--- the account of a host, by its notes and its losses
-abbrev pub account : {A : Type 0} → (A → Option Notes) → (A → ℕ) → A → Account
-account notes losses host = account_of (notes host) (losses host)
-
--- The host's losses did not fall. Where it tells it told before, and has let just these through
--- since, and refused just those, in order.
-pub record Gains (a b : Account) (passed downs : List At) : Type 0 where
-  pub later : a.losses ≤ b.losses
-  pub told : b.tells ≡ true →
-      (a.tells ≡ true) × (b.passed ≡ a.passed ++ passed) × (b.downs ≡ a.downs ++ downs)
 
 -- the host's losses only rose, and its notes only grew
 abbrev pub Grew : Account → Account → Type 0

@@ -2,7 +2,8 @@
 use Rattle.std.specs.Prelude.{◌≡◌, ℕ, ◌+◌, ◌<◌, ◌≤◌, false}
 use Rattle.claim_board.specs.Told.{draw_of}
 use Rattle.crew.specs.declared.kept.KeptOut.{KeptOut}
-use Rattle.crew.specs.Hosts.{Account, Passed, places_below}
+use Rattle.outside.specs.Accounts.{Account}
+use Rattle.crew.specs.Hosts.{Passed, places_below}
 use Rattle.crew.specs.Drills.{Settings, attempt_in, is_drilled}
 
 module _ {O : Type 0} where

@@ -7,7 +7,8 @@ use Rattle.crew.specs.declared.drill.Entry.{Entry}
 use Rattle.crew.specs.declared.kept.KeptOut.{KeptOut}
 use Rattle.crew.specs.declared.phase.PhaseFault.{PhaseFault}
 use Rattle.crew.specs.declared.phase.PhaseFault.TheVariants.{GaveUp, Memory}
-use Rattle.crew.specs.Hosts.{Account, Gains, HaveRisen, Refused, SomeHost}
+use Rattle.outside.specs.Accounts.{Account, Gains}
+use Rattle.crew.specs.Hosts.{HaveRisen, Refused, SomeHost}
 use Rattle.crew.specs.Drills.{Settings, attempt_in, names, is_drilled, drilled_tries}
 use Rattle.crew.specs.Outs.{IsOut, RanOn}
 use Rattle.crew.specs.Work.{Worker, AreWorkers, CameFar, HaveWorked}

@@ -7,7 +7,8 @@ use Rattle.claim_board.specs.Counts.{times, times_first}
 use Rattle.claim_board.specs.Protocol.{PassState, Deed, DrewNumber, SawWord, WonTask, LostTask, fresh, task_of, attempt_of, limit}
 use Rattle.crew.specs.declared.kept.KeptOut.{KeptOut}
 use Rattle.crew.specs.declared.drill.Entry.{Entry}
-use Rattle.crew.specs.Hosts.{Account, Gains, at_place, places_below}
+use Rattle.outside.specs.Accounts.{Account, Gains}
+use Rattle.crew.specs.Hosts.{at_place, places_below}
 use Rattle.crew.specs.Drills.{Settings, attempt_in, is_drilled}
 use Rattle.crew.specs.Outs.{IsOut, RanOn, draw_by}
 

@@ -3,7 +3,8 @@ use Rattle.std.specs.Prelude.{◌≡◌, ℕ, ◌<◌, true, List, [], ◌∷◌
 use Rattle.claim_board.specs.Protocol.{PassState}
 use Rattle.claim_board.specs.Boards.{Board, Pass, AreOf, states_of}
 use Rattle.crew.specs.declared.kept.KeptOut.{KeptOut}
-use Rattle.crew.specs.Hosts.{Account, SomeHost}
+use Rattle.outside.specs.Accounts.{Account}
+use Rattle.crew.specs.Hosts.{SomeHost}
 use Rattle.crew.specs.Drills.{Settings}
 use Rattle.crew.specs.Outs.{IsOut, RanOn, draw_by}
 use Rattle.crew.specs.Work.{Worker, AreWorkers, CameFar, HaveWorked}

@@ -1,7 +1,8 @@
 // An attempt, and how its host is asked.
 ghost use Rattle.std.specs.Prelude.{◌≡◌, ◌+◌, [], ◌∷◌, OnOk, OnErr};
 ghost use Rattle.outside.specs.Cause.{RoseBy};
-ghost use Rattle.crew.specs.Hosts.{account, Gains, at_place};
+ghost use Rattle.outside.specs.Accounts.{Gains};
+ghost use Rattle.crew.specs.Hosts.{at_place};
 ghost use Rattle.crew.specs.Drills.{attempt_at};
 
 use outside::{At, Down, Host, Phase};
@@ -59,13 +60,11 @@ impl Spot {
 
     /// Asks the host whether this attempt of the task may go on from the place `place`.
     pub fn ask<H: Host>(&self, host: &mut H, task: u32, place: u64) -> Result<(), Down>
-        ensures through { OnOk result (Gains
-            (account H.notes H.losses host.old) (account H.notes H.losses host.new)
+        ensures through { OnOk result (Gains (H.account host.old) (H.account host.new)
             (at_place (attempt_at self.now task) place ∷ []) []) }
-        ensures down { OnErr result (Gains
-            (account H.notes H.losses host.old) (account H.notes H.losses host.new)
-            [] (at_place (attempt_at self.now task) place ∷ [])
-            × RoseBy 1 (H.losses host.old) (H.losses host.new)) }
+        ensures down { OnErr result (Gains (H.account host.old) (H.account host.new) []
+            (at_place (attempt_at self.now task) place ∷ []) × RoseBy 1 (H.account host.old).losses
+            (H.account host.new).losses) }
     {
         host.pass(At {
             stage: self.stage,

@@ -3,7 +3,7 @@ ghost use Rattle.std.specs.Prelude.{◌≡◌, ◌++◌, length, map, IfOk};
 ghost use Rattle.std.specs.List.{AllZip};
 ghost use Rattle.std.specs.Thread.{IsSync, IsSend};
 ghost use Rattle.claim_board.specs.Boards.{AreOf};
-ghost use Rattle.crew.specs.Hosts.{account, Grew};
+ghost use Rattle.crew.specs.Hosts.{Grew};
 ghost use Rattle.crew.specs.Workers.{CanStart, AllTook, Phased};
 
 use crate::kept::Kept;
@@ -34,13 +34,11 @@ pub fn work_all<R: Threads + Sync, T: Tasks, H: Host + Send>(
     requires start { CanStart board.now (T.count_of tasks.now) phase.now.tries
         (length hosts.old) passes.old }
     ensures same { AreOf board.now passes.new }
-    ensures grew { AllZip Grew
-        (map (account H.notes H.losses) hosts.old) (map (account H.notes H.losses) hosts.new) }
+    ensures grew { AllZip Grew (map H.account hosts.old) (map H.account hosts.new) }
     ensures asked { AllTook (T.count_of tasks.now) phase.now (T.places tasks.now) passes.new
-        (map (account H.notes H.losses) hosts.old) (map (account H.notes H.losses) hosts.new) }
-    ensures phased { IfOk result (Phased (T.count_of tasks.now) phase.now
-        (T.is_value tasks.now) (T.places tasks.now) passes.new
-        (map (account H.notes H.losses) hosts.old) (map (account H.notes H.losses) hosts.new)) }
+        (map H.account hosts.old) (map H.account hosts.new) }
+    ensures phased { IfOk result (Phased (T.count_of tasks.now) phase.now (T.is_value tasks.now)
+        (T.places tasks.now) passes.new (map H.account hosts.old) (map H.account hosts.new)) }
 {
     if passes.len() == 1 {
         return work_alone(alloc, board, tasks, phase, hosts, passes);
@@ -78,52 +76,42 @@ fn both_halves<R: Threads + Sync, T: Tasks, H: Host + Send>(
     requires last { CanStart board.now (T.count_of tasks.now) phase.now.tries
         (length last_hosts.old) last_passes.old }
     ensures same { AreOf board.now first_passes.new × AreOf board.now last_passes.new }
-    ensures first { AllZip Grew (map (account H.notes H.losses) first_hosts.old)
-        (map (account H.notes H.losses) first_hosts.new) }
-    ensures last { AllZip Grew (map (account H.notes H.losses) last_hosts.old)
-        (map (account H.notes H.losses) last_hosts.new) }
+    ensures first { AllZip Grew (map H.account first_hosts.old) (map H.account first_hosts.new) }
+    ensures last { AllZip Grew (map H.account last_hosts.old) (map H.account last_hosts.new) }
     ensures first_asked { AllTook (T.count_of tasks.now) phase.now (T.places tasks.now)
-        first_passes.new (map (account H.notes H.losses) first_hosts.old)
-        (map (account H.notes H.losses) first_hosts.new) }
+        first_passes.new (map H.account first_hosts.old) (map H.account first_hosts.new) }
     ensures last_asked { AllTook (T.count_of tasks.now) phase.now (T.places tasks.now)
-        last_passes.new (map (account H.notes H.losses) last_hosts.old)
-        (map (account H.notes H.losses) last_hosts.new) }
-    ensures phased { IfOk result (Phased (T.count_of tasks.now) phase.now
-        (T.is_value tasks.now) (T.places tasks.now) (first_passes.new ++ last_passes.new)
-        (map (account H.notes H.losses) first_hosts.old
-        ++ map (account H.notes H.losses) last_hosts.old)
-        (map (account H.notes H.losses) first_hosts.new
-        ++ map (account H.notes H.losses) last_hosts.new)) }
+        last_passes.new (map H.account last_hosts.old) (map H.account last_hosts.new) }
+    ensures phased { IfOk result (Phased (T.count_of tasks.now) phase.now (T.is_value tasks.now)
+        (T.places tasks.now) (first_passes.new ++ last_passes.new)
+        (map H.account first_hosts.old ++ map H.account last_hosts.old)
+        (map H.account first_hosts.new ++ map H.account last_hosts.new)) }
 {
     let mut front = || -> Result<Kept<T::Out>, AllocError>
         requires { IsSync R.row × IsSync T.row × IsSend H.row × IsSend T.Out.row
             × CanStart board.now (T.count_of tasks.now) phase.now.tries
             (length first_hosts.now) first_passes.now }
-        ensures { AreOf board.entry.now first_passes.exit.now
-            × AllZip Grew (map (account H.notes H.losses) first_hosts.entry.now)
-            (map (account H.notes H.losses) first_hosts.exit.now)
-            × AllTook (T.count_of tasks.entry.now) phase.entry.now (T.places tasks.entry.now)
-            first_passes.exit.now (map (account H.notes H.losses) first_hosts.entry.now)
-            (map (account H.notes H.losses) first_hosts.exit.now)
-            × IfOk result (Phased (T.count_of tasks.entry.now) phase.entry.now
-            (T.is_value tasks.entry.now) (T.places tasks.entry.now) first_passes.exit.now
-            (map (account H.notes H.losses) first_hosts.entry.now)
-            (map (account H.notes H.losses) first_hosts.exit.now)) }
+        ensures { AreOf board.entry.now first_passes.exit.now × AllZip Grew
+            (map H.account first_hosts.entry.now) (map H.account first_hosts.exit.now) × AllTook
+            (T.count_of tasks.entry.now) phase.entry.now (T.places tasks.entry.now)
+            first_passes.exit.now (map H.account first_hosts.entry.now)
+            (map H.account first_hosts.exit.now) × IfOk result (Phased (T.count_of tasks.entry.now)
+            phase.entry.now (T.is_value tasks.entry.now) (T.places tasks.entry.now)
+            first_passes.exit.now (map H.account first_hosts.entry.now)
+            (map H.account first_hosts.exit.now)) }
     { work_all(rt, alloc, board, tasks, phase, first_hosts, first_passes) };
     let mut back = || -> Result<Kept<T::Out>, AllocError>
         requires { IsSync R.row × IsSync T.row × IsSend H.row × IsSend T.Out.row
             × CanStart board.now (T.count_of tasks.now) phase.now.tries
             (length last_hosts.now) last_passes.now }
-        ensures { AreOf board.entry.now last_passes.exit.now
-            × AllZip Grew (map (account H.notes H.losses) last_hosts.entry.now)
-            (map (account H.notes H.losses) last_hosts.exit.now)
-            × AllTook (T.count_of tasks.entry.now) phase.entry.now (T.places tasks.entry.now)
-            last_passes.exit.now (map (account H.notes H.losses) last_hosts.entry.now)
-            (map (account H.notes H.losses) last_hosts.exit.now)
-            × IfOk result (Phased (T.count_of tasks.entry.now) phase.entry.now
-            (T.is_value tasks.entry.now) (T.places tasks.entry.now) last_passes.exit.now
-            (map (account H.notes H.losses) last_hosts.entry.now)
-            (map (account H.notes H.losses) last_hosts.exit.now)) }
+        ensures { AreOf board.entry.now last_passes.exit.now × AllZip Grew
+            (map H.account last_hosts.entry.now) (map H.account last_hosts.exit.now) × AllTook
+            (T.count_of tasks.entry.now) phase.entry.now (T.places tasks.entry.now)
+            last_passes.exit.now (map H.account last_hosts.entry.now)
+            (map H.account last_hosts.exit.now) × IfOk result (Phased (T.count_of tasks.entry.now)
+            phase.entry.now (T.is_value tasks.entry.now) (T.places tasks.entry.now)
+            last_passes.exit.now (map H.account last_hosts.entry.now)
+            (map H.account last_hosts.exit.now)) }
     { work_all(rt, alloc, board, tasks, phase, last_hosts, last_passes) };
     let (first, last) = join_mut(rt, &mut front, &mut back);
     let mut all = first?;
@@ -145,13 +133,11 @@ fn work_alone<T: Tasks, H: Host>(
         (length hosts.old) passes.old }
     requires one { length passes.old ≡ 1 }
     ensures same { AreOf board.now passes.new }
-    ensures grew { AllZip Grew
-        (map (account H.notes H.losses) hosts.old) (map (account H.notes H.losses) hosts.new) }
+    ensures grew { AllZip Grew (map H.account hosts.old) (map H.account hosts.new) }
     ensures asked { AllTook (T.count_of tasks.now) phase.now (T.places tasks.now) passes.new
-        (map (account H.notes H.losses) hosts.old) (map (account H.notes H.losses) hosts.new) }
-    ensures phased { IfOk result (Phased (T.count_of tasks.now) phase.now
-        (T.is_value tasks.now) (T.places tasks.now) passes.new
-        (map (account H.notes H.losses) hosts.old) (map (account H.notes H.losses) hosts.new)) }
+        (map H.account hosts.old) (map H.account hosts.new) }
+    ensures phased { IfOk result (Phased (T.count_of tasks.now) phase.now (T.is_value tasks.now)
+        (T.places tasks.now) passes.new (map H.account hosts.old) (map H.account hosts.new)) }
 {
     work(*alloc, board, &mut passes[0], tasks, &mut hosts[0], phase)
 }

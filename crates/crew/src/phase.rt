@@ -1,7 +1,7 @@
 // A phase: all its tasks, by all its workers.
 ghost use Rattle.std.specs.Prelude.{◌≡◌, ◌≢◌, ℕ, ◌*◌, ◌^◌, ◌<◌, ◌≤◌, length, map, slice_index, IfOk, IfErr, IfSome, IfNone};
 ghost use Rattle.std.specs.List.{AllZip};
-ghost use Rattle.crew.specs.Hosts.{account, Grew};
+ghost use Rattle.crew.specs.Hosts.{Grew};
 ghost use Rattle.crew.specs.Phases.{AreAskedOnce, CanFinish, Settled, IsPhaseFault, IsMemory};
 
 use crate::halves::work_all;
@@ -55,19 +55,16 @@ pub fn run_phase<R: Threads + Sync, T: Tasks, H: Host + Send>(
     requires tries { (0 < phase.now.tries) × (phase.now.tries ≤ 8) }
     requires hosts { (0 < length hosts.old) × (length hosts.old ≤ 16) }
     requires limit { T.count_of tasks.now * phase.now.tries < 2 ^ 31 }
-    ensures grew { AllZip Grew
-        (map (account H.notes H.losses) hosts.old) (map (account H.notes H.losses) hosts.new) }
+    ensures grew { AllZip Grew (map H.account hosts.old) (map H.account hosts.new) }
     ensures asked { AreAskedOnce (T.count_of tasks.now) phase.now (T.places tasks.now)
-        (map (account H.notes H.losses) hosts.old) (map (account H.notes H.losses) hosts.new) }
-    ensures settled { IfOk result (Settled (T.count_of tasks.now) phase.now
-        (T.is_value tasks.now) (T.places tasks.now)
-        (map (account H.notes H.losses) hosts.old) (map (account H.notes H.losses) hosts.new)) }
+        (map H.account hosts.old) (map H.account hosts.new) }
+    ensures settled { IfOk result (Settled (T.count_of tasks.now) phase.now (T.is_value tasks.now)
+        (T.places tasks.now) (map H.account hosts.old) (map H.account hosts.new)) }
     ensures fault { IfErr result (IsPhaseFault (T.count_of tasks.now) phase.now
         (T.is_value tasks.now) (T.places tasks.now)
-        (map (account H.notes H.losses) hosts.old) (map (account H.notes H.losses) hosts.new)) }
-    ensures complete { CanFinish (T.count_of tasks.now) phase.now
-        (map (account H.notes H.losses) hosts.old) (map (account H.notes H.losses) hosts.new)
-        → IfErr result IsMemory }
+        (map H.account hosts.old) (map H.account hosts.new)) }
+    ensures complete { CanFinish (T.count_of tasks.now) phase.now (map H.account hosts.old)
+        (map H.account hosts.new) → IfErr result IsMemory }
 {
     let count = tasks.count();
     let (board, mut passes) = Board::new(alloc, count, phase.tries(), hosts.len() as u32)?;

@@ -1,6 +1,5 @@
 // What a phase runs.
 ghost use Rattle.std.specs.Prelude.{◌≡◌, ◌+◌, ◌<◌, IfOk, OnErr};
-ghost use Rattle.crew.specs.Hosts.{account};
 ghost use Rattle.crew.specs.Attempts.{IsMadeOf, Ran, StoppedDown, StoppedEarly, MatchAttempt};
 ghost use Rattle.crew.specs.Drills.{attempt_at};
 
@@ -41,12 +40,10 @@ pub trait Tasks: Sync {
     ) -> Result<Attempt<Self::Out>, AllocError>
         requires { task < count_of self.now }
         ensures value { IfOk result (IsMadeOf (is_value self.now task)) }
-        ensures ran { IfOk result (λ r. MatchAttempt r
-            (Ran (attempt_at at.now task) (places self.now task)
-            (account H.notes H.losses host.old) (account H.notes H.losses host.new))
-            (StoppedDown (attempt_at at.now task) (places self.now task)
-            (account H.notes H.losses host.old) (account H.notes H.losses host.new))) }
-        ensures early { OnErr result
-            (StoppedEarly (attempt_at at.now task) (places self.now task)
-            (account H.notes H.losses host.old) (account H.notes H.losses host.new)) };
+        ensures ran { IfOk result (λ r. MatchAttempt r (Ran (attempt_at at.now task)
+            (places self.now task) (H.account host.old) (H.account host.new)) (StoppedDown
+            (attempt_at at.now task) (places self.now task) (H.account host.old)
+            (H.account host.new))) }
+        ensures early { OnErr result (StoppedEarly (attempt_at at.now task) (places self.now task)
+            (H.account host.old) (H.account host.new)) };
 }

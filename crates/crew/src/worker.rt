@@ -2,7 +2,7 @@
 ghost use Rattle.std.specs.Prelude.{◌≡◌, ◌<◌, true, IfOk, OnOk};
 ghost use Rattle.std.specs.Option.{option_to_list};
 ghost use Rattle.claim_board.specs.Boards.{IsOpenDraw};
-ghost use Rattle.crew.specs.Hosts.{account, Grew};
+ghost use Rattle.crew.specs.Hosts.{Grew};
 ghost use Rattle.crew.specs.Work.{Took, Worked};
 ghost use Rattle.crew.specs.inner.Turns.{TookOne, Turned};
 
@@ -31,14 +31,12 @@ pub fn work<T: Tasks, H: Host>(
     requires tries { board.now.tries ≡ phase.now.tries }
     requires some { 0 < board.now.tasks }
     ensures same { pass.new.board ≡ pass.old.board }
-    ensures grew { Grew
-        (account H.notes H.losses host.old) (account H.notes H.losses host.new) }
-    ensures asked { Took (T.count_of tasks.now) phase.now (T.places tasks.now)
-        pass.old.state pass.new.state
-        (account H.notes H.losses host.old) (account H.notes H.losses host.new) }
+    ensures grew { Grew (H.account host.old) (H.account host.new) }
+    ensures asked { Took (T.count_of tasks.now) phase.now (T.places tasks.now) pass.old.state
+        pass.new.state (H.account host.old) (H.account host.new) }
     ensures worked { IfOk result (Worked (T.count_of tasks.now) phase.now
         (T.is_value tasks.now) (T.places tasks.now) pass.old.state pass.new.state
-        (account H.notes H.losses host.old) (account H.notes H.losses host.new)) }
+        (H.account host.old) (H.account host.new)) }
     ensures ended { OnOk result (pass.new.state.ended ≡ true) }
 {
     let mut kept = Kept::new(alloc);
@@ -69,15 +67,12 @@ fn turn<T: Tasks, H: Host>(
     requires some { 0 < board.now.tasks }
     requires open { IsOpenDraw board.now pass.old.state draw }
     ensures same { pass.new.board ≡ pass.old.board }
-    ensures grew { Grew
-        (account H.notes H.losses host.old) (account H.notes H.losses host.new) }
+    ensures grew { Grew (H.account host.old) (H.account host.new) }
     ensures asked { TookOne (T.count_of tasks.now) phase.now (T.places tasks.now) draw.number
-        pass.old.state pass.new.state
-        (account H.notes H.losses host.old) (account H.notes H.losses host.new) }
+        pass.old.state pass.new.state (H.account host.old) (H.account host.new) }
     ensures turned { IfOk result (λ won. Turned (T.count_of tasks.now) phase.now
         (T.is_value tasks.now) (T.places tasks.now) draw.number pass.old.state pass.new.state
-        (account H.notes H.losses host.old) (account H.notes H.losses host.new)
-        (option_to_list won)) }
+        (H.account host.old) (H.account host.new) (option_to_list won)) }
 {
     let task = draw.task();
     let attempt = draw.attempt();

@@ -21,11 +21,9 @@ struct Meets {
 }
 
 impl Host for Meets {
-    ghost use Rattle.std.specs.Prelude.{None};
+    ghost use Rattle.outside.specs.Accounts.{calm};
 
-    ghost notes = { λ _. None };
-
-    ghost losses = { λ _. 0 };
+    ghost account = { λ _. calm };
 
     fn pass(&mut self, _at: At) -> Result<(), Down> {
         if self.asked {

@@ -1,7 +1,7 @@
 -- What a call promises, by what its words ask for.
 use Rattle.std.proofs.Common.{◌≡◌, ◌∙◌, ℕ, List, [], Option, Some, None, refl, sym, ap, subst, inl}
 use Rattle.std.specs.Option.{option_map_or}
-use Rattle.cache_store.specs.declared.entry.CacheEntry.{CacheEntry}
+use Rattle.cache_store.specs.Seen.{SeenCache}
 use Rattle.cached_course.specs.Promises.{Promises as ReusePromises}
 use Rattle.command_words.specs.Cached.{CachedRun, cached_for}
 use Rattle.command_words.specs.Words.{workload_for}
@@ -10,12 +10,12 @@ use Rattle.made_course.proofs.Promised.{makes}
 use Rattle.made_course.specs.Makes.{Makes}
 use Rattle.outside.proofs.AskLemmas.{asks_none}
 use Rattle.outside.specs.Asked.{Asks}
-use Rattle.outside.specs.Seen.{Seen}
+use Rattle.outside.specs.Seen.{SeenSource}
 use Rattle.made_course.proofs.of_run_course.PromiseLemmas.{promises}
 use Rattle.made_course.specs.of_run_course.Answers.{IsRefused}
 use Rattle.made_course.specs.of_run_course.Lent.{lent_to}
 use Rattle.made_course.specs.of_run_course.Promises.{Promises as ScriptPromises}
-use Rattle.made_course.specs.of_run_course.World.{Keeps, World, asks}
+use Rattle.made_course.specs.of_run_course.World.{Keeps, World}
 use Rattle.run_settings.specs.Settings.{standard}
 use Rattle.run_texts.specs.declared.status.Status.{Status}
 use Rattle.run_texts.specs.declared.status.Status.TheVariants.{WantOfMemory}
@@ -46,15 +46,14 @@ module _ (words : List (List ℕ)) where
 
   -- no memory was found for the words, and nothing was asked for
   pub of_no_memory : (before after : World) → IsRefused WantOfMemory before after
-      → Keeps before after → after.source ≡ before.source → after.asked ≡ before.asked
-      → asks after ≡ asks before → after.hosts ≡ before.hosts
+      → Keeps before after → after.source ≡ before.source → after.hosts ≡ before.hosts
       → Promises words before after WantOfMemory
-  of_no_memory before after refused kept source asked same hosts = record {
-    made = λ w is. makes w before after WantOfMemory refused kept source asked (inl (sym hosts));
+  of_no_memory before after refused kept same hosts = record {
+    made = λ w is. makes w before after WantOfMemory refused kept same (inl (sym hosts));
     others = λ none.
         promises words before after WantOfMemory (tt, refused) kept
-        (inl (subst (λ (it : Seen (List (List ℕ))). Asks 0 [] (asks before) it) (sym same)
-        (asks_none 0 (asks before)))) (inl (sym hosts));
+        (inl (subst (λ (it : SeenSource). Asks 0 [] before.source it) (sym same)
+        (asks_none 0 before.source))) (inl (sym hosts));
   }
 
   pub lends_made : (w : Workload) → Some w ≡ workload_for words → standard.workers ≡ lends words
@@ -68,7 +67,7 @@ module _ (words : List (List ℕ)) where
 
   -- ---- over a cache
 
-  pub of_reused : (before after : World) (cache later : Seen (List CacheEntry)) (status : Status)
+  pub of_reused : (before after : World) (cache later : SeenCache) (status : Status)
       (run : CachedRun) → Some run ≡ cached_for words
       → Reuses before after cache later status run
       → CachedPromises words before after cache later status
@@ -81,7 +80,7 @@ module _ (words : List (List ℕ)) where
     untouched = λ none. let both : Some run ≡ None = is ∙ none in absurd (cc both);
   }
 
-  pub of_others : (before after : World) (cache : Seen (List CacheEntry)) (status : Status)
+  pub of_others : (before after : World) (cache : SeenCache) (status : Status)
       → ◌≡◌ {A = Option CachedRun} None (cached_for words) → Promises words before after status
       → CachedPromises words before after cache cache status
   of_others before after cache status is kept = record {
@@ -92,7 +91,7 @@ module _ (words : List (List ℕ)) where
   }
 
   -- no memory was found for the words of a cached run
-  pub of_no_cache : (before after : World) (cache : Seen (List CacheEntry))
+  pub of_no_cache : (before after : World) (cache : SeenCache)
       → ((others : List (List ℕ)) → ReusePromises others before after cache cache WantOfMemory)
       → Promises words before after WantOfMemory
       → CachedPromises words before after cache cache WantOfMemory

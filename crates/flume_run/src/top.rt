@@ -1,11 +1,9 @@
 // The top call.
 ghost use Rattle.std.specs.Prelude.{◌≡◌, ◌≤◌, drop, length, map, string_bytes, ℕ};
-ghost use Rattle.crew.specs.Hosts.{account};
 ghost use Rattle.flume_run.specs.Cached.{CachedPromises, lends_to, without_entries};
 ghost use Rattle.flume_run.specs.Lent.{lends};
 ghost use Rattle.flume_run.specs.Promises.{Promises};
 ghost use Rattle.outside.specs.Says.{HasLine};
-ghost use Rattle.outside.specs.Seen.{seen, seen_shelf};
 ghost use Rattle.made_course.specs.of_run_course.World.{world};
 ghost use Rattle.run_texts.specs.Lines.{line_of};
 ghost use Rattle.run_texts.specs.declared.status.Status.TheVariants.{WantOfMemory};
@@ -64,13 +62,9 @@ pub fn flume_cached<X: Threads + Sync, R: Source, H: Host + Send, K: Shelf, P: S
 ) -> Status
     requires { length hosts.old ≡ 16 }
     ensures promises { CachedPromises (map string_bytes words.now)
-        (world (seen R.files R.faults source.old) (R.asked source.old)
-        (seen_shelf K.files K.begun K.left K.faults shelf.old) (seen P.text P.faults screen.old)
-        (map (account H.notes H.losses) hosts.old))
-        (world (seen R.files R.faults source.new) (R.asked source.new)
-        (seen_shelf K.files K.begun K.left K.faults shelf.new) (seen P.text P.faults screen.new)
-        (map (account H.notes H.losses) hosts.new))
-        (seen C.entries C.faults cache.old) (seen C.entries C.faults cache.new) result }
+        (world (R.seen source.old) (K.seen shelf.old) (P.seen screen.old) (map H.account hosts.old))
+        (world (R.seen source.new) (K.seen shelf.new) (P.seen screen.new) (map H.account hosts.new))
+        (C.seen cache.old) (C.seen cache.new) result }
     ensures hosts { drop (lends_to (map string_bytes words.now)) hosts.new
         ≡ drop (lends_to (map string_bytes words.now)) hosts.old }
 {
@@ -104,12 +98,8 @@ pub fn flume<X: Threads + Sync, R: Source, H: Host + Send, K: Shelf, P: Screen>(
 ) -> Status
     requires { length hosts.old ≡ 16 }
     ensures promises { (failures : ℕ) × CachedPromises (map string_bytes words.now)
-        (world (seen R.files R.faults source.old) (R.asked source.old)
-        (seen_shelf K.files K.begun K.left K.faults shelf.old) (seen P.text P.faults screen.old)
-        (map (account H.notes H.losses) hosts.old))
-        (world (seen R.files R.faults source.new) (R.asked source.new)
-        (seen_shelf K.files K.begun K.left K.faults shelf.new) (seen P.text P.faults screen.new)
-        (map (account H.notes H.losses) hosts.new))
+        (world (R.seen source.old) (K.seen shelf.old) (P.seen screen.old) (map H.account hosts.old))
+        (world (R.seen source.new) (K.seen shelf.new) (P.seen screen.new) (map H.account hosts.new))
         (without_entries 0) (without_entries failures) result }
     ensures hosts { drop (lends_to (map string_bytes words.now)) hosts.new
         ≡ drop (lends_to (map string_bytes words.now)) hosts.old }
@@ -130,12 +120,8 @@ fn uncached<X: Threads + Sync, R: Source, H: Host + Send, K: Shelf, P: Screen>(
 ) -> Status
     requires { length hosts.old ≡ 16 }
     ensures promises { Promises (map string_bytes words.now)
-        (world (seen R.files R.faults source.old) (R.asked source.old)
-        (seen_shelf K.files K.begun K.left K.faults shelf.old) (seen P.text P.faults screen.old)
-        (map (account H.notes H.losses) hosts.old))
-        (world (seen R.files R.faults source.new) (R.asked source.new)
-        (seen_shelf K.files K.begun K.left K.faults shelf.new) (seen P.text P.faults screen.new)
-        (map (account H.notes H.losses) hosts.new))
+        (world (R.seen source.old) (K.seen shelf.old) (P.seen screen.old) (map H.account hosts.old))
+        (world (R.seen source.new) (K.seen shelf.new) (P.seen screen.new) (map H.account hosts.new))
         result }
     ensures hosts { drop (lends (map string_bytes words.now)) hosts.new
         ≡ drop (lends (map string_bytes words.now)) hosts.old }
@@ -150,9 +136,8 @@ fn uncached<X: Threads + Sync, R: Source, H: Host + Send, K: Shelf, P: Screen>(
 // What is answered where no memory was found for the words themselves.
 fn no_memory<P: Screen>(screen: &mut P) -> Status
     ensures answer { result ≡ WantOfMemory }
-    ensures line { HasLine (line_of WantOfMemory) (seen P.text P.faults screen.old)
-        (seen P.text P.faults screen.new) }
-    ensures later { P.faults screen.old ≤ P.faults screen.new }
+    ensures line { HasLine (line_of WantOfMemory) (P.seen screen.old) (P.seen screen.new) }
+    ensures later { (P.seen screen.old).faults ≤ (P.seen screen.new).faults }
 {
     tell(screen, &Status::WantOfMemory);
     Status::WantOfMemory

@@ -1,7 +1,8 @@
 -- Places one after another.
 use Rattle.std.proofs.Common.{◌+◌, ℕ, [], ◌∷◌, sym, subst, add-one}
 use Rattle.crew.specs.declared.drill.Entry.{Entry}
-use Rattle.crew.specs.Hosts.{Account, Gains, at_place, places_below}
+use Rattle.outside.specs.Accounts.{Account, Gains}
+use Rattle.crew.specs.Hosts.{at_place, places_below}
 use Rattle.crew.proofs.Accounts.{gains_on, gains_nothing}
 use Rattle.forest_run.specs.inner.Asking.{LetThrough}
 

@@ -9,7 +9,7 @@ use Rattle.crew.specs.declared.drill.Entry.{Entry}
 use Rattle.crew.specs.declared.attempts.Attempt.{Attempt}
 use Rattle.crew.specs.declared.attempts.Attempt.TheVariants.{Made, Down}
 use Rattle.crew.specs.Attempts.{IsMadeOf, MatchAttempt, Ran, StoppedDown, StoppedEarly}
-use Rattle.crew.specs.Hosts.{Account}
+use Rattle.outside.specs.Accounts.{Account}
 use Rattle.forest_steps.specs.Fresh.{none_given}
 use Rattle.forest_steps.specs.Places.{outputs_in, sizes_in}
 use Rattle.forest_steps.specs.Running.{Given, Run, run, run_each}

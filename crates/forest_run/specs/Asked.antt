@@ -4,7 +4,7 @@ use Rattle.crew.specs.declared.drill.Entry.{Entry}
 use Rattle.crew.specs.declared.attempts.Attempt.{Attempt}
 use Rattle.crew.specs.declared.attempts.Attempt.TheVariants.{Made, Down}
 use Rattle.crew.specs.Attempts.{Ran, StoppedDown, StoppedEarly}
-use Rattle.crew.specs.Hosts.{Account}
+use Rattle.outside.specs.Accounts.{Account}
 
 -- for all its places, up to one that was refused, or up to want of memory
 abbrev pub Asked : {O E : Type 0} → Entry → ℕ → Account → Account → Result (Attempt O) E → Type 0

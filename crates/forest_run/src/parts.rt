@@ -4,7 +4,6 @@ ghost use Rattle.std.specs.Prelude.{◌≡◌, IfOk, OnOk, OnErr, Some, length};
 ghost use Rattle.std.specs.List.{AllByRecursion};
 ghost use Rattle.crew.specs.Attempts.{Ran, StoppedDown};
 ghost use Rattle.crew.specs.Drills.{attempt_at};
-ghost use Rattle.crew.specs.Hosts.{account};
 ghost use Rattle.exec_graph.specs.Forests.{numbered};
 ghost use Rattle.exec_plan.specs.Wellformed.{IsNumbered};
 ghost use Rattle.forest_courses.specs.Courses.{IsCourse};
@@ -30,9 +29,9 @@ pub fn ask_for<H: Host>(
     task: u32,
 ) -> Result<(), Down>
     ensures all { OnOk result (Ran (attempt_at spot.now task) (length elements.now)
-        (account H.notes H.losses host.old) (account H.notes H.losses host.new)) }
+        (H.account host.old) (H.account host.new)) }
     ensures down { OnErr result (StoppedDown (attempt_at spot.now task) (length elements.now)
-        (account H.notes H.losses host.old) (account H.notes H.losses host.new)) }
+        (H.account host.old) (H.account host.new)) }
 {
     let count = elements.len();
     match ask_all(host, spot, task, 0, count as u64 + 1) {

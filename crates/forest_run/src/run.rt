@@ -3,7 +3,6 @@ ghost use Rattle.std.specs.Prelude.{◌≡◌, ◌∷◌, [], ◌^◌, ◌<◌, 
 ghost use Rattle.std.specs.List.{AllByRecursion};
 ghost use Rattle.crew.specs.Attempts.{IsMadeOf};
 ghost use Rattle.crew.specs.Drills.{attempt_at};
-ghost use Rattle.crew.specs.Hosts.{account};
 ghost use Rattle.exec_graph.specs.Forests.{after};
 ghost use Rattle.exec_graph.specs.World.{World};
 ghost use Rattle.exec_plan.specs.Wellformed.{IsNumbered};
@@ -40,7 +39,7 @@ pub fn run_owned<F: Functions, H: Host>(
     ensures value { IfOk result (IsMadeOf
         (IsCourse (world_of (F.called functions.now)) does.now elements.items)) }
     ensures asked { Asked (attempt_at spot.now task) (length elements.items)
-        (account H.notes H.losses host.old) (account H.notes H.losses host.new) result }
+        (H.account host.old) (H.account host.new) result }
 {
     match does {
         None => run_whole(alloc, elements, host, spot, task),
@@ -79,7 +78,7 @@ fn run_whole<H: Host>(
 ) -> Result<Attempt<Course>, AllocError>
     ensures value { (w : World) → IfOk result (IsMadeOf (IsCourse w None elements.items)) }
     ensures asked { Asked (attempt_at spot.now task) (length elements.items)
-        (account H.notes H.losses host.old) (account H.notes H.losses host.new) result }
+        (H.account host.old) (H.account host.new) result }
 {
     let count = elements.len();
     let given = whole(alloc, elements)?;

@@ -2,7 +2,6 @@
 ghost use Rattle.std.specs.Prelude.{◌≡◌, ◌+◌, ◌≤◌, IfOk, length};
 ghost use Rattle.crew.specs.Attempts.{IsMadeOf};
 ghost use Rattle.crew.specs.Drills.{attempt_at};
-ghost use Rattle.crew.specs.Hosts.{account};
 ghost use Rattle.forest_steps.specs.Turns.{in_turn};
 ghost use Rattle.forest_run.specs.Asked.{Asked};
 ghost use Rattle.forest_run.specs.inner.Ends.{IsRest};
@@ -30,7 +29,7 @@ pub fn walk<E: Elements + Drop, H: Host>(
     requires { E.are_safe elements }
     ensures value { IfOk result (IsMadeOf (λ end. in_turn (E.turns elements) outputs ≡ end)) }
     ensures asked { Asked (attempt_at spot.now task) (length (E.turns elements))
-        (account H.notes H.losses host.old) (account H.notes H.losses host.new) result }
+        (H.account host.old) (H.account host.new) result }
 {
     match ask_all(host, spot, task, 0, 1) {
         Ok(()) => {}
@@ -65,7 +64,7 @@ fn trapped<H: Host>(
 ) -> Attempt<Course>
     requires { from ≤ to }
     ensures { IsRest (attempt_at spot.now task) trap from to
-        (account H.notes H.losses host.old) (account H.notes H.losses host.new) result }
+        (H.account host.old) (H.account host.new) result }
 {
     match ask_all(host, spot, task, from, to) {
         Ok(()) => Attempt::Made(Err(trap)),

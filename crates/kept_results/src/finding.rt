@@ -24,13 +24,13 @@ pub fn find_saved<C: Cache>(
     cache: &mut C,
 ) -> Result<Option<Saved>, AllocError>
     requires { number < length program.now.script.nodes }
-    ensures entries { C.entries cache.new ≡ C.entries cache.old }
-    ensures later { C.faults cache.old ≤ C.faults cache.new }
+    ensures entries { (C.seen cache.new).entries ≡ (C.seen cache.old).entries }
+    ensures later { (C.seen cache.old).faults ≤ (C.seen cache.new).faults }
     ensures kept { IfOk result (λ found. IfSome found (IsKeptOf program.now.script number)) }
-    ensures found { IfSome (C.entries cache.old) (λ entries. IfOk result (λ found.
+    ensures found { IfSome (C.seen cache.old).entries (λ entries. IfOk result (λ found.
         IfSome found (IsFound program.now.script number key.now entries))) }
-    ensures finds { IfSome (C.entries cache.old) (λ entries.
-        (Rose (C.faults cache.old) (C.faults cache.new) → ⊥) →
+    ensures finds { IfSome (C.seen cache.old).entries (λ entries.
+        (Rose (C.seen cache.old).faults (C.seen cache.new).faults → ⊥) →
         IfOk result (Finds program.now.script number key.now entries)) }
 {
     match cache.find(alloc, key) {
@@ -49,14 +49,14 @@ pub fn find_each<C: Cache>(
     cache: &mut C,
 ) -> Result<Vec<Option<Saved>>, AllocError>
     requires { All (λ it. it.0 < length program.now.script.nodes) asked.now }
-    ensures entries { C.entries cache.new ≡ C.entries cache.old }
-    ensures later { C.faults cache.old ≤ C.faults cache.new }
+    ensures entries { (C.seen cache.new).entries ≡ (C.seen cache.old).entries }
+    ensures later { (C.seen cache.old).faults ≤ (C.seen cache.new).faults }
     ensures kept { IfOk result (λ looked.
         AreKept program.now.script asked.now looked.items) }
-    ensures found { IfSome (C.entries cache.old) (λ entries. IfOk result (λ looked.
+    ensures found { IfSome (C.seen cache.old).entries (λ entries. IfOk result (λ looked.
         AreFound program.now.script entries asked.now looked.items)) }
-    ensures finds { IfSome (C.entries cache.old) (λ entries.
-        (Rose (C.faults cache.old) (C.faults cache.new) → ⊥) → IfOk result (λ looked.
+    ensures finds { IfSome (C.seen cache.old).entries (λ entries.
+        (Rose (C.seen cache.old).faults (C.seen cache.new).faults → ⊥) → IfOk result (λ looked.
         FindsEach program.now.script entries asked.now looked.items)) }
 {
     let mut looked = Vec::new(alloc);
@@ -74,14 +74,14 @@ fn find_next<C: Cache>(
     cache: &mut C,
 ) -> Result<Option<Saved>, AllocError>
     requires { one.now.0 < length program.now.script.nodes }
-    ensures entries { C.entries cache.new ≡ C.entries cache.old }
-    ensures later { C.faults cache.old ≤ C.faults cache.new }
+    ensures entries { (C.seen cache.new).entries ≡ (C.seen cache.old).entries }
+    ensures later { (C.seen cache.old).faults ≤ (C.seen cache.new).faults }
     ensures kept { IfOk result (λ found.
         IfSome found (IsKeptOf program.now.script one.now.0)) }
-    ensures found { IfSome (C.entries cache.old) (λ entries. IfOk result (λ found.
+    ensures found { IfSome (C.seen cache.old).entries (λ entries. IfOk result (λ found.
         IfSome found (IsFound program.now.script one.now.0 one.now.1 entries))) }
-    ensures finds { IfSome (C.entries cache.old) (λ entries.
-        (Rose (C.faults cache.old) (C.faults cache.new) → ⊥) →
+    ensures finds { IfSome (C.seen cache.old).entries (λ entries.
+        (Rose (C.seen cache.old).faults (C.seen cache.new).faults → ⊥) →
         IfOk result (Finds program.now.script one.now.0 one.now.1 entries)) }
 {
     find_saved(alloc, program, one.0 as usize, one.1.as_bytes(), cache)

@@ -35,12 +35,12 @@ pub fn kept_bytes(
 /// Puts these values under their keys, one after the other. Where the cache fails a value is not
 /// kept, and the others are.
 pub fn keep_each<C: Cache>(kept: &[CacheEntry], cache: &mut C)
-    ensures later { C.faults cache.old ≤ C.faults cache.new }
-    ensures told { is_some (C.entries cache.new) ≡ is_some (C.entries cache.old) }
-    ensures all { IfSome (C.entries cache.old) (λ entries.
-        (Rose (C.faults cache.old) (C.faults cache.new) → ⊥) →
-        C.entries cache.new ≡ Some (with_entries entries kept.now)) }
-    ensures some { IfSome (C.entries cache.old) (λ entries. IfSome (C.entries cache.new)
+    ensures later { (C.seen cache.old).faults ≤ (C.seen cache.new).faults }
+    ensures told { is_some (C.seen cache.new).entries ≡ is_some (C.seen cache.old).entries }
+    ensures all { IfSome (C.seen cache.old).entries (λ entries.
+        (Rose (C.seen cache.old).faults (C.seen cache.new).faults → ⊥) →
+        (C.seen cache.new).entries ≡ Some (with_entries entries kept.now)) }
+    ensures some { IfSome (C.seen cache.old).entries (λ entries. IfSome (C.seen cache.new).entries
         (WereKept entries kept.now)) }
 {
     for entry in kept {
@@ -50,10 +50,10 @@ pub fn keep_each<C: Cache>(kept: &[CacheEntry], cache: &mut C)
 
 // Keeps one of them.
 fn keep_one<C: Cache>(entry: &CacheEntry, cache: &mut C) -> Result<(), Failed>
-    ensures entries { C.entries cache.new ≡ (if is_ok result
+    ensures entries { (C.seen cache.new).entries ≡ (if is_ok result
         then option_map (λ entries. with_entry entries entry.now.key entry.now.value)
-        (C.entries cache.old) else C.entries cache.old) }
-    ensures cause { HasCause (C.faults cache.old) (C.faults cache.new) result }
+        (C.seen cache.old).entries else (C.seen cache.old).entries) }
+    ensures cause { HasCause (C.seen cache.old).faults (C.seen cache.new).faults result }
 {
     cache.keep(entry.key.as_bytes(), entry.value.as_bytes())
 }

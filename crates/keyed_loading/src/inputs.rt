@@ -6,7 +6,6 @@ ghost use Rattle.script_loading.specs.of_direct_meaning.Inputs.{AreInputs, input
 ghost use Rattle.flume_types.specs.Columns.{input_columns_of};
 ghost use Rattle.flume_types.specs.declared.types.Ty.{Ty};
 ghost use Rattle.outside.specs.Asked.{Asks, AsksFront};
-ghost use Rattle.outside.specs.Seen.{seen};
 ghost use Rattle.script_loading.specs.of_script_laws.WellFormed.{IsWellFormed};
 ghost use Rattle.script_loading.specs.Causes.{IsInputCause, IsInputsCause};
 ghost use Rattle.script_loading.specs.Loads.{AllHaveRows, HasRows, file_names};
@@ -44,20 +43,19 @@ pub fn keyed_inputs<R: Source>(
     requires well_formed { IsWellFormed program.now.script }
     requires written { HasNoSaved program.now.script }
     requires ready { IsReady program.now.script }
-    ensures files { R.files source.new ≡ R.files source.old }
+    ensures files { (R.seen source.new).files ≡ (R.seen source.old).files }
     ensures ok { IfOk result (λ it.
-        AllHaveRows (R.files source.old) (inputs_of program.now.script) it.rows) }
+        AllHaveRows (R.seen source.old).files (inputs_of program.now.script) it.rows) }
     ensures loaded { IfOk result (λ it.
-        AreFilesOf (R.files source.old) (inputs_of program.now.script) it.files) }
+        AreFilesOf (R.seen source.old).files (inputs_of program.now.script) it.files) }
     ensures typed { IfOk result (λ it. AreInputs program.now.script it.rows) }
-    ensures err { IfErr result (IsInputsCause tries (seen R.files R.faults source.old)
-        (seen R.files R.faults source.new) (inputs_of program.now.script)) }
-    ensures later { R.faults source.old ≤ R.faults source.new }
+    ensures err { IfErr result (IsInputsCause tries (R.seen source.old)
+        (R.seen source.new) (inputs_of program.now.script)) }
+    ensures later { (R.seen source.old).faults ≤ (R.seen source.new).faults }
     ensures asked { OnOk result (Asks tries (file_names (inputs_of program.now.script))
-        (seen R.asked R.faults source.old) (seen R.asked R.faults source.new)) }
-    ensures asked_front { OnErr result
-        (AsksFront tries (file_names (inputs_of program.now.script))
-        (seen R.asked R.faults source.old) (seen R.asked R.faults source.new)) }
+        (R.seen source.old) (R.seen source.new)) }
+    ensures asked_front { OnErr result (AsksFront tries (file_names (inputs_of program.now.script))
+        (R.seen source.old) (R.seen source.new)) }
 {
     inputs_law();
     let mut rows = Pile::new(alloc);
@@ -83,18 +81,18 @@ fn add_input<R: Source>(
     requires well_formed { IsWellFormed program.now.script }
     requires ready { IsReady program.now.script }
     requires within { number < length program.now.script.nodes }
-    requires read { HasRead (R.files source.old) program.now.script number rows.old }
-    requires loaded { HasLoaded (R.files source.old) program.now.script number files.old }
-    ensures files { R.files source.new ≡ R.files source.old }
+    requires read { HasRead (R.seen source.old).files program.now.script number rows.old }
+    requires loaded { HasLoaded (R.seen source.old).files program.now.script number files.old }
+    ensures files { (R.seen source.new).files ≡ (R.seen source.old).files }
     ensures read { OnOk result
-        (HasRead (R.files source.old) program.now.script (number + 1) rows.new) }
+        (HasRead (R.seen source.old).files program.now.script (number + 1) rows.new) }
     ensures loaded { OnOk result
-        (HasLoaded (R.files source.old) program.now.script (number + 1) files.new) }
-    ensures err { IfErr result (IsInputsCause tries (seen R.files R.faults source.old)
-        (seen R.files R.faults source.new) (inputs_of program.now.script)) }
-    ensures later { R.faults source.old ≤ R.faults source.new }
+        (HasLoaded (R.seen source.old).files program.now.script (number + 1) files.new) }
+    ensures err { IfErr result (IsInputsCause tries (R.seen source.old)
+        (R.seen source.new) (inputs_of program.now.script)) }
+    ensures later { (R.seen source.old).faults ≤ (R.seen source.new).faults }
     ensures asked { Asks tries (file_names (inputs_at program.now.script number))
-        (seen R.asked R.faults source.old) (seen R.asked R.faults source.new) }
+        (R.seen source.old) (R.seen source.new) }
 {
     if !program.is_needed(number) {
         return Ok(());
@@ -134,18 +132,17 @@ fn input_of<R: Source>(
 ) -> Result<(Items, File), Status>
     requires tries { 0 < tries }
     requires named { IsUtf8 file.now }
-    ensures files { R.files source.new ≡ R.files source.old }
+    ensures files { (R.seen source.new).files ≡ (R.seen source.old).files }
     ensures ok { IfOk result (λ it. (type : Ty) → input_columns_of type ≡ Some columns.now →
-        HasRows (R.files source.old) (record { file = file.now; type = type }) it.0) }
+        HasRows (R.seen source.old).files (record { file = file.now; type = type }) it.0) }
     ensures loaded { IfOk result (λ it. (type : Ty) →
-        IsFileOf (R.files source.old) (record { file = file.now; type = type }) it.1) }
+        IsFileOf (R.seen source.old).files (record { file = file.now; type = type }) it.1) }
     ensures err { IfErr result (λ status. (type : Ty) →
         input_columns_of type ≡ Some columns.now →
-        IsInputCause tries (seen R.files R.faults source.old) (seen R.files R.faults source.new)
+        IsInputCause tries (R.seen source.old) (R.seen source.new)
         (record { file = file.now; type = type }) status) }
-    ensures later { R.faults source.old ≤ R.faults source.new }
-    ensures asked { Asks tries (file.now ∷ []) (seen R.asked R.faults source.old)
-        (seen R.asked R.faults source.new) }
+    ensures later { (R.seen source.old).faults ≤ (R.seen source.new).faults }
+    ensures asked { Asks tries (file.now ∷ []) (R.seen source.old) (R.seen source.new) }
 {
     let Ok(name) = str::from_utf8(file.as_bytes()) else {
         unreachable!();

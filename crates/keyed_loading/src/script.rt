@@ -3,7 +3,6 @@ ghost use Rattle.std.specs.Prelude.{◌≡◌, ◌≤◌, ◌<◌, ◌∷◌, []
 ghost use Rattle.flume_tokens.specs.Tokens.{tokens_of};
 ghost use Rattle.flume_tokens.specs.declared.token.TokenList.{TokenList as Cut};
 ghost use Rattle.outside.specs.Asked.{Asks};
-ghost use Rattle.outside.specs.Seen.{seen};
 ghost use Rattle.script_loading.specs.of_script_laws.WellFormed.{IsWellFormed};
 ghost use Rattle.script_loading.specs.Causes.{IsScriptCause};
 ghost use Rattle.script_loading.specs.Ready.{IsReady};
@@ -43,18 +42,17 @@ pub fn keyed_script<R: Source>(
     tries: u32,
 ) -> Result<KeyedScript, Status>
     requires tries { 0 < tries }
-    ensures files { R.files source.new ≡ R.files source.old }
-    ensures ok { IfOk result (λ it. LoadsKeyed (R.files source.old) name.now it.program.script
+    ensures files { (R.seen source.new).files ≡ (R.seen source.old).files }
+    ensures ok { IfOk result (λ it. LoadsKeyed (R.seen source.old).files name.now it.program.script
         it.outlines it.texts) }
     ensures many { IfOk result (λ it. length it.texts ≡ length it.outlines) }
     ensures well_formed { IfOk result (λ it. IsWellFormed it.program.script) }
     ensures written { IfOk result (λ it. HasNoSaved it.program.script) }
     ensures ready { IfOk result (λ it. IsReady it.program.script) }
-    ensures err { IfErr result (IsScriptCause tries (seen R.files R.faults source.old)
-        (seen R.files R.faults source.new) name.now) }
-    ensures later { R.faults source.old ≤ R.faults source.new }
-    ensures asked { Asks tries (name.now ∷ []) (seen R.asked R.faults source.old)
-        (seen R.asked R.faults source.new) }
+    ensures err { IfErr result (IsScriptCause tries (R.seen source.old)
+        (R.seen source.new) name.now) }
+    ensures later { (R.seen source.old).faults ≤ (R.seen source.new).faults }
+    ensures asked { Asks tries (name.now ∷ []) (R.seen source.old) (R.seen source.new) }
 {
     let file = loaded(alloc, source, name, SCRIPT_LIMIT, tries)?;
     match script_in(alloc, file) {

@@ -1,7 +1,8 @@
 -- What a call of `make` promises, from what its answer says.
 use Rattle.std.proofs.Common.{◌⊎◌, ◌≡◌, ◌≤◌, ◌+◌, ℕ, false, List, refl, subst, inl, inr, arith}
 use Rattle.command_words.specs.declared.workload.Workload.{Workload}
-use Rattle.crew.specs.Hosts.{Account, HaveRisen}
+use Rattle.outside.specs.Accounts.{Account}
+use Rattle.crew.specs.Hosts.{HaveRisen}
 use Rattle.outside.specs.declared.host.Phase.{Phase}
 use Rattle.run_course.proofs.GivenUpLemmas.{risen_less}
 use Rattle.run_course.proofs.LeftLemmas.{begun_then, left_then, same_begun, same_left}
@@ -100,9 +101,8 @@ left w before after (PlanRefused step kind) none is = absurd is
 
 pub makes : (w : Workload) (before after : World) (status : Status)
     → Answers w before after status → Keeps before after → after.source ≡ before.source
-    → after.asked ≡ before.asked → AsksHosts w before.hosts after.hosts
-    → Makes w before after status
-makes w before after status answers kept source asked hosts =
+    → AsksHosts w before.hosts after.hosts → Makes w before after status
+makes w before after status answers kept source hosts =
     let when : (other : Status) → status ≡ other → Answers w before after other
     = λ other is. subst (λ (s : Status). Answers w before after s) is answers in
     record {
@@ -114,7 +114,6 @@ makes w before after status answers kept source asked hosts =
       only = only w before after status answers;
       complete = complete w before after status answers;
       source = source;
-      asked = asked;
       asked_hosts = hosts;
       kept = kept;
       ended = λ none. ended w before after status none answers;

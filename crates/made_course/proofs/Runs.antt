@@ -4,7 +4,7 @@ use Rattle.std.specs.Prelude.{Err, IfErr, IfOk, IsSomeAnd, Ok, Result}
 use Rattle.std.specs.List.{AllZip, Contains}
 use Rattle.std.specs.Option.{option_map}
 use Rattle.command_words.specs.declared.workload.Workload.{Workload}
-use Rattle.crew.specs.Hosts.{Account}
+use Rattle.outside.specs.Accounts.{Account}
 use Rattle.made_rows.specs.of_direct_meaning.Direct.{made_at, meaning, traps_of}
 use Rattle.made_rows.specs.of_direct_meaning.Inputs.{AreInputs}
 use Rattle.exec_plan.specs.declared.plan.Plan.{Plan}

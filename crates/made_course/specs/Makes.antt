@@ -47,7 +47,6 @@ pub record Makes (w : Workload) (before after : World) (status : Status) : Type 
   pub complete : CanMake before after → (status ≡ WantOfMemory) ⊎ (status ≡ Done)
   -- the source is asked for nothing
   pub source : after.source ≡ before.source
-  pub asked : after.asked ≡ before.asked
   -- what hosts were asked for: nothing, or some front of the phases of the plan of the sums
   pub asked_hosts : AsksHosts w before.hosts after.hosts
   -- no count of failures falls, and what hosts tell only grows

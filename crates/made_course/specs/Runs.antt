@@ -2,7 +2,7 @@
 use Rattle.std.specs.Prelude.{◌≡◌, ◌⊎◌, ℕ, List, [], ◌∷◌, drop}
 use Rattle.run_course.specs.of_build_law.Worlds.{script_world}
 use Rattle.command_words.specs.declared.workload.Workload.{Workload}
-use Rattle.crew.specs.Hosts.{Account}
+use Rattle.outside.specs.Accounts.{Account}
 use Rattle.exec_plan.specs.declared.plan.Plan.{Plan}
 use Rattle.outside.specs.declared.host.Phase.{Phase}
 use Rattle.plan_phases.specs.Told.{IsGivenUp}

@@ -1,8 +1,8 @@
 // The course of `make`: every growth comes first, then the files, then the screen.
-ghost use Rattle.std.specs.Prelude.{◌≡◌, ◌≤◌, IfErr, IfOk, List, Option, Some, ℕ, codes, drop, length, map, slice_get};
+ghost use Rattle.std.specs.Prelude.{◌≡◌, ◌≤◌, IfErr, IfOk, Some, codes, drop, length, map, slice_get};
 ghost use Rattle.std.specs.List.{AllZip};
 ghost use Rattle.command_words.specs.Workloads.{IsWithin};
-ghost use Rattle.crew.specs.Hosts.{Grew, account};
+ghost use Rattle.crew.specs.Hosts.{Grew};
 ghost use Rattle.made_course.specs.Files.{files_for, line_for, sums_for};
 ghost use Rattle.made_course.specs.Makes.{Makes};
 ghost use Rattle.made_course.specs.Runs.{AsksHosts, WasSummed};
@@ -10,8 +10,7 @@ ghost use Rattle.made_course.specs.inner.Stops.{IsStop};
 ghost use Rattle.made_rows.specs.Rows.{made_text};
 ghost use Rattle.made_rows.specs.Sums.{sums_script};
 ghost use Rattle.outside.specs.Saves.{output_file};
-ghost use Rattle.outside.specs.Seen.{Seen, seen, seen_shelf};
-ghost use Rattle.outside.specs.declared.file.File.{File};
+ghost use Rattle.outside.specs.Seen.{SeenSource};
 ghost use Rattle.run_course.specs.World.{world};
 ghost use Rattle.run_settings.specs.Settings.{standard};
 ghost use Rattle.made_rows.specs.of_script_laws.WellFormed.{IsWellFormed};
@@ -42,13 +41,9 @@ pub fn make<X: Threads + Sync, H: Host + Send, K: Shelf, P: Screen>(
 ) -> Status
     requires within { IsWithin workload }
     requires sixteen { length hosts.old ≡ 16 }
-    ensures promises { (source : Seen (List File)) (asked : Option (List (List ℕ))) →
-        Makes workload
-        (world source asked (seen_shelf K.files K.begun K.left K.faults shelf.old)
-        (seen P.text P.faults screen.old) (map (account H.notes H.losses) hosts.old))
-        (world source asked (seen_shelf K.files K.begun K.left K.faults shelf.new)
-        (seen P.text P.faults screen.new) (map (account H.notes H.losses) hosts.new))
-        result }
+    ensures promises { (source : SeenSource) → Makes workload
+        (world source (K.seen shelf.old) (P.seen screen.old) (map H.account hosts.old))
+        (world source (K.seen shelf.new) (P.seen screen.new) (map H.account hosts.new)) result }
     ensures hosts { drop standard.workers hosts.new ≡ drop standard.workers hosts.old }
 {
     match prepare(rt, alloc, workload, hosts) {
@@ -72,13 +67,11 @@ fn prepare<X: Threads + Sync, H: Host + Send>(
     ensures files { IfOk result (λ it. map output_file it.outputs.items ≡ files_for workload) }
     ensures line { IfOk result (λ it. it.screen.items ≡ line_for workload) }
     ensures ran { IfOk result (λ it. WasSummed workload
-        (map (account H.notes H.losses) hosts.old) (map (account H.notes H.losses) hosts.new)) }
-    ensures stop { IfErr result (IsStop workload (map (account H.notes H.losses) hosts.old)
-        (map (account H.notes H.losses) hosts.new)) }
-    ensures asked { AsksHosts workload (map (account H.notes H.losses) hosts.old)
-        (map (account H.notes H.losses) hosts.new) }
-    ensures grew { AllZip Grew (map (account H.notes H.losses) hosts.old)
-        (map (account H.notes H.losses) hosts.new) }
+        (map H.account hosts.old) (map H.account hosts.new)) }
+    ensures stop { IfErr result (IsStop workload (map H.account hosts.old)
+        (map H.account hosts.new)) }
+    ensures asked { AsksHosts workload (map H.account hosts.old) (map H.account hosts.new) }
+    ensures grew { AllZip Grew (map H.account hosts.old) (map H.account hosts.new) }
     ensures hosts { drop standard.workers hosts.new ≡ drop standard.workers hosts.old }
 {
     let program = sums_ready(alloc)?;
@@ -101,13 +94,11 @@ fn summed<X: Threads + Sync, H: Host + Send>(
     ensures files { IfOk result (λ it. map output_file it.outputs.items ≡ files_for workload) }
     ensures line { IfOk result (λ it. it.screen.items ≡ line_for workload) }
     ensures ran { IfOk result (λ it. WasSummed workload
-        (map (account H.notes H.losses) hosts.old) (map (account H.notes H.losses) hosts.new)) }
-    ensures stop { IfErr result (IsStop workload (map (account H.notes H.losses) hosts.old)
-        (map (account H.notes H.losses) hosts.new)) }
-    ensures asked { AsksHosts workload (map (account H.notes H.losses) hosts.old)
-        (map (account H.notes H.losses) hosts.new) }
-    ensures grew { AllZip Grew (map (account H.notes H.losses) hosts.old)
-        (map (account H.notes H.losses) hosts.new) }
+        (map H.account hosts.old) (map H.account hosts.new)) }
+    ensures stop { IfErr result (IsStop workload (map H.account hosts.old)
+        (map H.account hosts.new)) }
+    ensures asked { AsksHosts workload (map H.account hosts.old) (map H.account hosts.new) }
+    ensures grew { AllZip Grew (map H.account hosts.old) (map H.account hosts.new) }
     ensures hosts { drop standard.workers hosts.new ≡ drop standard.workers hosts.old }
 {
     match sums_run(rt, alloc, program, workload, hosts) {

@@ -2,7 +2,7 @@
 ghost use Rattle.std.specs.Prelude.{◌≡◌, ◌∷◌, [], IfOk, drop, length, map};
 ghost use Rattle.std.specs.List.{AllZip};
 ghost use Rattle.command_words.specs.Workloads.{IsWithin};
-ghost use Rattle.crew.specs.Hosts.{Grew, account};
+ghost use Rattle.crew.specs.Hosts.{Grew};
 ghost use Rattle.made_course.specs.Files.{rows_of};
 ghost use Rattle.made_course.specs.Runs.{AsksHosts};
 ghost use Rattle.made_course.specs.inner.Stops.{ComesTo};
@@ -50,12 +50,9 @@ pub fn sums_run<X: Threads + Sync, H: Host + Send>(
     requires ready { IsReady program.now.script }
     requires within { IsWithin workload }
     requires sixteen { length hosts.old ≡ 16 }
-    ensures comes { ComesTo workload (map (account H.notes H.losses) hosts.old)
-        (map (account H.notes H.losses) hosts.new) result }
-    ensures asked { AsksHosts workload (map (account H.notes H.losses) hosts.old)
-        (map (account H.notes H.losses) hosts.new) }
-    ensures grew { AllZip Grew (map (account H.notes H.losses) hosts.old)
-        (map (account H.notes H.losses) hosts.new) }
+    ensures comes { ComesTo workload (map H.account hosts.old) (map H.account hosts.new) result }
+    ensures asked { AsksHosts workload (map H.account hosts.old) (map H.account hosts.new) }
+    ensures grew { AllZip Grew (map H.account hosts.old) (map H.account hosts.new) }
     ensures hosts { drop standard.workers hosts.new ≡ drop standard.workers hosts.old }
 {
     let plan = sums_plan(alloc, program)?;
@@ -90,12 +87,9 @@ fn plan_run<X: Threads + Sync, H: Host + Send>(
     requires of_script { IsPlanOf program.now.script plan.now }
     requires within { IsWithin workload }
     requires sixteen { length hosts.old ≡ 16 }
-    ensures comes { ComesTo workload (map (account H.notes H.losses) hosts.old)
-        (map (account H.notes H.losses) hosts.new) result }
-    ensures asked { AsksHosts workload (map (account H.notes H.losses) hosts.old)
-        (map (account H.notes H.losses) hosts.new) }
-    ensures grew { AllZip Grew (map (account H.notes H.losses) hosts.old)
-        (map (account H.notes H.losses) hosts.new) }
+    ensures comes { ComesTo workload (map H.account hosts.old) (map H.account hosts.new) result }
+    ensures asked { AsksHosts workload (map H.account hosts.old) (map H.account hosts.new) }
+    ensures grew { AllZip Grew (map H.account hosts.old) (map H.account hosts.new) }
     ensures hosts { drop standard.workers hosts.new ≡ drop standard.workers hosts.old }
 {
     made_rows_law();

@@ -2,7 +2,7 @@
 use Rattle.std.proofs.Common.{◌+◌, ℕ, arith}
 use Rattle.crew.specs.declared.drill.Entry.{Entry}
 use Rattle.crew.specs.Attempts.{Ran, StoppedEarly}
-use Rattle.crew.specs.Hosts.{Account}
+use Rattle.outside.specs.Accounts.{Account}
 
 -- what ends behind all of them has ended early
 pub early_behind : (e : Entry) (places : ℕ) (a b : Account) → Ran e places a b

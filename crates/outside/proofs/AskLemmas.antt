@@ -3,14 +3,11 @@ use Rattle.std.proofs.Common.{◌≡◌, ℕ, suc, ◌+◌, ◌-◌, ◌<◌, �
 use Rattle.std.proofs.lemmas.List.{length-append, length-replicate, replicate_more}
 use Rattle.outside.specs.Asked.{AreTries, Asks, AsksFront}
 use Rattle.outside.specs.Cause.{RoseBy}
-use Rattle.outside.specs.Seen.{Seen}
+use Rattle.outside.specs.Seen.{SeenSource}
 use Rattle.outside.specs.Told.{WhileTold}
 
 abbrev Names : Type 0
 Names = List (List ℕ)
-
-abbrev pub SeenAsks : Type 0
-SeenAsks = Seen (List (List ℕ))
 
 -- ---- the tries of one file
 
@@ -28,11 +25,11 @@ asked_more count name (Some old) (Some it) (Some now) first second =
     ∙ ap (λ l. old ++ l) (replicate_more count name)))
 
 -- the same name so often is a file's tries
-all_tries : (tries count : ℕ) (name : List ℕ) (before after : SeenAsks) → 0 < count
+all_tries : (tries count : ℕ) (name : List ℕ) (before after : SeenSource) → 0 < count
     → count ≤ tries
-    → WhileTold before.told after.told (λ old now. now ≡ old ++ replicate count name)
+    → WhileTold before.asked after.asked (λ old now. now ≡ old ++ replicate count name)
     → RoseBy (count - 1) before.faults after.faults → Asks tries (name ∷ []) before after
-all_tries tries count name before after some few asked rose = by before.told after.told asked
+all_tries tries count name before after some few asked rose = by before.asked after.asked asked
   where
     again : RoseBy (length (replicate count name) - 1) before.faults after.faults
     again = rw (length-replicate count name) rose
@@ -52,15 +49,15 @@ all_tries tries count name before after some few asked rose = by before.told aft
     )
 
 -- so many tries failed, and the next one is the last
-pub last_try : (tries count : ℕ) (name : List ℕ) (before middle after : SeenAsks)
+pub last_try : (tries count : ℕ) (name : List ℕ) (before middle after : SeenSource)
     → count < tries
-    → WhileTold before.told middle.told (λ old now. now ≡ old ++ replicate count name)
+    → WhileTold before.asked middle.asked (λ old now. now ≡ old ++ replicate count name)
     → RoseBy count before.faults middle.faults
-    → WhileTold middle.told after.told (λ old now. now ≡ old ++ name ∷ [])
+    → WhileTold middle.asked after.asked (λ old now. now ≡ old ++ name ∷ [])
     → middle.faults ≤ after.faults → Asks tries (name ∷ []) before after
 last_try tries count name before middle after within asked rose more later =
     all_tries tries (count + 1) name before after (omega arith) (omega arith)
-    (asked_more count name before.told middle.told after.told asked more)
+    (asked_more count name before.asked middle.asked after.asked asked more)
     (rose_on count before.faults middle.faults after.faults rose later)
   where
     rose_on : (n a b c : ℕ) → RoseBy n a b → b ≤ c → RoseBy (n + 1 - 1) a c
@@ -69,8 +66,8 @@ last_try tries count name before middle after within asked rose more later =
 -- ---- several files
 
 -- nothing was asked for
-pub asks_none : (tries : ℕ) (it : SeenAsks) → Asks tries [] it it
-asks_none tries it = by it.told
+pub asks_none : (tries : ℕ) (it : SeenSource) → Asks tries [] it it
+asks_none tries it = by it.asked
   where
     by : (told : Option Names)
         → WhileTold told told (λ x y. (asked : Names) × (y ≡ x ++ asked)
@@ -119,10 +116,10 @@ Told tries all one other old now = WhileTold old now (λ x y.
     × RoseBy (length asked - length all) one other)
 
 -- first these, and then those
-pub asks_both : (tries : ℕ) (names others : Names) (before middle after : SeenAsks)
+pub asks_both : (tries : ℕ) (names others : Names) (before middle after : SeenSource)
     → Asks tries names before middle → Asks tries others middle after
     → Asks tries (names ++ others) before after
-asks_both tries names others before middle after = by before.told middle.told after.told
+asks_both tries names others before middle after = by before.asked middle.asked after.asked
   where
     by : (old it now : Option Names) → Told tries names before.faults middle.faults old it
         → Told tries others middle.faults after.faults it now
@@ -144,7 +141,7 @@ asks_both tries names others before middle after = by before.told middle.told af
           subst (λ (n : ℕ). RoseBy n before.faults after.faults) sums rose,
         )
 
-pub asks_front : (tries : ℕ) (names front behind : Names) (before after : SeenAsks)
+pub asks_front : (tries : ℕ) (names front behind : Names) (before after : SeenSource)
     → names ≡ front ++ behind → Asks tries front before after
     → AsksFront tries names before after
 asks_front tries names front behind before after is asks = (front, behind, is, asks)

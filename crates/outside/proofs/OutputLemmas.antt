@@ -79,7 +79,7 @@ module _ (outputs : List Output) (k : ℕ) (o : Output) (below : k < length outp
   pub one_more : (s m n : SeenShelf) → HasFiles (map output_file (take k outputs)) s m
       → HasFiles (output_file o ∷ []) m n → HasFiles (map output_file (take (k + 1) outputs)) s n
   one_more s m n before this = record {
-    told = files_step s.told m.told n.told before.told this.told;
+    told = files_step s.files m.files n.files before.told this.told;
     begun = begun_step s.begun n.begun this.begun;
     left = left_step s.begun m.begun s.left m.left n.left before.begun before.left this.left;
     faults = this.faults ∙ before.faults;
@@ -106,7 +106,7 @@ module _ (outputs : List Output) (k : ℕ) (o : Output) (below : k < length outp
       = omega (arith, length-map outputs output_file, below) in
       record {
         within = within;
-        told = cut_at s.told m.told n.told before.told this.told;
+        told = cut_at s.files m.files n.files before.told this.told;
         left = this.left ∙ rw (before.begun, before.left, ← take-map output_file k outputs)
             (left_after-cut (map output_file outputs) k s.begun s.left within);
         faults = subst (λ (c : ℕ). Rose c n.faults) before.faults this.faults;

@@ -7,7 +7,7 @@ use Rattle.std.proofs.Math.Seq.{drop-cons, take-append-add}
 use Rattle.std.specs.List.{flat_map}
 use Rattle.outside.specs.Cause.{Rose}
 use Rattle.outside.specs.Says.{HasFront, HasLine, Says}
-use Rattle.outside.specs.Seen.{Seen}
+use Rattle.outside.specs.Seen.{SeenScreen}
 use Rattle.outside.specs.Told.{WhereTold}
 
 -- the front of a piece, behind the pieces before it, is a front of the whole
@@ -55,11 +55,11 @@ front_longer (Some old) (Some new) a b front
           ∙ ap (λ text. old ++ text) (sym (take-append-le front.0 a b (omega (arith, front.1)))),
     )
 
-pub says_both : {T U E : Type 0} (a b : List ℕ) (before middle after : Seen (List ℕ)) (x : T)
+pub says_both : {T U E : Type 0} (a b : List ℕ) (before middle after : SeenScreen) (x : T)
     (r : Result U E) → Says {T = T} {E = E} a before middle (Ok x) → Says b middle after r
     → Says (a ++ b) before after r
 says_both a b before middle after x (Ok y) first second = record {
-  ok = told_both before.told middle.told after.told a b first.ok second.ok;
+  ok = told_both before.text middle.text after.text a b first.ok second.ok;
   err = tt;
   cause = record {
     later = omega (arith, first.cause.later, second.cause.later);
@@ -69,7 +69,7 @@ says_both a b before middle after x (Ok y) first second = record {
 }
 says_both a b before middle after x (Err e) first second = record {
   ok = tt;
-  err = front_behind before.told middle.told after.told a b first.ok second.err;
+  err = front_behind before.text middle.text after.text a b first.ok second.err;
   cause = record {
     later = omega (arith, first.cause.later, second.cause.later);
     ok = tt;
@@ -77,13 +77,13 @@ says_both a b before middle after x (Err e) first second = record {
   };
 }
 
-pub says_cut : {T U D E : Type 0} (a b : List ℕ) (before after : Seen (List ℕ)) (e : E)
+pub says_cut : {T U D E : Type 0} (a b : List ℕ) (before after : SeenScreen) (e : E)
     (r : Result U D) → is_err r ≡ true → Says {T = T} {E = E} a before after (Err e)
     → Says (a ++ b) before after r
 says_cut a b before after e (Ok y) wrong first = absurd (cc)
 says_cut a b before after e (Err f) is first = record {
   ok = tt;
-  err = front_longer before.told after.told a b first.err;
+  err = front_longer before.text after.text a b first.err;
   cause = record { later = first.cause.later; ok = tt; failed = first.cause.failed };
 }
 
@@ -96,7 +96,7 @@ parts_at f xs i d below =
 
 -- the parts before a place are said, and the part there is cut short
 pub cut_at : {X T U V E : Type 0} (f : X → List ℕ) (xs : List X) (i : ℕ) (d : X)
-    (before middle after : Seen (List ℕ)) (x : T) (e : E) (r : Result U E)
+    (before middle after : SeenScreen) (x : T) (e : E) (r : Result U E)
     → i < length xs → is_err r ≡ true → Says {T = T} {E = E} (flat_map f (take i xs)) before middle
     (Ok x) → Says {T = V} {E = E} (f (get_or xs i d)) middle after (Err e)
     → Says (flat_map f xs) before after r
@@ -107,13 +107,13 @@ cut_at f xs i d before middle after x e r below is so_far cut =
     (says_cut (f (get_or xs i d)) (flat_map f (drop (suc i) xs)) middle after e r is cut))
 
 -- what is said of a text is said of one that equals it
-pub says_as : {T E : Type 0} (b a : List ℕ) (before after : Seen (List ℕ)) (r : Result T E) → b ≡ a
+pub says_as : {T E : Type 0} (b a : List ℕ) (before after : SeenScreen) (r : Result T E) → b ≡ a
     → Says a before after r → Says b before after r
 says_as b a before after r same said = subst (λ (text : List ℕ). Says text before after r)
     (sym same) said
 
 -- what a line leaves, whatever became of it
-pub has_line : {T E : Type 0} (line : List ℕ) (before after : Seen (List ℕ)) (r : Result T E)
+pub has_line : {T E : Type 0} (line : List ℕ) (before after : SeenScreen) (r : Result T E)
     → Says line before after r → HasLine line before after
 has_line line before after (Ok x) said = inl (said.ok, said.cause.ok)
 has_line line before after (Err e) said = inr (said.err, said.cause.failed)

@@ -1,3 +1,4 @@
+pub mod Accounts
 pub mod Asked
 pub mod Begun
 pub mod Calls

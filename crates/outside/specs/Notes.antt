@@ -1,5 +1,6 @@
 -- What a host notes of the places that it is asked for.
-use Rattle.std.specs.Prelude.{ℕ, ◌+◌, ltb, List, [], ◌∷◌, ◌++◌, length, Bool, true, ◌&&◌, if◌then◌else◌, Option, Some, None}
+use Rattle.std.specs.Prelude.{ℕ, ◌+◌, ltb, List, [], ◌∷◌, ◌++◌, length, Bool, true, ◌&&◌, if◌then◌else◌}
+use Rattle.outside.specs.Accounts.{Account}
 use Rattle.outside.specs.declared.host.At.{At}
 use Rattle.outside.specs.Cause.{raised}
 
@@ -32,9 +33,14 @@ abbrev pub new_host : List At → ℕ → HostInMemory
 new_host down_at room =
     record { down_at = down_at; notes = no_notes; room = room; tells = true; losses = 0 }
 
--- what it tells: its notes, while it tells
-abbrev pub told_by : HostInMemory → Option Notes
-told_by host = if host.tells then Some host.notes else None
+-- its account: what it has noted, while it tells
+abbrev pub account_of : HostInMemory → Account
+account_of host = record {
+  losses = host.losses;
+  tells = host.tells;
+  passed = host.notes.passed;
+  downs = host.notes.downs;
+}
 
 -- one note more fits
 abbrev pub has_room : HostInMemory → Bool

@@ -15,7 +15,7 @@ output_file output = record { name = output.name; bytes = output.text.items }
 
 -- The shelf has got these files, each of them whole and ended, and has not failed.
 pub record HasFiles (files : List File) (before after : SeenShelf) : Type 0 where
-  pub told : after.told ≡ option_map (λ old. with_files old files) before.told
+  pub told : after.files ≡ option_map (λ old. with_files old files) before.files
   pub begun : after.begun ≡ begun_after files before.begun
   pub left : after.left ≡ left_after files before.begun before.left
   pub faults : after.faults ≡ before.faults
@@ -33,6 +33,6 @@ IsCutAt place files old new = IfSome (slice_get files place) (λ file.
 -- The shelf failed at the file of this place; those before it are whole and ended.
 pub record FailsAt (place : ℕ) (files : List File) (before after : SeenShelf) : Type 0 where
   pub within : place < length files
-  pub told : WhereTold before.told after.told (IsCutAt place files)
+  pub told : WhereTold before.files after.files (IsCutAt place files)
   pub left : after.left ≡ left_after files before.begun before.left
   pub faults : Rose before.faults after.faults

@@ -1,7 +1,7 @@
 // What is asked of a worker's machine, and the real one, which is never down.
-ghost use Rattle.std.specs.Prelude.{None, ◌≡◌, ℕ, Option, is_ok, IfSome, IsSomeAnd};
+ghost use Rattle.std.specs.Prelude.{◌≡◌, [], ◌∷◌, OnOk, OnErr};
+ghost use Rattle.outside.specs.Accounts.{Account, Gains, calm};
 ghost use Rattle.outside.specs.Cause.{HasCause};
-ghost use Rattle.outside.specs.Notes.{Notes, noted};
 
 /// The half of a stage: first all map tasks, then all reduce tasks.
 #[derive(Clone, Copy, PartialEq, Eq)]
@@ -35,20 +35,18 @@ pub struct Down;
 /// A worker's machine, which lets each attempt go on from place to place, or is down. Whoever lends
 /// hosts to workers in threads of their own asks for `Host + Send`.
 pub trait Host {
-    /// What the host let through and what it refused, where it tells that.
-    ghost notes: { Self → Option Notes };
-
-    /// How often the host has been down. The count never falls.
-    ghost losses: { Self → ℕ };
+    /// How often the host has been down, and while it tells more, what it let through and what it
+    /// refused.
+    ghost account: { Self → Account };
 
     /// Asks whether the attempt may go on.
     ///
     /// A host that tells after the call told before it, and has noted this place: as passed, or
     /// where it is down among its downs. Down comes only where the count rose.
     fn pass(&mut self, at: At) -> Result<(), Down>
-        ensures notes { IfSome (notes self.new) (λ new.
-            IsSomeAnd (notes self.old) (λ old. new ≡ noted old at (is_ok result))) }
-        ensures cause { HasCause (losses self.old) (losses self.new) result };
+        ensures through { OnOk result (Gains (account self.old) (account self.new) (at ∷ []) []) }
+        ensures refused { OnErr result (Gains (account self.old) (account self.new) [] (at ∷ [])) }
+        ensures cause { HasCause (account self.old).losses (account self.new).losses result };
 }
 
 /// The real host: it is never down, has no loss and tells nothing.
@@ -56,9 +54,7 @@ pub trait Host {
 pub struct CalmHost;
 
 impl Host for CalmHost {
-    ghost notes = { λ _. None };
-
-    ghost losses = { λ _. 0 };
+    ghost account = { λ _. calm };
 
     fn pass(&mut self, _at: At) -> Result<(), Down> {
         Ok(())

@@ -4,7 +4,6 @@ ghost use Rattle.outside.specs.Asked.{Asks};
 ghost use Rattle.outside.specs.Cause.{Rose, RoseBy};
 ghost use Rattle.outside.specs.Files.{bytes_of};
 ghost use Rattle.outside.specs.Load.{fault_of};
-ghost use Rattle.outside.specs.Seen.{seen};
 ghost use Rattle.outside.specs.Told.{WhileTold};
 ghost use Rattle.outside.specs.declared.loads.LoadFault.TheVariants.{Missing, Failed as LoadFailed, Memory};
 
@@ -64,23 +63,20 @@ pub fn load_tried<S: Source>(
     tries: u32,
 ) -> Result<Pieces, LoadFault>
     requires tries { 0 < tries }
-    ensures files { S.files source.new ≡ S.files source.old }
-    ensures asked { Asks tries (name.now ∷ []) (seen S.asked S.faults source.old)
-        (seen S.asked S.faults source.new) }
+    ensures files { (S.seen source.new).files ≡ (S.seen source.old).files }
+    ensures asked { Asks tries (name.now ∷ []) (S.seen source.old) (S.seen source.new) }
     ensures within { IfOk result (λ bytes. length bytes ≤ limit) }
-    ensures bytes { IfSome (S.files source.old) (λ files.
+    ensures bytes { IfSome (S.seen source.old).files (λ files.
         IfOk result (λ bytes. bytes_of files name.now ≡ Some bytes)) }
-    ensures missing { IfSome (S.files source.old) (λ files.
+    ensures missing { IfSome (S.seen source.old).files (λ files.
         IsErrOf result LoadFault.Missing ↔ (bytes_of files name.now ≡ None)) }
-    ensures too_long { IfSome (S.files source.old) (λ files.
-        IsErrOf result LoadFault.TooLong →
+    ensures too_long { IfSome (S.seen source.old).files (λ files. IsErrOf result LoadFault.TooLong →
         IsSomeAnd (bytes_of files name.now) (λ bytes. limit < length bytes)) }
-    ensures left { IfSome (S.files source.old) (λ files.
-        IsErrOf result LoadFault.TooLong → IfSome (bytes_of files name.now)
-        (λ bytes. S.rest source.new ≡ drop (limit + 1) bytes)) }
-    ensures later { S.faults source.old ≤ S.faults source.new }
+    ensures left { IfSome (S.seen source.old).files (λ files. IsErrOf result LoadFault.TooLong →
+        IfSome (bytes_of files name.now) (λ bytes. S.rest source.new ≡ drop (limit + 1) bytes)) }
+    ensures later { (S.seen source.old).faults ≤ (S.seen source.new).faults }
     ensures failed { IsErrOf result LoadFault.Failed →
-        RoseBy tries (S.faults source.old) (S.faults source.new) }
+        RoseBy tries (S.seen source.old).faults (S.seen source.new).faults }
 {
     for _turn in 0..tries {
         match load(alloc, source, name, limit) {
@@ -103,23 +99,21 @@ pub fn load<S: Source>(
     name: &str,
     limit: u64,
 ) -> Result<Pieces, LoadFault>
-    ensures files { S.files source.new ≡ S.files source.old }
-    ensures asked { WhileTold (S.asked source.old) (S.asked source.new)
+    ensures files { (S.seen source.new).files ≡ (S.seen source.old).files }
+    ensures asked { WhileTold (S.seen source.old).asked (S.seen source.new).asked
         (λ old new. new ≡ old ++ name.now ∷ []) }
     ensures within { IfOk result (λ bytes. length bytes ≤ limit) }
-    ensures bytes { IfSome (S.files source.old) (λ files.
+    ensures bytes { IfSome (S.seen source.old).files (λ files.
         IfOk result (λ bytes. bytes_of files name.now ≡ Some bytes)) }
-    ensures missing { IfSome (S.files source.old) (λ files.
+    ensures missing { IfSome (S.seen source.old).files (λ files.
         IsErrOf result LoadFault.Missing ↔ (bytes_of files name.now ≡ None)) }
-    ensures too_long { IfSome (S.files source.old) (λ files.
-        IsErrOf result LoadFault.TooLong →
+    ensures too_long { IfSome (S.seen source.old).files (λ files. IsErrOf result LoadFault.TooLong →
         IsSomeAnd (bytes_of files name.now) (λ bytes. limit < length bytes)) }
-    ensures left { IfSome (S.files source.old) (λ files.
-        IsErrOf result LoadFault.TooLong → IfSome (bytes_of files name.now)
-        (λ bytes. S.rest source.new ≡ drop (limit + 1) bytes)) }
-    ensures later { S.faults source.old ≤ S.faults source.new }
+    ensures left { IfSome (S.seen source.old).files (λ files. IsErrOf result LoadFault.TooLong →
+        IfSome (bytes_of files name.now) (λ bytes. S.rest source.new ≡ drop (limit + 1) bytes)) }
+    ensures later { (S.seen source.old).faults ≤ (S.seen source.new).faults }
     ensures failed { IsErrOf result LoadFault.Failed →
-        Rose (S.faults source.old) (S.faults source.new) }
+        Rose (S.seen source.old).faults (S.seen source.new).faults }
 {
     source.begin(name)?;
     let mut buf = [0u8; PIECE];
@@ -161,18 +155,18 @@ fn read_piece<S: Source>(
     requires begun { IsTrue (S.begun source.old) }
     requires room { 0 < length buf.old }
     requires piece { length buf.old ≤ 65536 }
-    ensures files { S.files source.new ≡ S.files source.old }
-    ensures asked { S.asked source.new ≡ S.asked source.old }
+    ensures files { (S.seen source.new).files ≡ (S.seen source.old).files }
+    ensures asked { (S.seen source.new).asked ≡ (S.seen source.old).asked }
     ensures begun { IsTrue (S.begun source.new) }
     ensures bound { IfOk result (λ n. n ≤ length buf.old) }
     ensures more { IfOk result (λ n. length bytes.new ≡ length bytes.old + n) }
-    ensures end { IfSome (S.files source.old) (λ _.
+    ensures end { IfSome (S.seen source.old).files (λ _.
         IfOk result (λ n. n ≡ 0 → S.rest source.old ≡ [])) }
-    ensures bytes { IfSome (S.files source.old) (λ _. OnOk result
+    ensures bytes { IfSome (S.seen source.old).files (λ _. OnOk result
         (bytes.old ++ S.rest source.old ≡ bytes.new ++ S.rest source.new)) }
-    ensures later { S.faults source.old ≤ S.faults source.new }
+    ensures later { (S.seen source.old).faults ≤ (S.seen source.new).faults }
     ensures failed { IsErrOf result LoadFault.Failed →
-        Rose (S.faults source.old) (S.faults source.new) }
+        Rose (S.seen source.old).faults (S.seen source.new).faults }
     ensures not_missing { IsErrOf result LoadFault.Missing → ⊥ }
     ensures not_long { IsErrOf result LoadFault.TooLong → ⊥ }
 {

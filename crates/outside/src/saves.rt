@@ -1,7 +1,6 @@
 // Files written one after the other, each of them whole or cut short.
 ghost use Rattle.std.specs.Prelude.{◌≤◌, ◌∷◌, [], IfErr, OnErr, OnOk, map};
 ghost use Rattle.outside.specs.Saves.{FailsAt, HasFiles, output_file};
-ghost use Rattle.outside.specs.Seen.{seen_shelf};
 
 use crate::names::FileName;
 use crate::{Failed, Shelf};
@@ -20,13 +19,11 @@ pub struct Output {
 /// At `Err(k)` the k-th output failed, counted from 0, and the shelf's count rose: the outputs
 /// before it are whole, this one is cut short or as it was, and those behind it are as they were.
 pub fn save_all<K: Shelf>(shelf: &mut K, outputs: &[Output]) -> Result<(), usize>
-    ensures whole { OnOk result (HasFiles (map output_file outputs.now)
-        (seen_shelf K.files K.begun K.left K.faults shelf.old)
-        (seen_shelf K.files K.begun K.left K.faults shelf.new)) }
-    ensures cut { IfErr result (λ k. FailsAt k (map output_file outputs.now)
-        (seen_shelf K.files K.begun K.left K.faults shelf.old)
-        (seen_shelf K.files K.begun K.left K.faults shelf.new)) }
-    ensures later { K.faults shelf.old ≤ K.faults shelf.new }
+    ensures whole { OnOk result
+        (HasFiles (map output_file outputs.now) (K.seen shelf.old) (K.seen shelf.new)) }
+    ensures cut { IfErr result
+        (λ k. FailsAt k (map output_file outputs.now) (K.seen shelf.old) (K.seen shelf.new)) }
+    ensures later { (K.seen shelf.old).faults ≤ (K.seen shelf.new).faults }
 {
     for (k, output) in outputs.iter().enumerate() {
         if save(shelf, output.name.as_str(), &output.text).is_err() {
@@ -43,12 +40,12 @@ pub fn save_all<K: Shelf>(shelf: &mut K, outputs: &[Output]) -> Result<(), usize
 /// files are as they were.
 pub fn save<K: Shelf>(shelf: &mut K, name: &str, text: &[u8]) -> Result<(), Failed>
     ensures whole { OnOk result (HasFiles (record { name = name.now; bytes = text.now } ∷ [])
-        (seen_shelf K.files K.begun K.left K.faults shelf.old)
-        (seen_shelf K.files K.begun K.left K.faults shelf.new)) }
+        (K.seen shelf.old)
+        (K.seen shelf.new)) }
     ensures cut { OnErr result (FailsAt 0 (record { name = name.now; bytes = text.now } ∷ [])
-        (seen_shelf K.files K.begun K.left K.faults shelf.old)
-        (seen_shelf K.files K.begun K.left K.faults shelf.new)) }
-    ensures later { K.faults shelf.old ≤ K.faults shelf.new }
+        (K.seen shelf.old)
+        (K.seen shelf.new)) }
+    ensures later { (K.seen shelf.old).faults ≤ (K.seen shelf.new).faults }
 {
     shelf.begin(name)?;
     let mut done = 0;

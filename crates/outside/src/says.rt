@@ -1,7 +1,6 @@
 // Saying whole texts on a screen, by as many writes as it takes.
 ghost use Rattle.std.specs.List.{flat_map};
 ghost use Rattle.outside.specs.Says.{Says};
-ghost use Rattle.outside.specs.Seen.{seen};
 
 use crate::{Failed, Screen};
 
@@ -11,7 +10,7 @@ use crate::{Failed, Screen};
 /// there.
 pub fn say_all<P: Screen>(screen: &mut P, pieces: &[&[u8]]) -> Result<(), Failed>
     ensures { Says (flat_map (λ piece. piece.now) pieces.now)
-        (seen P.text P.faults screen.old) (seen P.text P.faults screen.new) result }
+        (P.seen screen.old) (P.seen screen.new) result }
 {
     for piece in pieces {
         say(screen, piece)?;
@@ -24,8 +23,7 @@ pub fn say_all<P: Screen>(screen: &mut P, pieces: &[&[u8]]) -> Result<(), Failed
 /// Failed comes only where the screen's count rose; then a front of the text stands behind what was
 /// there.
 pub fn say<P: Screen>(screen: &mut P, text: &[u8]) -> Result<(), Failed>
-    ensures { Says text.now
-        (seen P.text P.faults screen.old) (seen P.text P.faults screen.new) result }
+    ensures { Says text.now (P.seen screen.old) (P.seen screen.new) result }
 {
     let mut done = 0;
     while done < text.len() {

@@ -8,7 +8,8 @@ use Rattle.claim_board.specs.Protocol.{BoardState, word}
 use Rattle.flume_collection.specs.declared.trap.Trap.{Trap}
 use Rattle.crew.specs.declared.kept.KeptOut.{KeptOut}
 use Rattle.crew.specs.Drills.{Settings}
-use Rattle.crew.specs.Hosts.{Account, SomeHost}
+use Rattle.outside.specs.Accounts.{Account}
+use Rattle.crew.specs.Hosts.{SomeHost}
 use Rattle.crew.specs.Outs.{IsOut, RanOn}
 use Rattle.crew.specs.Phases.{AreOuts, IsClosed, IsWork, Settled, Unsettled}
 use Rattle.crew.specs.Work.{HaveWorked}

@@ -1,7 +1,8 @@
 -- What a phase comes to, by the numbers of its tasks, where an out may be a trap.
 use Rattle.std.specs.Prelude.{◌≡◌, ℕ, ◌+◌, ◌<◌, ◌≤◌, false, List, length, slice_get, slice_index, Some, Result, Ok, Err}
 use Rattle.flume_collection.specs.declared.trap.Trap.{Trap}
-use Rattle.crew.specs.Hosts.{Account, Passed, SomeHost, places_below}
+use Rattle.outside.specs.Accounts.{Account}
+use Rattle.crew.specs.Hosts.{Passed, SomeHost, places_below}
 use Rattle.crew.specs.Drills.{Settings, attempt_in, is_drilled}
 use Rattle.crew.specs.Phases.{IsCut, IsLostTask, IsWork}
 use Rattle.phase_outs.specs.declared.made.PhaseOuts.{PhaseOuts}

@@ -1,7 +1,7 @@
 // A phase, run to its end.
 ghost use Rattle.std.specs.Prelude.{◌≡◌, ◌*◌, ◌^◌, ◌<◌, ◌≤◌, length, map, IfOk, IfErr};
 ghost use Rattle.std.specs.List.{AllZip};
-ghost use Rattle.crew.specs.Hosts.{account, Grew};
+ghost use Rattle.crew.specs.Hosts.{Grew};
 ghost use Rattle.crew.specs.Phases.{AreAskedOnce};
 ghost use Rattle.phase_outs.specs.Outs.{AreMade, IsStop};
 
@@ -30,16 +30,13 @@ pub fn run_to_end<
     requires tries { (0 < phase.now.tries) × (phase.now.tries ≤ 8) }
     requires hosts { (0 < length hosts.old) × (length hosts.old ≤ 16) }
     requires limit { T.count_of tasks.now * phase.now.tries < 2 ^ 31 }
-    ensures grew { AllZip Grew
-        (map (account H.notes H.losses) hosts.old) (map (account H.notes H.losses) hosts.new) }
+    ensures grew { AllZip Grew (map H.account hosts.old) (map H.account hosts.new) }
     ensures asked { AreAskedOnce (T.count_of tasks.now) phase.now (T.places tasks.now)
-        (map (account H.notes H.losses) hosts.old) (map (account H.notes H.losses) hosts.new) }
-    ensures made { IfOk result (AreMade (T.count_of tasks.now) phase.now
-        (T.is_value tasks.now) (T.places tasks.now)
-        (map (account H.notes H.losses) hosts.old) (map (account H.notes H.losses) hosts.new)) }
-    ensures stop { IfErr result (IsStop (T.count_of tasks.now) phase.now
-        (T.is_value tasks.now) (T.places tasks.now)
-        (map (account H.notes H.losses) hosts.old) (map (account H.notes H.losses) hosts.new)) }
+        (map H.account hosts.old) (map H.account hosts.new) }
+    ensures made { IfOk result (AreMade (T.count_of tasks.now) phase.now (T.is_value tasks.now)
+        (T.places tasks.now) (map H.account hosts.old) (map H.account hosts.new)) }
+    ensures stop { IfErr result (IsStop (T.count_of tasks.now) phase.now (T.is_value tasks.now)
+        (T.places tasks.now) (map H.account hosts.old) (map H.account hosts.new)) }
 {
     match run_phase(rt, alloc, tasks, hosts, phase) {
         Ok(outs) => made_outs(alloc, outs.into_vec()),

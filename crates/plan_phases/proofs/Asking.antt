@@ -1,7 +1,7 @@
 -- Hosts that are asked for phases, one behind the other.
 use Rattle.std.proofs.Common.{◌≡◌, ℕ, inl, List, [], ◌∷◌, ◌++◌, append-nil, append_assoc, refl, sym, ap, ◌∙◌, subst}
 use Rattle.crew.specs.declared.drill.Entry.{Entry}
-use Rattle.crew.specs.Hosts.{Account}
+use Rattle.outside.specs.Accounts.{Account}
 use Rattle.plan_phases.specs.Phases.{PhaseTasks}
 use Rattle.plan_phases.specs.Told.{AreAsked, AskedAtMost, AskedFront, AskedInTurn}
 

@@ -4,7 +4,8 @@ use Rattle.std.specs.Prelude.{Contains, sum_by}
 use Rattle.std.specs.List.{AllZip}
 use Rattle.std.proofs.lemmas.List.Sums.{sum_by-cons}
 use Rattle.crew.specs.Drills.{Settings, attempt_in, is_drilled}
-use Rattle.crew.specs.Hosts.{Account, Grew, HaveRisen, Refused, SomeHost}
+use Rattle.outside.specs.Accounts.{Account}
+use Rattle.crew.specs.Hosts.{Grew, HaveRisen, Refused, SomeHost}
 use Rattle.crew.specs.Phases.{IsLostTask}
 use Rattle.crew.proofs.Accounts.{grew_on, passed_before, passed_later, refused_before}
 use Rattle.phase_outs.specs.Outs.{HasRun}

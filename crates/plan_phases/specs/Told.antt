@@ -5,7 +5,7 @@ use Rattle.outside.specs.declared.host.Phase.{Phase}
 use Rattle.flume_collection.specs.declared.trap.Trap.{Trap}
 use Rattle.crew.specs.declared.drill.Entry.{Entry}
 use Rattle.crew.specs.Drills.{Settings}
-use Rattle.crew.specs.Hosts.{Account}
+use Rattle.outside.specs.Accounts.{Account}
 use Rattle.crew.specs.Phases.{AreAskedOnce, CanFinish, IsLostTask, IsWork, IsWorkSoFar}
 use Rattle.phase_outs.specs.Outs.{HasRun}
 use Rattle.exec_graph.specs.World.{World}

@@ -6,7 +6,7 @@ use Rattle.std.proofs.lemmas.Grind.{flat_map-append}
 use Rattle.std.proofs.Math.Seq.{drop-cons}
 use Rattle.printing.specs.Printed.{listed}
 use Rattle.outside.specs.Says.{Says}
-use Rattle.outside.specs.Seen.{Seen}
+use Rattle.outside.specs.Seen.{SeenScreen}
 use Rattle.outside.proofs.SaidLemmas.{says_as, says_both, says_cut}
 
 -- what stands before the part at a place
@@ -55,7 +55,7 @@ listed_more f xs i d below =
 
 -- the parts before a place are said, and the part there is cut short
 pub listed_cut : {X T U V E : Type 0} (f : X → List ℕ) (xs : List X) (i : ℕ) (d : X)
-    (part : List ℕ) (before middle after : Seen (List ℕ)) (x : T) (e : E) (r : Result U E)
+    (part : List ℕ) (before middle after : SeenScreen) (x : T) (e : E) (r : Result U E)
     → i < length xs → part ≡ comma i ++ f (get_or xs i d) → is_err r ≡ true
     → Says {T = T} {E = E} (listed f (take i xs)) before middle (Ok x)
     → Says {T = V} {E = E} part middle after (Err e)
@@ -69,7 +69,7 @@ listed_cut {V = V} {E = E} f xs i d part before middle after x e r below same is
 
 -- the parts before a place are said, and the part there
 pub listed_said : {X T U E : Type 0} (f : X → List ℕ) (xs : List X) (i : ℕ) (d : X) (part : List ℕ)
-    (before middle after : Seen (List ℕ)) (x : T) (y : U)
+    (before middle after : SeenScreen) (x : T) (y : U)
     → i < length xs → part ≡ comma i ++ f (get_or xs i d)
     → Says {T = T} {E = E} (listed f (take i xs)) before middle (Ok x)
     → Says {T = U} {E = E} part middle after (Ok y)

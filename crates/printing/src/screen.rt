@@ -2,7 +2,6 @@
 ghost use Rattle.std.specs.Prelude.{◌++◌};
 ghost use Rattle.std.specs.List.{flat_map};
 ghost use Rattle.outside.specs.Says.{Says};
-ghost use Rattle.outside.specs.Seen.{seen};
 ghost use Rattle.printing.specs.Printed.{escaped, quoted};
 
 use crate::escape::escape_of;
@@ -17,7 +16,7 @@ pub fn say_named<P: Screen>(
     behind: &[&[u8]],
 ) -> Result<(), Failed>
     ensures { Says (before.now ++ (quoted name.now ++ flat_map (λ piece. piece.now) behind.now))
-        (seen P.text P.faults screen.old) (seen P.text P.faults screen.new) result }
+        (P.seen screen.old) (P.seen screen.new) result }
 {
     say(screen, before)?;
     say_quoted(screen, name)?;
@@ -26,8 +25,7 @@ pub fn say_named<P: Screen>(
 
 /// Says a name in quotes.
 pub(crate) fn say_quoted<P: Screen>(screen: &mut P, name: &[u8]) -> Result<(), Failed>
-    ensures { Says (quoted name.now)
-        (seen P.text P.faults screen.old) (seen P.text P.faults screen.new) result }
+    ensures { Says (quoted name.now) (P.seen screen.old) (P.seen screen.new) result }
 {
     say(screen, b"\"")?;
     say_escaped(screen, name)?;
@@ -35,8 +33,7 @@ pub(crate) fn say_quoted<P: Screen>(screen: &mut P, name: &[u8]) -> Result<(), F
 }
 
 fn say_escaped<P: Screen>(screen: &mut P, name: &[u8]) -> Result<(), Failed>
-    ensures { Says (flat_map escaped name.now)
-        (seen P.text P.faults screen.old) (seen P.text P.faults screen.new) result }
+    ensures { Says (flat_map escaped name.now) (P.seen screen.old) (P.seen screen.new) result }
 {
     for byte in name {
         say_byte(screen, byte)?;
@@ -45,8 +42,7 @@ fn say_escaped<P: Screen>(screen: &mut P, name: &[u8]) -> Result<(), Failed>
 }
 
 fn say_byte<P: Screen>(screen: &mut P, byte: &u8) -> Result<(), Failed>
-    ensures { Says (escaped byte.now)
-        (seen P.text P.faults screen.old) (seen P.text P.faults screen.new) result }
+    ensures { Says (escaped byte.now) (P.seen screen.old) (P.seen screen.new) result }
 {
     match escape_of(*byte) {
         Some(escape) => say(screen, escape),

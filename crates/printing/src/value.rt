@@ -2,7 +2,6 @@
 ghost use Rattle.std.specs.Prelude.{◌≡◌, ◌==◌, ◌++◌, [], codes, if◌then◌else◌, Bool, ℕ, ℤ, List};
 ghost use Rattle.std.specs.Fmt.{signed_decimal};
 ghost use Rattle.outside.specs.Says.{Says};
-ghost use Rattle.outside.specs.Seen.{seen};
 ghost use Rattle.flume_value.specs.declared.value.Value.{Value as Value_, out-Value};
 ghost use Rattle.flume_value.specs.declared.value.Value.TheVariants as variant;
 ghost use Rattle.printing.specs.Printed.{quoted, listed, truth, layer_printed, printed};
@@ -15,8 +14,7 @@ use outside::{Failed, Screen, say};
 /// Says a value as it is printed.
 #[cycle(say)]
 pub fn say_value<P: Screen>(screen: &mut P, value: &Value) -> Result<(), Failed>
-    ensures { Says (printed value.now)
-        (seen P.text P.faults screen.old) (seen P.text P.faults screen.new) result }
+    ensures { Says (printed value.now) (P.seen screen.old) (P.seen screen.new) result }
 {
     match value {
         Value::Int(n) => say_int(screen, *n),
@@ -34,7 +32,7 @@ pub fn say_value<P: Screen>(screen: &mut P, value: &Value) -> Result<(), Failed>
 #[cycle(say)]
 fn say_side<P: Screen>(screen: &mut P, before: &[u8], part: &Value) -> Result<(), Failed>
     ensures { Says (before.now ++ (printed part.now ++ codes ")"))
-        (seen P.text P.faults screen.old) (seen P.text P.faults screen.new) result }
+        (P.seen screen.old) (P.seen screen.new) result }
 {
     say(screen, before)?;
     say_value(screen, part)?;
@@ -50,7 +48,7 @@ fn say_between<P: Screen>(
     behind: &[u8],
 ) -> Result<(), Failed>
     ensures { Says (before.now ++ (listed printed values.now ++ behind.now))
-        (seen P.text P.faults screen.old) (seen P.text P.faults screen.new) result }
+        (P.seen screen.old) (P.seen screen.new) result }
 {
     say(screen, before)?;
     say_listed(screen, values)?;
@@ -59,8 +57,7 @@ fn say_between<P: Screen>(
 
 #[cycle(say)]
 fn say_listed<P: Screen>(screen: &mut P, values: &[Value]) -> Result<(), Failed>
-    ensures { Says (listed printed values.now)
-        (seen P.text P.faults screen.old) (seen P.text P.faults screen.new) result }
+    ensures { Says (listed printed values.now) (P.seen screen.old) (P.seen screen.new) result }
 {
     for (at, value) in values.iter().enumerate() {
         say_behind(screen, comma_before(at), value)?;
@@ -72,7 +69,7 @@ fn say_listed<P: Screen>(screen: &mut P, values: &[Value]) -> Result<(), Failed>
 #[cycle(say)]
 fn say_behind<P: Screen>(screen: &mut P, before: &[u8], value: &Value) -> Result<(), Failed>
     ensures { Says (before.now ++ printed value.now)
-        (seen P.text P.faults screen.old) (seen P.text P.faults screen.new) result }
+        (P.seen screen.old) (P.seen screen.new) result }
 {
     say(screen, before)?;
     say_value(screen, value)
@@ -92,16 +89,14 @@ fn truth(answer: bool) -> &'static [u8]
 }
 
 fn say_int<P: Screen>(screen: &mut P, n: i64) -> Result<(), Failed>
-    ensures { Says (signed_decimal n)
-        (seen P.text P.faults screen.old) (seen P.text P.faults screen.new) result }
+    ensures { Says (signed_decimal n) (P.seen screen.old) (P.seen screen.new) result }
 {
     let mut digits = Buffer::new();
     say(screen, digits.format(n).as_bytes())
 }
 
 fn say_wide<P: Screen>(screen: &mut P, n: &i128) -> Result<(), Failed>
-    ensures { Says (signed_decimal n.now)
-        (seen P.text P.faults screen.old) (seen P.text P.faults screen.new) result }
+    ensures { Says (signed_decimal n.now) (P.seen screen.old) (P.seen screen.new) result }
 {
     let n = *n;
     let mut digits = Buffer::new();

@@ -55,9 +55,7 @@ impl<'a, R: Files> FileCache<'a, R> {
 }
 
 impl<R: Files> Cache for FileCache<'_, R> {
-    ghost entries = { λ _. None };
-
-    ghost faults = { λ faults. faults };
+    ghost seen = { λ faults. record { entries = None; faults = faults } };
 
     /// Reads the file of the key. One that is not whole, and one of another key, is as absent.
     fn find(&mut self, alloc: Global, key: &[u8]) -> Result<Option<Vec<u8>>, FindFault> {

@@ -35,9 +35,7 @@ impl<W: Write + Drop> OutputScreen<W> {
 }
 
 impl<W: Write + Drop> Screen for OutputScreen<W> {
-    ghost text = { λ _. None };
-
-    ghost faults = { λ faults. faults };
+    ghost seen = { λ faults. record { text = None; faults = faults } };
 
     /// Writes a piece and flushes it, so that nothing is kept back when the program ends.
     fn write(&mut self, piece: &[u8]) -> Result<usize, Failed> {

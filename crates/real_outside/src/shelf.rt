@@ -42,15 +42,14 @@ impl<'a, R: Files> FileShelf<'a, R> {
 }
 
 impl<R: Files> Shelf for FileShelf<'_, R> {
-    ghost files = { λ _. None };
-
-    ghost begun = { λ shelf. shelf.begun };
+    ghost seen = { λ shelf. record {
+      files = None;
+      begun = shelf.begun;
+      left = shelf.left;
+      faults = shelf.faults;
+    } };
 
     ghost begun_name = { λ _. [] };
-
-    ghost left = { λ shelf. shelf.left };
-
-    ghost faults = { λ shelf. shelf.faults };
 
     /// Makes an empty file, or empties the one that is there.
     fn begin(&mut self, name: &str) -> Result<(), Failed> {

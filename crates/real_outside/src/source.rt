@@ -59,15 +59,11 @@ fn unless_folder<T: Drop>(opened: T, is_folder: bool) -> io::Result<T>
 }
 
 impl<R: Files> Source for FileSource<'_, R> {
-    ghost files = { λ _. None };
-
-    ghost asked = { λ _. None };
+    ghost seen = { λ source. record { files = None; asked = None; faults = source.faults } };
 
     ghost begun = { λ source. source.begun };
 
     ghost rest = { λ _. [] };
-
-    ghost faults = { λ source. source.faults };
 
     /// Opens a file. Missing is a name that isn't there; a folder, and a file that may not be read,
     /// is Failed.

@@ -6,7 +6,6 @@ ghost use Rattle.partial_tables.specs.Tables.{IsPartialOf, Pairs};
 ghost use Rattle.shuffle_parts.specs.Outs.{all_partials};
 ghost use Rattle.crew.specs.Attempts.{IsMadeOf};
 ghost use Rattle.crew.specs.Drills.{attempt_at};
-ghost use Rattle.crew.specs.Hosts.{account};
 ghost use Rattle.exec_graph.specs.Forests.{numbered};
 ghost use Rattle.exec_graph.specs.Wellformed.{root_comb};
 ghost use Rattle.task_safety.specs.of_forest_courses.Courses.{IsCourse};
@@ -47,7 +46,7 @@ pub(crate) fn reduce_merged<F: Functions, H: Host>(
         AnswerFor (world_of (F.called functions.now)) comb merged.items
         groups → IsValueOf (F.called functions.now) (Some roots.now) groups out)) }
     ensures asked { Asked (attempt_at spot.now task) (length merged.items)
-        (account H.notes H.losses host.old) (account H.notes H.losses host.new) result }
+        (H.account host.old) (H.account host.new) result }
 {
     let groups = merged.len();
     match run_merged(alloc, functions, roots, comb, merged, host, spot, task)? {
@@ -94,7 +93,7 @@ fn run_merged<F: Functions, H: Host>(
         AnswerFor (world_of (F.called functions.now)) comb merged.items groups →
         IsCourse (world_of (F.called functions.now)) (Some roots.now) groups end)) }
     ensures asked { Asked (attempt_at spot.now task) (length merged.items)
-        (account H.notes H.losses host.old) (account H.notes H.losses host.new) result }
+        (H.account host.old) (H.account host.new) result }
 {
     let (sizes, outputs) = begin(alloc, roots)?;
     let keys = Keys {

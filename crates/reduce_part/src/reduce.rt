@@ -5,7 +5,6 @@ ghost use Rattle.flume_value.specs.declared.value.Value.{Value as GhostValue};
 ghost use Rattle.bag_groups.specs.Groups.{grouped};
 ghost use Rattle.bag_groups.specs.Pairs.{IsPair};
 ghost use Rattle.shuffle_parts.specs.Outs.{all_pairs};
-ghost use Rattle.crew.specs.Hosts.{account};
 ghost use Rattle.crew.specs.Drills.{attempt_at};
 ghost use Rattle.crew.specs.Attempts.{IsMadeOf};
 ghost use Rattle.exec_graph.specs.Forests.{Forest};
@@ -48,10 +47,9 @@ pub(crate) fn reduce_partition<F: Functions, H: Host>(
         outs.now channel partition grouping.now }
     ensures value { IfOk result (IsMadeOf (IsReducedFrom (F.called functions.now) outs.now channel
         partition grouping.now)) }
-    ensures asked { (pairs : List GhostValue) →
-        IsGathered grouping.now.lifted outs.now channel partition pairs →
-        Asked (attempt_at spot.now task) (length (grouped pairs))
-        (account H.notes H.losses host.old) (account H.notes H.losses host.new) result }
+    ensures asked { (pairs : List GhostValue) → IsGathered grouping.now.lifted outs.now channel
+        partition pairs → Asked (attempt_at spot.now task) (length (grouped pairs))
+        (H.account host.old) (H.account host.new) result }
 {
     match (grouping.lifted, &grouping.does) {
         (None, does) => {
@@ -98,7 +96,7 @@ fn reduce_groups<F: Functions, H: Host>(
     ensures value { IfOk result (IsMadeOf (IsValueOf (F.called functions.now) does.now
         groups.items)) }
     ensures asked { Asked (attempt_at spot.now task) (length groups.items)
-        (account H.notes H.losses host.old) (account H.notes H.losses host.new) result }
+        (H.account host.old) (H.account host.new) result }
 {
     let count = groups.len();
     match run_owned(alloc, functions, does, groups, host, spot, task)? {

@@ -3,7 +3,7 @@ use Rattle.std.proofs.Common.{ℕ, inl, inr, List, [], Option, Some, None, sym, 
 use Rattle.std.specs.Prelude.{IsSome}
 use Rattle.command_words.specs.declared.words.Command.{Command}
 use Rattle.command_words.specs.declared.words.Command.TheVariants.{Check, Plan, Direct, Run}
-use Rattle.crew.specs.Hosts.{Account}
+use Rattle.outside.specs.Accounts.{Account}
 use Rattle.script_loading.specs.of_direct_meaning.Direct.{traps_of}
 use Rattle.exec_plan.specs.declared.plan.Plan.{Plan as PlanOf}
 use Rattle.flume_collection.specs.declared.trap.Trap.{Trap as TrapOf}
@@ -86,9 +86,9 @@ trap_rows words told (Run s from) script rows table olds news trap reads meant t
     (has_plan told script from tells.1.0 tells.1.1)
 
 trap_read : (words : Words) (before after : World) (origin : ℕ) (kind : Kind) (element : Value)
-    → IsTrap origin kind element words before after → HasRead words before.source.told
+    → IsTrap origin kind element words before after → HasRead words before.source.files
 trap_read words before after origin kind element it =
-    trap_rows words before.source.told it.0 it.1 it.2 it.3 before.hosts after.hosts
+    trap_rows words before.source.files it.0 it.1 it.2 it.3 before.hosts after.hosts
     (record { origin = origin; element = element; kind = kind }) it.5 it.6 it.7
 
 given_read : (words : Words) (told : Told) (olds news : List Account) (stage : ℕ) (phase : Phase)
@@ -106,39 +106,39 @@ not_stopped words told wanted tells stops read =
     read.inputs read.plan)
 
 pub always : (words : Words) (before after : World) (status wanted : Status)
-    → IsSome before.source.told → Stops words before.source.told wanted
+    → IsSome before.source.files → Stops words before.source.files wanted
     → Answers words before after status → IsUnlessFailed wanted status
 always words before after Done wanted tells stops answers =
-    not_stopped words before.source.told wanted tells stops (written_read words before.source.told
+    not_stopped words before.source.files wanted tells stops (written_read words before.source.files
     before.hosts after.hosts answers.0 answers.1 answers.2)
 always words before after (Trap origin kind element) wanted tells stops answers =
-    not_stopped words before.source.told wanted tells stops (trap_read words before after origin
+    not_stopped words before.source.files wanted tells stops (trap_read words before after origin
     kind element answers)
 always words before after (WriteFault (File name)) wanted tells stops answers =
-    not_stopped words before.source.told wanted tells stops (written_read words before.source.told
+    not_stopped words before.source.files wanted tells stops (written_read words before.source.files
     before.hosts after.hosts answers.0 answers.1 answers.2)
 always words before after (WriteFault Screen) wanted tells stops answers =
-    not_stopped words before.source.told wanted tells stops (written_read words before.source.told
+    not_stopped words before.source.files wanted tells stops (written_read words before.source.files
     before.hosts after.hosts answers.0 answers.1 answers.2)
 always words before after Usage wanted tells stops answers = absurd (asked_some words
-    before.source.told wanted stops answers.0)
+    before.source.files wanted stops answers.0)
 always words before after (NoFile name) wanted tells stops answers =
-    one_stop words before.source.told (NoFile name) wanted tells (no_file_stops words before.source
+    one_stop words before.source.files (NoFile name) wanted tells (no_file_stops words before.source
     name answers.0) stops
 always words before after (TooLong name limit) wanted tells stops answers =
-    one_stop words before.source.told (TooLong name limit) wanted tells (too_long_stops words
+    one_stop words before.source.files (TooLong name limit) wanted tells (too_long_stops words
     before.source name limit answers.0) stops
 always words before after (ScriptRefused line kind) wanted tells stops answers =
-    one_stop words before.source.told (ScriptRefused line kind) wanted tells (script_stops words
+    one_stop words before.source.files (ScriptRefused line kind) wanted tells (script_stops words
     before.source line kind answers.0) stops
 always words before after (InputRefused name row column kind) wanted tells stops answers =
-    one_stop words before.source.told (InputRefused name row column kind) wanted tells (input_stops
+    one_stop words before.source.files (InputRefused name row column kind) wanted tells (input_stops
     words before.source name row column kind answers.0) stops
 always words before after (GaveUp stage phase task) wanted tells stops answers =
-    not_stopped words before.source.told wanted tells stops (given_read words before.source.told
+    not_stopped words before.source.files wanted tells stops (given_read words before.source.files
     before.hosts after.hosts stage phase task answers.0)
 always words before after (PlanRefused step kind) wanted tells stops answers =
-    one_stop words before.source.told (PlanRefused step kind) wanted tells (plan_stops words
+    one_stop words before.source.files (PlanRefused step kind) wanted tells (plan_stops words
     before.source step kind answers.0) stops
 always words before after (ReadFault name) wanted tells stops answers = tt
 always words before after WantOfMemory wanted tells stops answers = tt
@@ -167,21 +167,21 @@ always_usage words before after Usage none answers = refl
 always_usage words before after WantOfMemory none answers = tt
 always_usage words before after (ReadFault name) none answers = tt
 always_usage words before after Done none answers =
-    none_read words before.source.told none (written_read words before.source.told
+    none_read words before.source.files none (written_read words before.source.files
     before.hosts after.hosts answers.0 answers.1 answers.2)
 always_usage words before after (Trap origin kind element) none answers =
-    none_read words before.source.told none (trap_read words before after origin kind element
+    none_read words before.source.files none (trap_read words before after origin kind element
     answers)
 always_usage words before after (WriteFault (File name)) none answers =
-    none_read words before.source.told none (written_read words before.source.told
+    none_read words before.source.files none (written_read words before.source.files
     before.hosts after.hosts answers.0 answers.1 answers.2)
 always_usage words before after (WriteFault Screen) none answers =
-    none_read words before.source.told none (written_read words before.source.told
+    none_read words before.source.files none (written_read words before.source.files
     before.hosts after.hosts answers.0 answers.1 answers.2)
 always_usage words before after (NoFile name) none answers =
-    none_turn words before.source.told answers.0.0 name answers.0.1 none answers.0.2
+    none_turn words before.source.files answers.0.0 name answers.0.1 none answers.0.2
 always_usage words before after (TooLong name limit) none answers =
-    none_turn words before.source.told answers.0.0 name limit none answers.0.1
+    none_turn words before.source.files answers.0.0 name limit none answers.0.1
 always_usage words before after (ScriptRefused line kind) none answers =
     none_asked words answers.0.0 answers.0.1 none answers.0.3
 always_usage words before after (InputRefused name row column kind) none answers =
@@ -189,5 +189,5 @@ always_usage words before after (InputRefused name row column kind) none answers
 always_usage words before after (PlanRefused step kind) none answers =
     none_asked words answers.0.0 answers.0.4.1.0 none answers.0.4.1.2
 always_usage words before after (GaveUp stage phase task) none answers =
-    none_read words before.source.told none (given_read words before.source.told before.hosts
+    none_read words before.source.files none (given_read words before.source.files before.hosts
     after.hosts stage phase task answers.0)

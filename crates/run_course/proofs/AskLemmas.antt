@@ -1,14 +1,14 @@
 -- What a call asks its source for, by what comes of it.
 use Rattle.std.proofs.Common.{◌≡◌, ◌∙◌, ◌++◌, ℕ, inl, inr, List, [], ◌∷◌, Option, Some, None, Result, Ok, Err, IfErr, ap, sym, refl, subst, append-nil, append_assoc}
 use Rattle.command_words.specs.declared.words.Command.{Command}
-use Rattle.crew.specs.Hosts.{Account}
+use Rattle.outside.specs.Accounts.{Account}
 use Rattle.script_loading.specs.of_direct_meaning.Inputs.{Wanted}
 use Rattle.exec_plan.specs.declared.plan.Plan.{Plan}
 use Rattle.flume_value.specs.declared.value.Value.{Value}
 use Rattle.outside.specs.Asked.{Asks, AsksFront}
-use Rattle.outside.specs.Seen.{Seen, SeenShelf}
+use Rattle.outside.specs.Seen.{SeenScreen, SeenShelf, SeenSource}
 use Rattle.outside.specs.declared.file.File.{File as NamedBytes}
-use Rattle.outside.proofs.AskLemmas.{SeenAsks, asks_both, asks_front, asks_none}
+use Rattle.outside.proofs.AskLemmas.{asks_both, asks_front, asks_none}
 use Rattle.run_settings.specs.Settings.{RunSettings}
 use Rattle.run_texts.specs.declared.status.Status.{Status}
 use Rattle.run_texts.specs.declared.status.Status.TheVariants.{Done, GaveUp, Usage, ScriptRefused, InputRefused, Trap, ReadFault, WriteFault, WantOfMemory, TooLong, NoFile, PlanRefused}
@@ -19,20 +19,20 @@ use Rattle.run_course.specs.Asks.{AsksAll, AsksFor, files_behind}
 use Rattle.run_course.specs.declared.stop.Stop.{Stop}
 use Rattle.run_course.specs.declared.stop.Stop.TheVariants as stop
 use Rattle.run_course.specs.inner.Course.{AsksInCall, AsksUntil, AsksWith, Delivers, IsPlanStop, IsRunStop, IsStop}
-use Rattle.run_course.proofs.ReadLemmas.{Told, Words}
+use Rattle.run_course.proofs.ReadLemmas.{Words}
 
 abbrev Names : Type 0
 Names = List (List ℕ)
 
 -- ---- a command
 
-module _ (tries : ℕ) (names : Names) (before after : SeenAsks) where
+module _ (tries : ℕ) (names : Names) (before after : SeenSource) where
   pub whole_front : Asks tries names before after → AsksFront tries names before after
   whole_front asks =
       asks_front tries names names [] before after (sym (append-nil names)) asks
 
   -- not all inputs have rows
-  pub inputs_with : (most : ℕ) (source source' : Seen (List NamedBytes)) (inputs : List Wanted)
+  pub inputs_with : (most : ℕ) (source source' : SeenSource) (inputs : List Wanted)
       (status : Status) → IsInputsCause most source source' inputs status
       → AsksFront tries names before after → AsksWith tries names before after status
   inputs_with most source source' inputs (InputRefused name row column kind) cause front = front
@@ -49,7 +49,7 @@ module _ (tries : ℕ) (names : Names) (before after : SeenAsks) where
   inputs_with most source source' inputs (PlanRefused step kind) cause front = absurd cause.6
 
   -- there is no plan
-  pub plan_with : (most : ℕ) (source source' : Seen (List NamedBytes)) (script : Script)
+  pub plan_with : (most : ℕ) (source source' : SeenSource) (script : Script)
       (from : Option (List ℕ)) (status : Status)
       → IsPlanStop most source source' script from status → Asks tries names before after
       → AsksWith tries names before after status
@@ -95,7 +95,7 @@ module _ (tries : ℕ) (names : Names) (before after : SeenAsks) where
       subst (λ (s : Status). AsksWith tries names before after s) (sym up.3) asks
 
 -- of the inputs' files and a plan's behind them, a front was asked for
-pub front_more : (tries : ℕ) (first more : Names) (before after : SeenAsks)
+pub front_more : (tries : ℕ) (first more : Names) (before after : SeenSource)
     → AsksFront tries first before after → AsksFront tries (first ++ more) before after
 front_more tries first more before after front = (
   front.0,
@@ -105,54 +105,52 @@ front_more tries first more before after front = (
 )
 
 -- where none are behind them
-pub none_behind : {T : Type 0} (tries : ℕ) (names : Names) (before after : SeenAsks)
+pub none_behind : {T : Type 0} (tries : ℕ) (names : Names) (before after : SeenSource)
     (r : Result T Stop) → AsksUntil tries names before after r
     → AsksUntil tries (names ++ []) before after r
 none_behind tries names before after r asks =
     subst (λ (l : Names). AsksUntil tries l before after r) (sym (append-nil names)) asks
 
 -- nothing is read
-pub none_with : (tries : ℕ) (names : Names) (it : SeenAsks)
+pub none_with : (tries : ℕ) (names : Names) (it : SeenSource)
     → AsksWith tries names it it WantOfMemory
 none_with tries names it = asks_front tries names [] names it it refl (asks_none tries it)
 
 -- ---- a call
 
-module _ (words : Words) (told : Told) (command : Command) (name : List ℕ) where
+module _ (words : Words) (command : Command) (name : List ℕ) where
   -- no script is read
-  pub script_for : (source source' : Seen (List NamedBytes)) (before after : SeenAsks)
-      (status : Status) → AskFor words command name
-      → IsScriptCause (tries_of command) source source' name status
-      → Asks (tries_of command) (name ∷ []) before after
-      → AsksFor words told before after status
-  script_for source source' before after (ScriptRefused line kind) asked cause asks =
+  pub script_for : (before after : SeenSource) (status : Status) → AskFor words command name
+      → IsScriptCause (tries_of command) before after name status
+      → Asks (tries_of command) (name ∷ []) before after → AsksFor words before after status
+  script_for before after (ScriptRefused line kind) asked cause asks =
       inr (inl (command, name, asked, asks))
-  script_for source source' before after (NoFile other) asked cause asks =
+  script_for before after (NoFile other) asked cause asks =
       inr (inl (command, name, asked, asks))
-  script_for source source' before after (ReadFault other) asked cause asks =
+  script_for before after (ReadFault other) asked cause asks =
       inr (inl (command, name, asked, asks))
-  script_for source source' before after (TooLong other limit) asked cause asks =
+  script_for before after (TooLong other limit) asked cause asks =
       inr (inl (command, name, asked, asks))
-  script_for source source' before after WantOfMemory asked cause asks =
+  script_for before after WantOfMemory asked cause asks =
       inr (inl (command, name, asked, asks))
-  script_for source source' before after Usage asked cause asks = absurd cause
-  script_for source source' before after Done asked cause asks = absurd cause
-  script_for source source' before after (InputRefused other row column kind) asked cause asks =
+  script_for before after Usage asked cause asks = absurd cause
+  script_for before after Done asked cause asks = absurd cause
+  script_for before after (InputRefused other row column kind) asked cause asks =
       absurd cause
-  script_for source source' before after (WriteFault place) asked cause asks = absurd cause
-  script_for source source' before after (GaveUp stage phase task) asked cause asks =
+  script_for before after (WriteFault place) asked cause asks = absurd cause
+  script_for before after (GaveUp stage phase task) asked cause asks =
       absurd cause
-  script_for source source' before after (Trap origin kind element) asked cause asks =
+  script_for before after (Trap origin kind element) asked cause asks =
       absurd cause
-  script_for source source' before after (PlanRefused step kind) asked cause asks = absurd cause
+  script_for before after (PlanRefused step kind) asked cause asks = absurd cause
 
-  module _ (script : Script) (before middle after : SeenAsks) (asked : AskFor words command name)
-      (loaded : IsLoaded told name script)
+  module _ (script : Script) (before middle after : SeenSource) (asked : AskFor words command name)
+      (loaded : IsLoaded before.files name script)
       (first : Asks (tries_of command) (name ∷ []) before middle) where
     abbrev others : Names
     others = files_behind command script
 
-    all_for : Asks (tries_of command) others middle after → AsksAll words told before after
+    all_for : Asks (tries_of command) others middle after → AsksAll words before after
     all_for asks = (
       command,
       name,
@@ -172,7 +170,7 @@ module _ (words : Words) (told : Told) (command : Command) (name : List ℕ) whe
     )
 
     status_for : (status : Status) → AsksWith (tries_of command) others middle after status
-        → AsksFor words told before after status
+        → AsksFor words before after status
     status_for (GaveUp stage phase task) asks = all_for asks
     status_for (PlanRefused step kind) asks = all_for asks
     status_for WantOfMemory front =
@@ -194,37 +192,37 @@ module _ (words : Words) (told : Told) (command : Command) (name : List ℕ) whe
     -- the script is read, and the command carried out
     pub command_for : {T : Type 0} (r : Result T Stop)
         → AsksUntil (tries_of command) others middle after r
-        → AsksInCall words told before after r
+        → AsksInCall words before after r
     command_for (Ok it) asks = all_for asks
     command_for (Err (stop.Trapped trap)) asks = all_for asks
     command_for (Err (stop.Refused status)) asks = status_for status asks
 
 -- what was to be written was written, or that failed
-pub delivered_for : (words : Words) (told : Told) (before after : SeenAsks)
+pub delivered_for : (words : Words) (before after : SeenSource)
     (files : List NamedBytes) (text : List ℕ) (shelf shelf' : SeenShelf)
-    (screen screen' : Seen (List ℕ)) (status : Status)
+    (screen screen' : SeenScreen) (status : Status)
     → Delivers files text shelf shelf' screen screen' status
-    → AsksAll words told before after → AsksFor words told before after status
-delivered_for words told before after files text shelf shelf' screen screen' Done is all = all
-delivered_for words told before after files text shelf shelf' screen screen' (WriteFault place) is
+    → AsksAll words before after → AsksFor words before after status
+delivered_for words before after files text shelf shelf' screen screen' Done is all = all
+delivered_for words before after files text shelf shelf' screen screen' (WriteFault place) is
     all = all
-delivered_for words told before after files text shelf shelf' screen screen' Usage is all =
+delivered_for words before after files text shelf shelf' screen screen' Usage is all =
     absurd is
-delivered_for words told before after files text shelf shelf' screen screen'
+delivered_for words before after files text shelf shelf' screen screen'
     (ScriptRefused line kind) is all = absurd is
-delivered_for words told before after files text shelf shelf' screen screen'
+delivered_for words before after files text shelf shelf' screen screen'
     (InputRefused name row column kind) is all = absurd is
-delivered_for words told before after files text shelf shelf' screen screen'
+delivered_for words before after files text shelf shelf' screen screen'
     (Trap origin kind element) is all = all
-delivered_for words told before after files text shelf shelf' screen screen' (ReadFault name) is
+delivered_for words before after files text shelf shelf' screen screen' (ReadFault name) is
     all = absurd is
-delivered_for words told before after files text shelf shelf' screen screen'
+delivered_for words before after files text shelf shelf' screen screen'
     (GaveUp stage phase task) is all = all
-delivered_for words told before after files text shelf shelf' screen screen' WantOfMemory is all =
+delivered_for words before after files text shelf shelf' screen screen' WantOfMemory is all =
     absurd is
-delivered_for words told before after files text shelf shelf' screen screen' (TooLong name limit) is
+delivered_for words before after files text shelf shelf' screen screen' (TooLong name limit) is
     all = absurd is
-delivered_for words told before after files text shelf shelf' screen screen' (NoFile name) is all =
+delivered_for words before after files text shelf shelf' screen screen' (NoFile name) is all =
     absurd is
-delivered_for words told before after files text shelf shelf' screen screen'
+delivered_for words before after files text shelf shelf' screen screen'
     (PlanRefused step kind) is all = all

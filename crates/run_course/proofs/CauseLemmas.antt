@@ -2,12 +2,12 @@
 use Rattle.std.proofs.Common.{◌≡◌, ℕ, ◌≤◌, inl, inr, List, Option, Some, None, sym, refl, subst}
 use Rattle.command_words.specs.declared.words.Command.{Command}
 use Rattle.command_words.specs.declared.words.Command.TheVariants.{Direct, Run}
-use Rattle.crew.specs.Hosts.{Account}
+use Rattle.outside.specs.Accounts.{Account}
 use Rattle.script_loading.specs.of_direct_meaning.Inputs.{Wanted, inputs_of}
 use Rattle.exec_plan.specs.declared.plan.Plan.{Plan}
 use Rattle.flume_value.specs.declared.value.Value.{Value}
 use Rattle.outside.specs.Says.{HasLine}
-use Rattle.outside.specs.Seen.{Seen}
+use Rattle.outside.specs.Seen.{SeenSource}
 use Rattle.outside.specs.declared.file.File.{File as NamedBytes}
 use Rattle.run_settings.specs.Settings.{RunSettings}
 use Rattle.run_texts.specs.Lines.{trap_line}
@@ -30,9 +30,6 @@ use Rattle.script_loading.specs.Causes.{IsInputCause, IsInputsCause, IsLoaded, I
 use Rattle.run_course.specs.inner.Course.{Delivers, HasTrap, IsCommandStop, IsMeaningStop, IsPlanStop, IsRunStop, IsStopped, IsTrappedAt}
 use Rattle.script_loading.proofs.SinceLemmas.{inputs_since, load_since}
 use Rattle.run_course.proofs.ReadLemmas.{Told, Words}
-
-abbrev SeenSource : Type 0
-SeenSource = Seen (List NamedBytes)
 
 -- ---- the script
 
@@ -64,19 +61,19 @@ module _ (words : Words) (before after : SeenSource) (olds news : List Account)
   script_cause name (NoFile other) asked cause = (
     command,
     script_limit,
-    script_asked_for words before.told command name other script_limit asked cause.0 refl,
-    missing_as before.told name other cause.0 cause.1,
+    script_asked_for words before.files command name other script_limit asked cause.0 refl,
+    missing_as before.files name other cause.0 cause.1,
   )
   script_cause name (ReadFault other) asked cause = (
     command,
     script_limit,
-    script_asked_for words before.told command name other script_limit asked cause.0 refl,
+    script_asked_for words before.files command name other script_limit asked cause.0 refl,
     cause.1,
   )
   script_cause name (TooLong other most) asked cause = (
     command,
-    script_asked_for words before.told command name other most asked cause.0 cause.1,
-    above_as before.told name other script_limit most cause.0 cause.1 cause.2,
+    script_asked_for words before.files command name other most asked cause.0 cause.1,
+    above_as before.files name other script_limit most cause.0 cause.1 cause.2,
   )
   script_cause name WantOfMemory asked cause = tt
   script_cause name Usage asked cause = absurd cause
@@ -97,7 +94,7 @@ input_asked_for words told command wanted other limit its same equal =
 
 module _ (words : Words) (before after : SeenSource) (olds news : List Account)
     (command : Command) where
-  input_cause : (wanted : Wanted) (status : Status) → IsTurnOf words before.told command wanted
+  input_cause : (wanted : Wanted) (status : Status) → IsTurnOf words before.files command wanted
       → IsInputCause (tries_of command) before after wanted status
       → IsCause words before after olds news status
   input_cause wanted (InputRefused name row column kind) its cause =
@@ -105,19 +102,19 @@ module _ (words : Words) (before after : SeenSource) (olds news : List Account)
   input_cause wanted (NoFile other) its cause = (
     command,
     input_limit,
-    input_asked_for words before.told command wanted other input_limit its cause.0 refl,
-    missing_as before.told wanted.file other cause.0 cause.1,
+    input_asked_for words before.files command wanted other input_limit its cause.0 refl,
+    missing_as before.files wanted.file other cause.0 cause.1,
   )
   input_cause wanted (ReadFault other) its cause = (
     command,
     input_limit,
-    input_asked_for words before.told command wanted other input_limit its cause.0 refl,
+    input_asked_for words before.files command wanted other input_limit its cause.0 refl,
     cause.1,
   )
   input_cause wanted (TooLong other most) its cause = (
     command,
-    input_asked_for words before.told command wanted other most its cause.0 cause.1,
-    above_as before.told wanted.file other input_limit most cause.0 cause.1 cause.2,
+    input_asked_for words before.files command wanted other most its cause.0 cause.1,
+    above_as before.files wanted.file other input_limit most cause.0 cause.1 cause.2,
   )
   input_cause wanted WantOfMemory its cause = tt
   input_cause wanted Usage its cause = absurd cause
@@ -128,7 +125,7 @@ module _ (words : Words) (before after : SeenSource) (olds news : List Account)
   input_cause wanted (Trap origin kind element) its cause = absurd cause
   input_cause wanted (PlanRefused step kind) its cause = absurd cause
 
-  pub inputs_cause : (script : Script) (status : Status) → AskOn words before.told command script
+  pub inputs_cause : (script : Script) (status : Status) → AskOn words before.files command script
       → IsInputsCause (tries_of command) before after (inputs_read command script) status
       → IsCause words before after olds news status
   inputs_cause script status read cause =
@@ -149,7 +146,7 @@ plan_asked_for words told command script name other limit its same equal =
 
 module _ (words : Words) (before after : SeenSource) (olds news : List Account)
     (command : Command) (script : Script) (name : List ℕ) where
-  plan_cause : (status : Status) → IsPlanTurn words before.told command script name
+  plan_cause : (status : Status) → IsPlanTurn words before.files command script name
       → IsFileCause (tries_of command) before after script name status
       → IsCause words before after olds news status
   plan_cause (PlanRefused step kind) its cause =
@@ -157,19 +154,19 @@ module _ (words : Words) (before after : SeenSource) (olds news : List Account)
   plan_cause (NoFile other) its cause = (
     command,
     plan_limit,
-    plan_asked_for words before.told command script name other plan_limit its cause.0 refl,
-    missing_as before.told name other cause.0 cause.1,
+    plan_asked_for words before.files command script name other plan_limit its cause.0 refl,
+    missing_as before.files name other cause.0 cause.1,
   )
   plan_cause (ReadFault other) its cause = (
     command,
     plan_limit,
-    plan_asked_for words before.told command script name other plan_limit its cause.0 refl,
+    plan_asked_for words before.files command script name other plan_limit its cause.0 refl,
     cause.1,
   )
   plan_cause (TooLong other most) its cause = (
     command,
-    plan_asked_for words before.told command script name other most its cause.0 cause.1,
-    above_as before.told name other plan_limit most cause.0 cause.1 cause.2,
+    plan_asked_for words before.files command script name other most its cause.0 cause.1,
+    above_as before.files name other plan_limit most cause.0 cause.1 cause.2,
   )
   plan_cause WantOfMemory its cause = tt
   plan_cause Usage its cause = absurd cause
@@ -182,7 +179,7 @@ module _ (words : Words) (before after : SeenSource) (olds news : List Account)
 
 -- the same cause, counted from an earlier moment
 file_since : (tries : ℕ) (before middle after : SeenSource) (script : Script) (name : List ℕ)
-    (status : Status) → middle.told ≡ before.told → before.faults ≤ middle.faults
+    (status : Status) → middle.files ≡ before.files → before.faults ≤ middle.faults
     → IsFileCause tries middle after script name status
     → IsFileCause tries before after script name status
 file_since tries before middle after script name (PlanRefused step kind) told later cause =
@@ -226,7 +223,7 @@ written words told olds news command name script files text at writes =
 
 module _ (words : Words) (before middle after : SeenSource) (olds news : List Account)
     (command : Command) (name : List ℕ) (script : Script)
-    (at : IsAt words before.told command name script) (told : middle.told ≡ before.told)
+    (at : IsAt words before.files command name script) (told : middle.files ≡ before.files)
     (later : before.faults ≤ middle.faults) where
   command_cause : (status : Status)
       → IsCommandStop command middle after olds news script (stop.Refused status)
@@ -235,7 +232,7 @@ module _ (words : Words) (before middle after : SeenSource) (olds news : List Ac
       subst (λ (s : Status). IsCause words before after olds news s) (sym memory) tt
   command_cause status (inr (inl cause)) =
       inputs_cause words before after olds news command script status
-      (reads words before.told command name script at)
+      (reads words before.files command name script at)
       (inputs_since (tries_of command) before middle after (inputs_read command script) status told
       later cause)
   command_cause status (inr (inr (inl it))) =
@@ -243,14 +240,14 @@ module _ (words : Words) (before middle after : SeenSource) (olds news : List Ac
         it.0,
         it.1,
         script,
-        subst (λ (c : Command). AskOn words before.told c script) it.5
-            (reads words before.told command name script at),
+        subst (λ (c : Command). AskOn words before.files c script) it.5
+            (reads words before.files command name script at),
         subst (λ (t : Told). GivesUp it.0 it.1 t olds news script it.2 it.3 it.4) told it.7,
       )
   command_cause status (inr (inr (inr it))) =
       plan_cause words before after olds news command script it.0 status (
         it.1,
-        reads words before.told command name script at,
+        reads words before.files command name script at,
         subst (λ (t : Told). AllHaveRows t (inputs_read command script) it.1) told it.3,
         it.2,
       )
@@ -266,7 +263,7 @@ module _ (words : Words) (before middle after : SeenSource) (olds news : List Ac
         script,
         trapped.0,
         trapped.1,
-        reads words before.told command name script at,
+        reads words before.files command name script at,
         trapped.2,
         trapped.3,
         trapped.4,
@@ -284,13 +281,13 @@ meaning_stop before after olds news script (stop.Trapped trap) trapped = trapped
 pub run_stop : (s : RunSettings) (from : Option (List ℕ)) (before after : SeenSource)
     (olds news : List Account) (script : Script) (rows : List (List Value)) (plan : Plan)
     (why : Stop)
-    → AllHaveRows before.told (inputs_of script) rows → IsPlanFor before.told script from plan
+    → AllHaveRows before.files (inputs_of script) rows → IsPlanFor before.files script from plan
     → IsRunStop s script rows plan (lent s olds) (lent s news) why
     → IsCommandStop (Run s from) before after olds news script why
 run_stop s from before after olds news script rows plan (stop.Refused status) have is
     (inl memory) = inl memory
 run_stop s from before after olds news script rows plan (stop.Refused status) have is (inr it) =
-    let meant : IsMeant before.told script rows it.4.made
+    let meant : IsMeant before.files script rows it.4.made
     = record { inputs = have; means = it.4.means } in
     inr (inr (inl (
       s,
@@ -313,8 +310,8 @@ run_stop s from before after olds news script rows plan (stop.Trapped trap) have
 -- what leaves a run without a plan stops it
 pub no_plan_stop : (s : RunSettings) (from : Option (List ℕ)) (before middle after : SeenSource)
     (olds news : List Account) (script : Script) (rows : List (List Value)) (status : Status)
-    → middle.told ≡ before.told → before.faults ≤ middle.faults
-    → AllHaveRows before.told (inputs_of script) rows
+    → middle.files ≡ before.files → before.faults ≤ middle.faults
+    → AllHaveRows before.files (inputs_of script) rows
     → IsPlanStop s.tries middle after script from status
     → IsCommandStop (Run s from) before after olds news script (stop.Refused status)
 no_plan_stop s None before middle after olds news script rows status told later have stops =
@@ -332,7 +329,7 @@ no_plan_stop s (Some name) before middle after olds news script rows status told
 
 -- what a call that came to its writing answers
 pub delivered : (words : Words) (before after : World) (files : List NamedBytes) (text : List ℕ)
-    (status : Status) → IsWritten words before.source.told before.hosts after.hosts files text
+    (status : Status) → IsWritten words before.source.files before.hosts after.hosts files text
     → Delivers files text before.shelf after.shelf before.screen after.screen status
     → Answers words before after status
 delivered words before after files text Done writes left = (files, text, writes, left.0, left.1)
@@ -372,7 +369,7 @@ refusal words before after (Trap origin kind element) cause left = absurd cause
 
 -- what a call answers whose script has this trap
 pub trapped : (words : Words) (before after : World) (trap : Trapped)
-    → HasTrap words before.source.told before.hosts after.hosts trap → after.shelf ≡ before.shelf
+    → HasTrap words before.source.files before.hosts after.hosts trap → after.shelf ≡ before.shelf
     → HasLine (trap_line trap.name trap.trap.kind trap.trap.element) before.screen after.screen
     → Answers words before after (Trap trap.trap.origin trap.trap.kind trap.trap.element)
 trapped words before after trap has shelf line =

@@ -4,7 +4,7 @@ use Rattle.std.specs.Prelude.{IsSome}
 use Rattle.std.specs.List.{Contains}
 use Rattle.command_words.specs.declared.words.Command.{Command}
 use Rattle.command_words.specs.declared.words.Command.TheVariants.{Check, Plan, Direct, Run}
-use Rattle.crew.specs.Hosts.{Account}
+use Rattle.outside.specs.Accounts.{Account}
 use Rattle.script_loading.specs.of_direct_meaning.Direct.{traps_of}
 use Rattle.script_loading.specs.of_direct_meaning.Inputs.{inputs_of}
 use Rattle.flume_collection.specs.declared.trap.Trap.{Trap as TrapOf}
@@ -51,15 +51,15 @@ through_end words told c d p q rows others front text files table tells reads re
 
 done_as : (words : Words) (before after : World) (c d : Command) (p q : Script)
     (rows : List (List Value)) (files : List NamedBytes) (text : List ℕ)
-    → CanRun words before after c p rows → AskOn words before.source.told d q
-    → Writes c before.source.told before.hosts after.hosts q files text → EndsAs c p rows Done
+    → CanRun words before after c p rows → AskOn words before.source.files d q
+    → Writes c before.source.files before.hosts after.hosts q files text → EndsAs c p rows Done
 done_as words before after Check d p q rows files text can read writes = refl
 done_as words before after (Plan form) d p q rows files text can read writes = refl
 done_as words before after Direct d p q rows files text can read writes =
-    through_end words before.source.told Direct d p q rows writes.0 [] text files writes.1 can.told
+    through_end words before.source.files Direct d p q rows writes.0 [] text files writes.1 can.told
     can.reads read can.inputs writes.2
 done_as words before after (Run s from) d p q rows files text can read writes =
-    through_end words before.source.told (Run s from) d p q rows writes.1 _ text files writes.2
+    through_end words before.source.files (Run s from) d p q rows writes.1 _ text files writes.2
     can.told can.reads read can.inputs writes.4
 
 -- ---- it traps
@@ -82,28 +82,28 @@ told_end (Run s from) told script rows olds news traps origin kind element trap 
 
 trapped_meaning : (words : Words) (before after : World) (c : Command) (p : Script)
     (rows : List (List Value)) (origin : ℕ) (kind : Kind) (element : Value)
-    → IsSome before.source.told → AskOn words before.source.told c p
-    → AllHaveRows before.source.told (inputs_of p) rows
+    → IsSome before.source.files → AskOn words before.source.files c p
+    → AllHaveRows before.source.files (inputs_of p) rows
     → IsTrap origin kind element words before after
     → EndsAs Direct p rows (Trap origin kind element)
 trapped_meaning words before after c p rows origin kind element tells reads inputs it = (
   it.3,
-  same_meaning words before.source.told c it.0 p it.1 rows it.2 it.3 tells reads it.5 inputs it.6,
-  told_end it.0 before.source.told it.1 it.2 before.hosts after.hosts (traps_of it.3) origin kind
+  same_meaning words before.source.files c it.0 p it.1 rows it.2 it.3 tells reads it.5 inputs it.6,
+  told_end it.0 before.source.files it.1 it.2 before.hosts after.hosts (traps_of it.3) origin kind
       element
       (record { origin = origin; element = element; kind = kind }) it.7,
 )
 
 -- a trap is told by a command that may tell it
 told_by : (words : Words) (before after : World) (c : Command) (p : Script) (origin : ℕ)
-    (kind : Kind) (element : Value) → AskOn words before.source.told c p
+    (kind : Kind) (element : Value) → AskOn words before.source.files c p
     → (it : IsTrap origin kind element words before after)
-    → MayTell c before.source.told it.1 it.2 before.hosts after.hosts (traps_of it.3)
+    → MayTell c before.source.files it.1 it.2 before.hosts after.hosts (traps_of it.3)
     (record { origin = origin; element = element; kind = kind })
 told_by words before after command p origin kind element reads it =
     let same : it.0 ≡ command
-    = same_command words before.source.told it.0 command it.1 p it.5 reads in
-    subst (λ (c : Command). MayTell c before.source.told it.1 it.2 before.hosts after.hosts
+    = same_command words before.source.files it.0 command it.1 p it.5 reads in
+    subst (λ (c : Command). MayTell c before.source.files it.1 it.2 before.hosts after.hosts
     (traps_of it.3) (record {
       origin = origin;
       element = element;
@@ -151,9 +151,9 @@ no_file_fault (Run s from) told olds news q files text place before after calm w
 
 stopped : {A : Type 0} (words : Words) (before after : World) (status : Status) (c : Command)
     (script : Script) (rows : List (List Value))
-    → CanRun words before after c script rows → Stops words before.source.told status → A
+    → CanRun words before after c script rows → Stops words before.source.files status → A
 stopped words before after status c script rows can stops =
-    absurd (no_run words before.source.told status c script rows can.told stops can.reads
+    absurd (no_run words before.source.files status c script rows can.told stops can.reads
     can.inputs can.plan)
 
 -- a source that fails less often than each file is tried lets all be read
@@ -170,7 +170,7 @@ read_calm : {A : Type 0} (words : Words) (before after : World) (name : List ℕ
     (script : Script) (rows : List (List Value)) → CanRun words before after c script rows
     → IsReadFault name words before.source after.source → A
 read_calm words before after name c script rows can cause =
-    let same : cause.0 ≡ c = asked_as words before.source.told c cause.0 script name cause.1
+    let same : cause.0 ≡ c = asked_as words before.source.files c cause.0 script name cause.1
     can.reads cause.2 in
     absurd (can.source (subst (λ (d : Command). RoseBy (tries_of d) before.source.faults
     after.source.faults) same cause.3))
@@ -179,9 +179,9 @@ read_calm words before after name c script rows can cause =
 given_up : {A : Type 0} (words : Words) (before after : World) (c : Command) (script : Script)
     (rows : List (List Value)) (stage : ℕ) (phase : Phase) (task : ℕ)
     → CanRun words before after c script rows
-    → IsGaveUp stage phase task words before.source.told before.hosts after.hosts → A
+    → IsGaveUp stage phase task words before.source.files before.hosts after.hosts → A
 given_up words before after c script rows stage phase task can it =
-    let told = before.source.told in
+    let told = before.source.files in
     let s = it.0 in
     let up = it.4 in
     let own : c ≡ Run s it.1
@@ -218,16 +218,16 @@ pub complete : (words : Words) (before after : World) (status : Status) (c : Com
 complete words before after Done c script rows answers can =
     let it = answers.2 in
     inr (done_as words before after c it.0 script it.1 rows answers.0 answers.1 can it.2
-    (same_writes words before.source.told before.hosts after.hosts c it.0 script it.1 answers.0
+    (same_writes words before.source.files before.hosts after.hosts c it.0 script it.1 answers.0
     answers.1 can.reads it.2 it.3))
 complete words before after (Trap origin kind element) c script rows answers can =
     inr (trapped_as words before after c script rows origin kind element can answers)
 complete words before after WantOfMemory c script rows answers can = inl refl
 complete words before after (WriteFault (File name)) c script rows answers can =
     let it = answers.2 in
-    absurd (no_file_fault c before.source.told before.hosts after.hosts it.1 answers.0 answers.1
+    absurd (no_file_fault c before.source.files before.hosts after.hosts it.1 answers.0 answers.1
     answers.3.0 before.shelf after.shelf can.shelf
-    (same_writes words before.source.told before.hosts after.hosts c it.0 script it.1 answers.0
+    (same_writes words before.source.files before.hosts after.hosts c it.0 script it.1 answers.0
     answers.1 can.reads it.2 it.3) answers.3.4)
 complete words before after (WriteFault Screen) c script rows answers can = absurd (can.screen
     answers.4.faults)

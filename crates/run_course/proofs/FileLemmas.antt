@@ -11,7 +11,6 @@ use Rattle.script_loading.specs.of_direct_meaning.Evaluated.{IsWritten as Holds,
 use Rattle.flume_collection.specs.Collection.{Collection}
 use Rattle.flume_value.specs.declared.value.Value.{Value}
 use Rattle.outside.specs.Saves.{FailsAt}
-use Rattle.outside.specs.Seen.{SeenShelf}
 use Rattle.outside.specs.declared.file.File.{File as NamedBytes}
 use Rattle.run_texts.specs.Texts.{NamedOutput}
 use Rattle.script_program.specs.declared.made.Output.{Output}

@@ -4,7 +4,8 @@ use Rattle.std.specs.List.{AllByRecursion}
 use Rattle.outside.specs.declared.host.Phase.{Phase}
 use Rattle.crew.specs.declared.drill.Entry.{Entry}
 use Rattle.crew.specs.Drills.{drilled_tries}
-use Rattle.crew.specs.Hosts.{Account, HaveRisen}
+use Rattle.outside.specs.Accounts.{Account}
+use Rattle.crew.specs.Hosts.{HaveRisen}
 use Rattle.crew.specs.Phases.{CanFinish}
 use Rattle.exec_graph.specs.World.{World}
 use Rattle.plan_phases.proofs.Joining.{tasks_both}

@@ -2,11 +2,11 @@
 use Rattle.std.proofs.Common.{◌≡◌, ℕ, zero, suc, inl, inr, List, [], ◌∷◌, ◌++◌, Option, drop, take, length, map, Result, Ok, Err, IfErr, refl, sym, ap, ◌∙◌, subst, arith}
 use Rattle.command_words.specs.declared.words.Command.{Command}
 use Rattle.command_words.specs.declared.words.Command.TheVariants.{Run}
-use Rattle.crew.specs.Hosts.{Account}
+use Rattle.outside.specs.Accounts.{Account}
 use Rattle.script_loading.specs.of_direct_meaning.Inputs.{inputs_of}
 use Rattle.exec_plan.specs.declared.plan.Plan.{Plan}
 use Rattle.flume_value.specs.declared.value.Value.{Value}
-use Rattle.outside.specs.Seen.{Seen, SeenShelf}
+use Rattle.outside.specs.Seen.{SeenScreen, SeenShelf}
 use Rattle.outside.specs.declared.file.File.{File as NamedBytes}
 use Rattle.run_settings.specs.Settings.{RunSettings}
 use Rattle.run_texts.specs.declared.status.Status.{Status}
@@ -114,7 +114,7 @@ call_asks words told middle command name script olds news at same r (inr it) =
 
 -- what came to its writing may have run
 may_deliver : (files : List NamedBytes) (text : List ℕ) (shelf shelf' : SeenShelf)
-    (screen screen' : Seen (List ℕ)) (status : Status)
+    (screen screen' : SeenScreen) (status : Status)
     → Delivers files text shelf shelf' screen screen' status → MayHaveRun status
 may_deliver files text shelf shelf' screen screen' Done is = tt
 may_deliver files text shelf shelf' screen screen' (WriteFault place) is = tt
@@ -132,7 +132,7 @@ may_deliver files text shelf shelf' screen screen' (PlanRefused step kind) is = 
 
 pub delivered_asks : {T : Type 0} (words : Words) (told : Told) (olds news : List Account)
     (files : List NamedBytes) (text : List ℕ) (shelf shelf' : SeenShelf)
-    (screen screen' : Seen (List ℕ)) (status : Status) (it : T)
+    (screen screen' : SeenScreen) (status : Status) (it : T)
     → Delivers files text shelf shelf' screen screen' status
     → AsksHostsInCall {T = T} words told olds news (Ok it)
     → AsksHosts words told olds news status

@@ -7,8 +7,7 @@ use Rattle.exec_plan.specs.declared.plan.Plan.{Plan}
 use Rattle.script_loading.specs.of_graph_build.Graphs.{graph_of}
 use Rattle.outer_plans.specs.Plans.{IsAnswer, IsNotTaken, IsTaken}
 use Rattle.outer_plans.proofs.Once.{refused_once, taken_alone}
-use Rattle.outside.specs.Seen.{Seen}
-use Rattle.outside.specs.declared.file.File.{File as NamedBytes}
+use Rattle.outside.specs.Seen.{SeenSource}
 use Rattle.plan_faults.specs.declared.fault.PlanFault.{PlanFault}
 use Rattle.plan_faults.specs.declared.fault.PlanFault.TheVariants.{Refused, Memory}
 use Rattle.plan_faults.specs.declared.fault.PlanKind.{PlanKind}
@@ -114,7 +113,7 @@ pub taking_stop : (script : Script) (bytes : List ℕ) (fault : PlanFault)
 taking_stop script bytes (Refused step kind) answer = inr (step, kind, refl, answer)
 taking_stop script bytes Memory answer = inl refl
 
-module _ (tries : ℕ) (before after : Seen (List NamedBytes)) (script : Script) (name : List ℕ) where
+module _ (tries : ℕ) (before after : SeenSource) (script : Script) (name : List ℕ) where
   -- it was not loaded
   pub file_load : (status : Status) → IsLoadCause tries before after name plan_limit status
       → IsFileCause tries before after script name status
@@ -132,7 +131,7 @@ module _ (tries : ℕ) (before after : Seen (List NamedBytes)) (script : Script)
   file_load (PlanRefused step kind) cause = absurd cause
 
   -- it was not taken
-  pub file_taken : (bytes : List ℕ) (status : Status) → Loads before.told name plan_limit bytes
+  pub file_taken : (bytes : List ℕ) (status : Status) → Loads before.files name plan_limit bytes
       → IsTakingStop script bytes status → IsFileCause tries before after script name status
   file_taken bytes status loads (inl memory) =
       subst (λ (s : Status). IsFileCause tries before after script name s) (sym memory) tt

@@ -7,7 +7,7 @@ use Rattle.run_course.specs.Answers.{Answers}
 use Rattle.run_course.specs.Asks.{AsksFor}
 use Rattle.run_course.specs.Hosts.{AsksHosts}
 use Rattle.run_course.specs.Promises.{Promises}
-use Rattle.run_course.specs.World.{Keeps, World, asks}
+use Rattle.run_course.specs.World.{Keeps, World}
 use Rattle.run_course.proofs.AlwaysLemmas.{always, always_usage}
 use Rattle.run_course.proofs.CompleteLemmas.{complete}
 use Rattle.run_course.proofs.LeftLemmas.{ended, left, refused_part}
@@ -16,8 +16,8 @@ use Rattle.run_course.proofs.StopLemmas.{input_stops, plan_stops, script_stops, 
 
 pub promises : (words : Words) (before after : World) (status : Status)
     → Answers words before after status → Keeps before after
-    → AsksFor words before.source.told (asks before) (asks after) status
-    → AsksHosts words before.source.told before.hosts after.hosts status
+    → AsksFor words before.source after.source status
+    → AsksHosts words before.source.files before.hosts after.hosts status
     → Promises words before after status
 promises words before after status answers kept asked hosts =
     let when : (other : Status) → status ≡ other → Answers words before after other

@@ -9,8 +9,7 @@ use Rattle.csv_rows.specs.declared.fault.RowKind.{RowKind}
 use Rattle.script_loading.specs.of_direct_meaning.Inputs.{Wanted}
 use Rattle.flume_grammar.specs.declared.fault.ScriptKind.{ScriptKind}
 use Rattle.flume_value.specs.declared.value.Value.{Value}
-use Rattle.outside.specs.Seen.{Seen}
-use Rattle.outside.specs.declared.file.File.{File as NamedBytes}
+use Rattle.outside.specs.Seen.{SeenSource}
 use Rattle.run_texts.specs.declared.status.Status.{Status}
 use Rattle.run_texts.specs.declared.status.Status.TheVariants.{ScriptRefused, InputRefused, TooLong, NoFile, PlanRefused}
 use Rattle.script_program.specs.Script.{Script}
@@ -303,10 +302,10 @@ missing_stops words told command name limit (inr (inl asked)) gone =
 missing_stops words told command name limit (inr (inr asked)) gone =
     inr (inr (command, asked.0, name, asked.1, no_plan gone refl))
 
-pub no_file_stops : (words : Words) (source : Seen (List NamedBytes)) (name : List ℕ)
-    → IsNoFile name words source → Stops words source.told (NoFile name)
+pub no_file_stops : (words : Words) (source : SeenSource) (name : List ℕ)
+    → IsNoFile name words source → Stops words source.files (NoFile name)
 no_file_stops words source name cause =
-    missing_stops words source.told cause.0 name cause.1 cause.2 cause.3
+    missing_stops words source.files cause.0 name cause.1 cause.2 cause.3
 
 above_stops : (words : Words) (told : Told) (command : Command) (name : List ℕ) (limit : ℕ)
     → IsAskedFor words told command name limit → IsAbove told name limit
@@ -337,21 +336,21 @@ above_stops words told command name limit (inr (inr asked)) longer =
           (ap (TooLong name) asked.2),
     ))
 
-pub too_long_stops : (words : Words) (source : Seen (List NamedBytes)) (name : List ℕ)
+pub too_long_stops : (words : Words) (source : SeenSource) (name : List ℕ)
     (limit : ℕ) → IsTooLong name limit words source
-    → Stops words source.told (TooLong name limit)
+    → Stops words source.files (TooLong name limit)
 too_long_stops words source name limit cause =
-    above_stops words source.told cause.0 name limit cause.1 cause.2
+    above_stops words source.files cause.0 name limit cause.1 cause.2
 
-pub script_stops : (words : Words) (source : Seen (List NamedBytes)) (line : ℕ)
+pub script_stops : (words : Words) (source : SeenSource) (line : ℕ)
     (kind : ScriptKind) → IsScriptRefused line kind words source
-    → Stops words source.told (ScriptRefused line kind)
+    → Stops words source.files (ScriptRefused line kind)
 script_stops words source line kind cause =
     inl (cause.0, cause.1, cause.3, refused cause.2 line kind cause.4 cause.5 refl)
 
-pub input_stops : (words : Words) (source : Seen (List NamedBytes)) (name : List ℕ)
+pub input_stops : (words : Words) (source : SeenSource) (name : List ℕ)
     (row column : ℕ) (kind : RowKind) → IsInputRefused name row column kind words source
-    → Stops words source.told (InputRefused name row column kind)
+    → Stops words source.files (InputRefused name row column kind)
 input_stops words source name row column kind cause =
     inr (inl (
       cause.0,
@@ -361,8 +360,8 @@ input_stops words source name row column kind cause =
           (ap (λ (n : List ℕ). InputRefused n row column kind) cause.4),
     ))
 
-pub plan_stops : (words : Words) (source : Seen (List NamedBytes)) (step : ℕ) (kind : PlanKind)
-    → IsPlanRefused step kind words source → Stops words source.told (PlanRefused step kind)
+pub plan_stops : (words : Words) (source : SeenSource) (step : ℕ) (kind : PlanKind)
+    → IsPlanRefused step kind words source → Stops words source.files (PlanRefused step kind)
 plan_stops words source step kind cause =
     inr (inr (
       cause.0,

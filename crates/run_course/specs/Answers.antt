@@ -3,7 +3,7 @@ use Rattle.std.specs.Prelude.{◌≡◌, ◌++◌, ℕ, List, Option, Some, None
 use Rattle.std.specs.List.{Contains}
 use Rattle.std.specs.Option.{option_map}
 use Rattle.script_loading.specs.of_build_law.Worlds.{script_world}
-use Rattle.crew.specs.Hosts.{Account}
+use Rattle.outside.specs.Accounts.{Account}
 use Rattle.csv_rows.specs.Rows.{rows_of}
 use Rattle.csv_rows.specs.declared.fault.RowFault.TheVariants.{Bad}
 use Rattle.csv_rows.specs.declared.fault.RowKind.{RowKind}
@@ -18,7 +18,7 @@ use Rattle.outer_plans.specs.Plans.{IsNotTaken}
 use Rattle.outside.specs.Cause.{Rose, RoseBy}
 use Rattle.outside.specs.Saves.{FailsAt, HasFiles}
 use Rattle.outside.specs.Says.{HasFront, HasLine}
-use Rattle.outside.specs.Seen.{Seen, SeenShelf}
+use Rattle.outside.specs.Seen.{SeenScreen, SeenShelf, SeenSource}
 use Rattle.outside.specs.Told.{WhereTold}
 use Rattle.outside.specs.declared.file.File.{File as NamedBytes}
 use Rattle.outside.specs.declared.host.Phase.{Phase}
@@ -49,13 +49,13 @@ use Rattle.command_words.specs.declared.words.Command.TheVariants.{Check, Plan a
 -- ---- what is written
 
 -- the screen has got the text, and has not failed
-pub record HasText (text : List ℕ) (before after : Seen (List ℕ)) : Type 0 where
-  pub told : after.told ≡ option_map (λ old. old ++ text) before.told
+pub record HasText (text : List ℕ) (before after : SeenScreen) : Type 0 where
+  pub told : after.text ≡ option_map (λ old. old ++ text) before.text
   pub faults : after.faults ≡ before.faults
 
 -- the screen failed, and has a front of the text
-pub record IsCutOff (text : List ℕ) (before after : Seen (List ℕ)) : Type 0 where
-  pub told : WhereTold before.told after.told (HasFront text)
+pub record IsCutOff (text : List ℕ) (before after : SeenScreen) : Type 0 where
+  pub told : WhereTold before.text after.text (HasFront text)
   pub faults : Rose before.faults after.faults
 
 -- the shelf failed at the file of this name: those before it are whole, and those behind it as they
@@ -71,7 +71,7 @@ FailsAtFile name files before after =
 abbrev pub IsDone : List (List ℕ) → World → World → Type 0
 IsDone words before after =
     (files : List NamedBytes) × (text : List ℕ)
-    × IsWritten words before.source.told before.hosts after.hosts files text
+    × IsWritten words before.source.files before.hosts after.hosts files text
     × HasFiles files before.shelf after.shelf × HasText text before.screen after.screen
 
 -- WriteFault of a file: the call came to its writing, so no call of a function traps, and the shelf
@@ -79,7 +79,7 @@ IsDone words before after =
 abbrev pub IsFileFault : List ℕ → List (List ℕ) → World → World → Type 0
 IsFileFault name words before after =
     (files : List NamedBytes) × (text : List ℕ)
-    × IsWritten words before.source.told before.hosts after.hosts files text
+    × IsWritten words before.source.files before.hosts after.hosts files text
     × FailsAtFile name files before.shelf after.shelf
     × HasLine (line_of (WriteFault (File name))) before.screen after.screen
 
@@ -87,7 +87,7 @@ IsFileFault name words before after =
 abbrev pub IsScreenFault : List (List ℕ) → World → World → Type 0
 IsScreenFault words before after =
     (files : List NamedBytes) × (text : List ℕ)
-    × IsWritten words before.source.told before.hosts after.hosts files text
+    × IsWritten words before.source.files before.hosts after.hosts files text
     × HasFiles files before.shelf after.shelf × IsCutOff text before.screen after.screen
 
 -- what a call that came to its writing left, where that failed
@@ -134,9 +134,9 @@ abbrev pub IsTrap : ℕ → Kind → Value → List (List ℕ) → World → Wor
 IsTrap origin kind element words before after =
     (command : Command) × (script : Script) × (rows : List (List Value)) × (table : Table)
     × (name : List ℕ)
-    × AskOn words before.source.told command script
-    × IsMeant before.source.told script rows table
-    × MayTell command before.source.told script rows before.hosts after.hosts (traps_of table)
+    × AskOn words before.source.files command script
+    × IsMeant before.source.files script rows table
+    × MayTell command before.source.files script rows before.hosts after.hosts (traps_of table)
     (record { origin = origin; element = element; kind = kind })
     × (name_at script origin ≡ Some name)
     × (after.shelf ≡ before.shelf)
@@ -147,47 +147,47 @@ abbrev pub IsUsage : List (List ℕ) → Type 0
 IsUsage words = asked_for words ≡ None
 
 -- NoFile: it is the file's turn, and the source has none of that name
-abbrev pub IsNoFile : List ℕ → List (List ℕ) → Seen (List NamedBytes) → Type 0
+abbrev pub IsNoFile : List ℕ → List (List ℕ) → SeenSource → Type 0
 IsNoFile name words source =
-    (command : Command) × (limit : ℕ) × IsAskedFor words source.told command name limit
-    × IsMissing source.told name
+    (command : Command) × (limit : ℕ) × IsAskedFor words source.files command name limit
+    × IsMissing source.files name
 
 -- TooLong: it is the file's turn, and it has more bytes than its limit
-abbrev pub IsTooLong : List ℕ → ℕ → List (List ℕ) → Seen (List NamedBytes) → Type 0
+abbrev pub IsTooLong : List ℕ → ℕ → List (List ℕ) → SeenSource → Type 0
 IsTooLong name limit words source =
-    (command : Command) × IsAskedFor words source.told command name limit
-    × IsAbove source.told name limit
+    (command : Command) × IsAskedFor words source.files command name limit
+    × IsAbove source.files name limit
 
 -- ReadFault: it is the file's turn, and the source failed in each of its loads, as often as the
 -- command tries
-abbrev pub IsReadFault : List ℕ → List (List ℕ) → Seen (List NamedBytes) →
-    Seen (List NamedBytes) → Type 0
+abbrev pub IsReadFault : List ℕ → List (List ℕ) → SeenSource →
+    SeenSource → Type 0
 IsReadFault name words before after =
-    (command : Command) × (limit : ℕ) × IsAskedFor words before.told command name limit
+    (command : Command) × (limit : ℕ) × IsAskedFor words before.files command name limit
     × RoseBy (tries_of command) before.faults after.faults
 
 -- ScriptRefused: the script was loaded, and its bytes are refused so
-abbrev pub IsScriptRefused : ℕ → ScriptKind → List (List ℕ) → Seen (List NamedBytes) → Type 0
+abbrev pub IsScriptRefused : ℕ → ScriptKind → List (List ℕ) → SeenSource → Type 0
 IsScriptRefused line kind words source =
     (command : Command) × (name : List ℕ) × (bytes : List ℕ) × AskFor words command name
-    × Loads source.told name script_limit bytes × Refused bytes line kind
+    × Loads source.files name script_limit bytes × Refused bytes line kind
 
 -- InputRefused: it is the input's turn, its file was loaded, and this is the first fault of its
 -- rows
-abbrev pub IsInputRefused : List ℕ → ℕ → ℕ → RowKind → List (List ℕ) → Seen (List NamedBytes) →
+abbrev pub IsInputRefused : List ℕ → ℕ → ℕ → RowKind → List (List ℕ) → SeenSource →
     Type 0
 IsInputRefused name row column kind words source =
     (command : Command) × (wanted : Wanted) × (bytes : List ℕ)
-    × IsTurnOf words source.told command wanted × (name ≡ wanted.file)
-    × Loads source.told wanted.file input_limit bytes
+    × IsTurnOf words source.files command wanted × (name ≡ wanted.file)
+    × Loads source.files wanted.file input_limit bytes
     × (rows_of bytes wanted.type ≡ Some (Err (Bad row column kind)))
 
 -- PlanRefused: it is the turn of the file of a plan, which was loaded, and its bytes are refused so
-abbrev pub IsPlanRefused : ℕ → PlanKind → List (List ℕ) → Seen (List NamedBytes) → Type 0
+abbrev pub IsPlanRefused : ℕ → PlanKind → List (List ℕ) → SeenSource → Type 0
 IsPlanRefused step kind words source =
     (command : Command) × (script : Script) × (name : List ℕ) × (bytes : List ℕ)
-    × IsPlanTurn words source.told command script name
-    × Loads source.told name plan_limit bytes × IsNotTaken script bytes step kind
+    × IsPlanTurn words source.files command script name
+    × Loads source.files name plan_limit bytes × IsNotTaken script bytes step kind
 
 -- All inputs of the script have rows, over which it has a meaning, and of this task of a phase of
 -- the plan that is run no attempt has won: the drill and the losses of the lent hosts account for
@@ -217,7 +217,7 @@ pub record IsRefused (status : Status) (before after : World) : Type 0 where
 -- ---- the answer
 
 -- the cause of each refusal that comes before anything is written; want of memory needs none
-abbrev pub IsCause : List (List ℕ) → Seen (List NamedBytes) → Seen (List NamedBytes)
+abbrev pub IsCause : List (List ℕ) → SeenSource → SeenSource
     → List Account → List Account → Status → Type 0
 IsCause words before after olds news Usage = IsUsage words
 IsCause words before after olds news (NoFile name) = IsNoFile name words before
@@ -228,7 +228,7 @@ IsCause words before after olds news (ScriptRefused line kind) =
 IsCause words before after olds news (InputRefused name row column kind) =
     IsInputRefused name row column kind words before
 IsCause words before after olds news (GaveUp stage phase task) =
-    IsGaveUp stage phase task words before.told olds news
+    IsGaveUp stage phase task words before.files olds news
 IsCause words before after olds news (PlanRefused step kind) =
     IsPlanRefused step kind words before
 IsCause words before after olds news WantOfMemory = ⊤

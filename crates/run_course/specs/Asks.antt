@@ -2,8 +2,7 @@
 use Rattle.std.specs.Prelude.{◌⊎◌, ℕ, List, [], ◌∷◌, ◌++◌, Option, Some, None}
 use Rattle.command_words.specs.declared.words.Command.{Command}
 use Rattle.outside.specs.Asked.{Asks, AsksFront}
-use Rattle.outside.specs.Seen.{Seen}
-use Rattle.outside.specs.declared.file.File.{File}
+use Rattle.outside.specs.Seen.{SeenSource}
 use Rattle.run_texts.specs.declared.status.Status.{Status}
 use Rattle.run_texts.specs.declared.status.Status.TheVariants.{Done, GaveUp, PlanRefused, Usage, Trap, WriteFault}
 use Rattle.script_loading.specs.Causes.{IsLoaded}
@@ -26,22 +25,20 @@ files_behind command script =
 abbrev pub files_read : Command → List ℕ → Script → List (List ℕ)
 files_read command name script = name ∷ files_behind command script
 
--- of a call with these words, where the source tells these files, and what it was asked for so far
--- before the call and after it
-module _ (words : List (List ℕ)) (told : Option (List File))
-    (before after : Seen (List (List ℕ))) where
+-- of a call with these words, by what is seen of its source before the call and after it
+module _ (words : List (List ℕ)) (before after : SeenSource) where
   -- the words ask for a command on an accepted script, and all files that it reads were asked for
   abbrev pub AsksAll : Type 0
   AsksAll =
       (command : Command) × (name : List ℕ) × (script : Script) × AskFor words command name
-      × IsLoaded told name script
+      × IsLoaded before.files name script
       × Asks (tries_of command) (files_read command name script) before after
 
   -- the same, but only a front of the files was asked for
   abbrev pub AsksSome : Type 0
   AsksSome =
       (command : Command) × (name : List ℕ) × (script : Script) × AskFor words command name
-      × IsLoaded told name script
+      × IsLoaded before.files name script
       × AsksFront (tries_of command) (files_read command name script) before after
 
   -- the words ask for a command on the script of that name, and that file alone was asked for

@@ -1,7 +1,7 @@
 -- What a call asks hosts for.
 use Rattle.std.specs.Prelude.{◌≡◌, ◌⊎◌, ℕ, List, Option, drop, length, ⊤}
 use Rattle.command_words.specs.declared.words.Command.TheVariants.{Run}
-use Rattle.crew.specs.Hosts.{Account}
+use Rattle.outside.specs.Accounts.{Account}
 use Rattle.script_loading.specs.of_direct_meaning.Inputs.{inputs_of}
 use Rattle.exec_plan.specs.declared.plan.Plan.{Plan}
 use Rattle.flume_value.specs.declared.value.Value.{Value}

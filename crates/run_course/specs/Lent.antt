@@ -1,7 +1,7 @@
 -- The hosts that a call lends to the workers of a run.
 use Rattle.std.specs.Prelude.{ℕ, List, take}
 use Rattle.std.specs.Option.{option_map_or}
-use Rattle.crew.specs.Hosts.{Account}
+use Rattle.outside.specs.Accounts.{Account}
 use Rattle.run_settings.specs.Settings.{RunSettings}
 use Rattle.command_words.specs.Words.{asked_for}
 use Rattle.command_words.specs.declared.words.Command.{Command}

@@ -5,7 +5,7 @@ use Rattle.outer_plans.specs.Plans.{IsNotTaken, IsTaken}
 use Rattle.outside.specs.declared.file.File.{File}
 use Rattle.run_texts.specs.declared.status.Status.{Status}
 use Rattle.run_texts.specs.declared.status.Status.TheVariants.{PlanRefused}
-use Rattle.outside.specs.Seen.{Seen}
+use Rattle.outside.specs.Seen.{SeenSource}
 use Rattle.script_loading.specs.Causes.{IsLoadCause}
 use Rattle.script_loading.specs.Limits.{plan_limit}
 use Rattle.script_loading.specs.Loads.{Loads}
@@ -26,10 +26,10 @@ HasPlan told script (Some name) = (plan : Plan) × IsPlanFor told script (Some n
 
 -- why the file of a plan gives none, where the answer is this one: it was not loaded in so many
 -- tries, or its bytes are refused
-abbrev pub IsFileCause : ℕ → Seen (List File) → Seen (List File) → Script → List ℕ → Status
+abbrev pub IsFileCause : ℕ → SeenSource → SeenSource → Script → List ℕ → Status
     → Type 0
 IsFileCause tries before after script name (PlanRefused step kind) =
-    (bytes : List ℕ) × Loads before.told name plan_limit bytes
+    (bytes : List ℕ) × Loads before.files name plan_limit bytes
     × IsNotTaken script bytes step kind
 IsFileCause tries before after script name status =
     IsLoadCause tries before after name plan_limit status

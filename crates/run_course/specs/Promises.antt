@@ -1,6 +1,6 @@
 -- What a call promises.
 use Rattle.std.specs.Prelude.{◌≡◌, ◌⊎◌, ℕ, false, List, [], ◌∷◌, Option, Some, IsSome, ⊤}
-use Rattle.crew.specs.Hosts.{Account}
+use Rattle.outside.specs.Accounts.{Account}
 use Rattle.csv_rows.specs.declared.fault.RowKind.{RowKind}
 use Rattle.script_loading.specs.of_direct_meaning.Direct.{meaning, traps_of}
 use Rattle.exec_plan.specs.declared.plan.Plan.{Plan}
@@ -21,7 +21,7 @@ use Rattle.run_course.specs.Asked.{AskOn, inputs_read, plan_read, tries_of}
 use Rattle.run_course.specs.Hosts.{AsksHosts}
 use Rattle.run_course.specs.Lent.{lent}
 use Rattle.run_course.specs.Plans.{HasPlan, IsPlanFor}
-use Rattle.run_course.specs.World.{Keeps, World, asks}
+use Rattle.run_course.specs.World.{Keeps, World}
 use Rattle.run_course.specs.Written.{Table}
 use Rattle.command_words.specs.declared.words.Command.{Command}
 use Rattle.command_words.specs.declared.words.Command.TheVariants.{Check, Plan as Show, Direct, Run}
@@ -84,14 +84,14 @@ CanEnd _ told script rows olds news = ⊤
 -- fails, and its hosts can end its tasks.
 pub record CanRun (words : List (List ℕ)) (before after : World) (command : Command)
     (script : Script) (rows : List (List Value)) : Type 0 where
-  pub told : IsSome before.source.told
-  pub reads : AskOn words before.source.told command script
-  pub inputs : AllHaveRows before.source.told (inputs_read command script) rows
-  pub plan : HasPlan before.source.told script (plan_read command)
+  pub told : IsSome before.source.files
+  pub reads : AskOn words before.source.files command script
+  pub inputs : AllHaveRows before.source.files (inputs_read command script) rows
+  pub plan : HasPlan before.source.files script (plan_read command)
   pub source : RoseBy (tries_of command) before.source.faults after.source.faults → ⊥
   pub shelf : IsShelfCalm command before.shelf after.shelf
   pub screen : Rose before.screen.faults after.screen.faults → ⊥
-  pub hosts : CanEnd command before.source.told script rows before.hosts after.hosts
+  pub hosts : CanEnd command before.source.files script rows before.hosts after.hosts
 
 abbrev pub IsTrapped : Status → Type 0
 IsTrapped (Trap origin kind element) = ⊤
@@ -137,10 +137,10 @@ pub record Promises (words : List (List ℕ)) (before after : World) (status : S
   -- what the source was asked for: the script's file, then those of the inputs that the command
   -- reads, in order, and then that of a plan, each once, and again only where the source failed, as
   -- often as is tried
-  pub asked : AsksFor words before.source.told (asks before) (asks after) status
+  pub asked : AsksFor words before.source after.source status
   -- what hosts were asked for: nothing, or for `run` some front of its plan's phases, one behind
   -- the other, each place at most once, and this of the lent hosts alone
-  pub asked_hosts : AsksHosts words before.source.told before.hosts after.hosts status
+  pub asked_hosts : AsksHosts words before.source.files before.hosts after.hosts status
   pub script_refused : (line : ℕ) (kind : ScriptKind) → status ≡ ScriptRefused line kind →
       IsScriptRefused line kind words before.source
   pub input_refused : (name : List ℕ) (row column : ℕ) (kind : RowKind) →
@@ -149,19 +149,19 @@ pub record Promises (words : List (List ℕ)) (before after : World) (status : S
   pub plan_refused : (step : ℕ) (kind : PlanKind) → status ≡ PlanRefused step kind →
       IsPlanRefused step kind words before.source
   pub gave_up : (stage : ℕ) (phase : Phase) (task : ℕ) → status ≡ GaveUp stage phase task →
-      IsGaveUp stage phase task words before.source.told before.hosts after.hosts
+      IsGaveUp stage phase task words before.source.files before.hosts after.hosts
   -- these come wherever their cause stands, where files are told
   pub always_usage : IsUsage words → IsUnlessFailed Usage status
-  pub always_too_long : IsSome before.source.told → (name : List ℕ) (limit : ℕ) →
+  pub always_too_long : IsSome before.source.files → (name : List ℕ) (limit : ℕ) →
       IsTooLong name limit words before.source → IsUnlessFailed (TooLong name limit) status
-  pub always_script_refused : IsSome before.source.told → (line : ℕ) (kind : ScriptKind) →
+  pub always_script_refused : IsSome before.source.files → (line : ℕ) (kind : ScriptKind) →
       IsScriptRefused line kind words before.source →
       IsUnlessFailed (ScriptRefused line kind) status
-  pub always_input_refused : IsSome before.source.told →
+  pub always_input_refused : IsSome before.source.files →
       (name : List ℕ) (row column : ℕ) (kind : RowKind) →
       IsInputRefused name row column kind words before.source →
       IsUnlessFailed (InputRefused name row column kind) status
-  pub always_plan_refused : IsSome before.source.told → (step : ℕ) (kind : PlanKind) →
+  pub always_plan_refused : IsSome before.source.files → (step : ℕ) (kind : PlanKind) →
       IsPlanRefused step kind words before.source → IsUnlessFailed (PlanRefused step kind) status
   -- what stands after a refusal: the shelf is untouched, and the screen has its line
   pub refused : IsRefusal status before after

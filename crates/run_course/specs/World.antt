@@ -1,32 +1,25 @@
 -- The outside of a call, at one moment.
-use Rattle.std.specs.Prelude.{◌≡◌, ◌≤◌, ℕ, List, Option}
+use Rattle.std.specs.Prelude.{◌≡◌, ◌≤◌, List}
 use Rattle.std.specs.List.{AllZip}
-use Rattle.crew.specs.Hosts.{Account, Grew}
-use Rattle.outside.specs.Seen.{Seen, SeenShelf}
-use Rattle.outside.specs.declared.file.File.{File}
+use Rattle.outside.specs.Accounts.{Account}
+use Rattle.crew.specs.Hosts.{Grew}
+use Rattle.outside.specs.Seen.{SeenScreen, SeenShelf, SeenSource}
 
--- how its four parts stand; of the source also the names that it was asked for so far, where it
--- tells them
+-- how its four parts stand
 pub record World : Type 0 where
-  pub source : Seen (List File)
-  pub asked : Option (List (List ℕ))
+  pub source : SeenSource
   pub shelf : SeenShelf
-  pub screen : Seen (List ℕ)
+  pub screen : SeenScreen
   pub hosts : List Account
 
-abbrev pub world : Seen (List File) → Option (List (List ℕ)) → SeenShelf → Seen (List ℕ)
-    → List Account → World
-world source asked shelf screen hosts =
-    record { source = source; asked = asked; shelf = shelf; screen = screen; hosts = hosts }
-
--- what its source was asked for so far, and how often it has failed
-abbrev pub asks : World → Seen (List (List ℕ))
-asks world = record { told = world.asked; faults = world.source.faults }
+abbrev pub world : SeenSource → SeenShelf → SeenScreen → List Account → World
+world source shelf screen hosts =
+    record { source = source; shelf = shelf; screen = screen; hosts = hosts }
 
 -- What is so after every call: the source tells the files that it told, no count of failures fell,
 -- and what hosts tell only grew.
 pub record Keeps (before after : World) : Type 0 where
-  pub told : after.source.told ≡ before.source.told
+  pub told : after.source.files ≡ before.source.files
   pub source : before.source.faults ≤ after.source.faults
   pub shelf : before.shelf.faults ≤ after.shelf.faults
   pub screen : before.screen.faults ≤ after.screen.faults

@@ -1,7 +1,7 @@
 -- What a command writes where no trap is met: its files, and the text of the screen.
 use Rattle.std.specs.Prelude.{◌≡◌, ℕ, List, [], ◌∷◌, ◌++◌, Option, Some, codes, option_and_then}
 use Rattle.std.specs.Option.{option_map}
-use Rattle.crew.specs.Hosts.{Account}
+use Rattle.outside.specs.Accounts.{Account}
 use Rattle.csv_rows.specs.Text.{table_text}
 use Rattle.script_loading.specs.of_direct_meaning.Direct.{made_at, meaning, sizes_of, traps_of}
 use Rattle.script_loading.specs.of_direct_meaning.Inputs.{inputs_of}

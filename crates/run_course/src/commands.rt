@@ -2,12 +2,11 @@
 ghost use Rattle.std.specs.Prelude.{◌≡◌, ◌≤◌, ◌<◌, ◌++◌, [], IfErr, IfOk, codes, drop, length, map};
 ghost use Rattle.std.specs.List.{AllZip};
 ghost use Rattle.command_words.specs.declared.words.Command.TheVariants.{Direct, Run};
-ghost use Rattle.crew.specs.Hosts.{Grew, account};
+ghost use Rattle.crew.specs.Hosts.{Grew};
 ghost use Rattle.script_loading.specs.of_direct_meaning.Inputs.{inputs_of};
 ghost use Rattle.exec_graph.specs.Wellformed.{IsGraphOk};
 ghost use Rattle.script_loading.specs.of_graph_build.Graphs.{graph_of};
 ghost use Rattle.outside.specs.Saves.{output_file};
-ghost use Rattle.outside.specs.Seen.{seen};
 ghost use Rattle.script_loading.specs.of_script_laws.WellFormed.{IsWellFormed};
 ghost use Rattle.run_course.specs.Asked as spec;
 ghost use Rattle.run_course.specs.Asks.{files_behind, plan_file};
@@ -58,22 +57,19 @@ pub fn carried_out<X: Threads + Sync, R: Source, H: Host + Send>(
     requires ready { IsReady program.now.script }
     requires graph { IsGraphOk (graph_of program.now.script) }
     requires sixteen { length hosts.old ≡ 16 }
-    ensures written { IfOk result (λ it. Writes command.now (R.files source.old)
-        (map (account H.notes H.losses) hosts.old) (map (account H.notes H.losses) hosts.new)
+    ensures written { IfOk result (λ it. Writes command.now (R.seen source.old).files
+        (map H.account hosts.old) (map H.account hosts.new)
         program.now.script (map output_file it.outputs.items) it.screen.items) }
-    ensures stop { IfErr result (IsCommandStop command.now (seen R.files R.faults source.old)
-        (seen R.files R.faults source.new) (map (account H.notes H.losses) hosts.old)
-        (map (account H.notes H.losses) hosts.new) program.now.script) }
+    ensures stop { IfErr result (IsCommandStop command.now (R.seen source.old) (R.seen source.new)
+        (map H.account hosts.old) (map H.account hosts.new) program.now.script) }
     ensures asked { AsksUntil (spec.tries_of command.now)
         (files_behind command.now program.now.script)
-        (seen R.asked R.faults source.old) (seen R.asked R.faults source.new) result }
-    ensures asked_hosts { AsksHostsUntil command.now (R.files source.old) program.now.script
-        (map (account H.notes H.losses) hosts.old) (map (account H.notes H.losses) hosts.new)
-        result }
-    ensures files { R.files source.new ≡ R.files source.old }
-    ensures later { R.faults source.old ≤ R.faults source.new }
-    ensures grew { AllZip Grew (map (account H.notes H.losses) hosts.old)
-        (map (account H.notes H.losses) hosts.new) }
+        (R.seen source.old) (R.seen source.new) result }
+    ensures asked_hosts { AsksHostsUntil command.now (R.seen source.old).files program.now.script
+        (map H.account hosts.old) (map H.account hosts.new) result }
+    ensures files { (R.seen source.new).files ≡ (R.seen source.old).files }
+    ensures later { (R.seen source.old).faults ≤ (R.seen source.new).faults }
+    ensures grew { AllZip Grew (map H.account hosts.old) (map H.account hosts.new) }
     ensures hosts { drop (lends command.now) hosts.new ≡ drop (lends command.now) hosts.old }
 {
     match command {
@@ -120,14 +116,14 @@ fn meant<X: Threads + Sync, R: Source>(
     requires well_formed { IsWellFormed program.now.script }
     requires written { HasNoSaved program.now.script }
     requires ready { IsReady program.now.script }
-    ensures written { IfOk result (λ it. WritesMeaning (R.files source.old) program.now.script
+    ensures written { IfOk result (λ it. WritesMeaning (R.seen source.old).files program.now.script
         [] (map output_file it.outputs.items) it.screen.items) }
-    ensures stop { IfErr result (IsMeaningStop (seen R.files R.faults source.old)
-        (seen R.files R.faults source.new) program.now.script) }
+    ensures stop { IfErr result (IsMeaningStop (R.seen source.old)
+        (R.seen source.new) program.now.script) }
     ensures asked { AsksUntil (spec.tries_of Direct) (file_names (inputs_of program.now.script))
-        (seen R.asked R.faults source.old) (seen R.asked R.faults source.new) result }
-    ensures files { R.files source.new ≡ R.files source.old }
-    ensures later { R.faults source.old ≤ R.faults source.new }
+        (R.seen source.old) (R.seen source.new) result }
+    ensures files { (R.seen source.new).files ≡ (R.seen source.old).files }
+    ensures later { (R.seen source.old).faults ≤ (R.seen source.new).faults }
 {
     let inputs = rows_of_inputs(rt, alloc, program, source, TRIES, 1)?;
     written_meaning(alloc, program, inputs)
@@ -148,23 +144,20 @@ fn run_on<X: Threads + Sync, R: Source, H: Host + Send>(
     requires ready { IsReady program.now.script }
     requires graph { IsGraphOk (graph_of program.now.script) }
     requires sixteen { length hosts.old ≡ 16 }
-    ensures written { IfOk result (λ it. WritesRun settings.now from.now (R.files source.old)
-        (map (account H.notes H.losses) hosts.old) (map (account H.notes H.losses) hosts.new)
+    ensures written { IfOk result (λ it. WritesRun settings.now from.now (R.seen source.old).files
+        (map H.account hosts.old) (map H.account hosts.new)
         program.now.script (map output_file it.outputs.items) it.screen.items) }
-    ensures stop { IfErr result (IsCommandStop (Run settings.now from.now)
-        (seen R.files R.faults source.old) (seen R.files R.faults source.new)
-        (map (account H.notes H.losses) hosts.old) (map (account H.notes H.losses) hosts.new)
+    ensures stop { IfErr result (IsCommandStop (Run settings.now from.now) (R.seen source.old)
+        (R.seen source.new) (map H.account hosts.old) (map H.account hosts.new)
         program.now.script) }
     ensures asked { AsksUntil settings.now.tries
         (file_names (inputs_of program.now.script) ++ plan_file from.now)
-        (seen R.asked R.faults source.old) (seen R.asked R.faults source.new) result }
-    ensures asked_hosts { AsksHostsUntil (Run settings.now from.now) (R.files source.old)
-        program.now.script (map (account H.notes H.losses) hosts.old)
-        (map (account H.notes H.losses) hosts.new) result }
-    ensures files { R.files source.new ≡ R.files source.old }
-    ensures later { R.faults source.old ≤ R.faults source.new }
-    ensures grew { AllZip Grew (map (account H.notes H.losses) hosts.old)
-        (map (account H.notes H.losses) hosts.new) }
+        (R.seen source.old) (R.seen source.new) result }
+    ensures asked_hosts { AsksHostsUntil (Run settings.now from.now) (R.seen source.old).files
+        program.now.script (map H.account hosts.old) (map H.account hosts.new) result }
+    ensures files { (R.seen source.new).files ≡ (R.seen source.old).files }
+    ensures later { (R.seen source.old).faults ≤ (R.seen source.new).faults }
+    ensures grew { AllZip Grew (map H.account hosts.old) (map H.account hosts.new) }
     ensures hosts { drop settings.now.workers hosts.new ≡ drop settings.now.workers hosts.old }
 {
     let tries = settings.tries();

@@ -2,9 +2,8 @@
 ghost use Rattle.std.specs.Prelude.{◌≡◌, ◌≤◌, ◌<◌, IfErr, IfOk, Some, drop, length, map, slice_get, string_bytes};
 ghost use Rattle.std.specs.List.{AllZip};
 ghost use Rattle.std.specs.Option.{option_map};
-ghost use Rattle.crew.specs.Hosts.{Grew, account};
+ghost use Rattle.crew.specs.Hosts.{Grew};
 ghost use Rattle.outside.specs.Saves.{output_file};
-ghost use Rattle.outside.specs.Seen.{seen, seen_shelf};
 ghost use Rattle.run_course.specs.Answers.{Answers};
 ghost use Rattle.run_course.specs.Asks.{AsksFor};
 ghost use Rattle.run_course.specs.Hosts.{AsksHosts};
@@ -38,12 +37,8 @@ pub fn run<X: Threads + Sync, R: Source, H: Host + Send, K: Shelf, P: Screen>(
 ) -> Status
     requires { length hosts.old ≡ 16 }
     ensures promises { Promises (map string_bytes words.now)
-        (world (seen R.files R.faults source.old) (R.asked source.old)
-        (seen_shelf K.files K.begun K.left K.faults shelf.old) (seen P.text P.faults screen.old)
-        (map (account H.notes H.losses) hosts.old))
-        (world (seen R.files R.faults source.new) (R.asked source.new)
-        (seen_shelf K.files K.begun K.left K.faults shelf.new) (seen P.text P.faults screen.new)
-        (map (account H.notes H.losses) hosts.new))
+        (world (R.seen source.old) (K.seen shelf.old) (P.seen screen.old) (map H.account hosts.old))
+        (world (R.seen source.new) (K.seen shelf.new) (P.seen screen.new) (map H.account hosts.new))
         result }
     ensures hosts { drop (lent_to (map string_bytes words.now)) hosts.new
         ≡ drop (lent_to (map string_bytes words.now)) hosts.old }
@@ -63,25 +58,17 @@ fn answer<X: Threads + Sync, R: Source, H: Host + Send, K: Shelf, P: Screen>(
 ) -> Status
     requires { length hosts.old ≡ 16 }
     ensures answers { Answers (map string_bytes words.now)
-        (world (seen R.files R.faults source.old) (R.asked source.old)
-        (seen_shelf K.files K.begun K.left K.faults shelf.old) (seen P.text P.faults screen.old)
-        (map (account H.notes H.losses) hosts.old))
-        (world (seen R.files R.faults source.new) (R.asked source.new)
-        (seen_shelf K.files K.begun K.left K.faults shelf.new) (seen P.text P.faults screen.new)
-        (map (account H.notes H.losses) hosts.new))
+        (world (R.seen source.old) (K.seen shelf.old) (P.seen screen.old) (map H.account hosts.old))
+        (world (R.seen source.new) (K.seen shelf.new) (P.seen screen.new) (map H.account hosts.new))
         result }
     ensures kept { Keeps
-        (world (seen R.files R.faults source.old) (R.asked source.old)
-        (seen_shelf K.files K.begun K.left K.faults shelf.old) (seen P.text P.faults screen.old)
-        (map (account H.notes H.losses) hosts.old))
-        (world (seen R.files R.faults source.new) (R.asked source.new)
-        (seen_shelf K.files K.begun K.left K.faults shelf.new) (seen P.text P.faults screen.new)
-        (map (account H.notes H.losses) hosts.new)) }
-    ensures asked { AsksFor (map string_bytes words.now) (R.files source.old)
-        (seen R.asked R.faults source.old) (seen R.asked R.faults source.new) result }
-    ensures asked_hosts { AsksHosts (map string_bytes words.now) (R.files source.old)
-        (map (account H.notes H.losses) hosts.old) (map (account H.notes H.losses) hosts.new)
-        result }
+        (world (R.seen source.old) (K.seen shelf.old) (P.seen screen.old) (map H.account hosts.old))
+        (world (R.seen source.new) (K.seen shelf.new) (P.seen screen.new)
+        (map H.account hosts.new)) }
+    ensures asked { AsksFor (map string_bytes words.now) (R.seen source.old)
+        (R.seen source.new) result }
+    ensures asked_hosts { AsksHosts (map string_bytes words.now) (R.seen source.old).files
+        (map H.account hosts.old) (map H.account hosts.new) result }
     ensures hosts { drop (lent_to (map string_bytes words.now)) hosts.new
         ≡ drop (lent_to (map string_bytes words.now)) hosts.old }
 {
@@ -113,21 +100,17 @@ fn prepare<X: Threads + Sync, R: Source, H: Host + Send>(
 ) -> Result<Written, Stop>
     requires { length hosts.old ≡ 16 }
     ensures ok { IfOk result (λ written. IsWritten (map string_bytes words.now)
-        (R.files source.old) (map (account H.notes H.losses) hosts.old)
-        (map (account H.notes H.losses) hosts.new)
+        (R.seen source.old).files (map H.account hosts.old) (map H.account hosts.new)
         (map output_file written.outputs.items) written.screen.items) }
-    ensures err { IfErr result (IsStopped (map string_bytes words.now)
-        (seen R.files R.faults source.old) (seen R.files R.faults source.new)
-        (map (account H.notes H.losses) hosts.old) (map (account H.notes H.losses) hosts.new)) }
-    ensures asked { AsksInCall (map string_bytes words.now) (R.files source.old)
-        (seen R.asked R.faults source.old) (seen R.asked R.faults source.new) result }
-    ensures asked_hosts { AsksHostsInCall (map string_bytes words.now) (R.files source.old)
-        (map (account H.notes H.losses) hosts.old) (map (account H.notes H.losses) hosts.new)
-        result }
-    ensures files { R.files source.new ≡ R.files source.old }
-    ensures later { R.faults source.old ≤ R.faults source.new }
-    ensures grew { AllZip Grew (map (account H.notes H.losses) hosts.old)
-        (map (account H.notes H.losses) hosts.new) }
+    ensures err { IfErr result (IsStopped (map string_bytes words.now) (R.seen source.old)
+        (R.seen source.new) (map H.account hosts.old) (map H.account hosts.new)) }
+    ensures asked { AsksInCall (map string_bytes words.now) (R.seen source.old)
+        (R.seen source.new) result }
+    ensures asked_hosts { AsksHostsInCall (map string_bytes words.now) (R.seen source.old).files
+        (map H.account hosts.old) (map H.account hosts.new) result }
+    ensures files { (R.seen source.new).files ≡ (R.seen source.old).files }
+    ensures later { (R.seen source.old).faults ≤ (R.seen source.new).faults }
+    ensures grew { AllZip Grew (map H.account hosts.old) (map H.account hosts.new) }
     ensures hosts { drop (lent_to (map string_bytes words.now)) hosts.new
         ≡ drop (lent_to (map string_bytes words.now)) hosts.old }
 {
@@ -141,11 +124,9 @@ fn prepare<X: Threads + Sync, R: Source, H: Host + Send>(
 /// Writes the files, and then the text of the screen. It takes no memory.
 pub fn deliver<K: Shelf, P: Screen>(written: Written, shelf: &mut K, screen: &mut P) -> Status
     ensures delivered { Delivers (map output_file written.outputs.items) written.screen.items
-        (seen_shelf K.files K.begun K.left K.faults shelf.old)
-        (seen_shelf K.files K.begun K.left K.faults shelf.new)
-        (seen P.text P.faults screen.old) (seen P.text P.faults screen.new) result }
-    ensures shelf { K.faults shelf.old ≤ K.faults shelf.new }
-    ensures screen { P.faults screen.old ≤ P.faults screen.new }
+        (K.seen shelf.old) (K.seen shelf.new) (P.seen screen.old) (P.seen screen.new) result }
+    ensures shelf { (K.seen shelf.old).faults ≤ (K.seen shelf.new).faults }
+    ensures screen { (P.seen screen.old).faults ≤ (P.seen screen.new).faults }
 {
     if let Err(place) = save_all(shelf, &written.outputs) {
         let status = Status::WriteFault {

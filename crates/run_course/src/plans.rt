@@ -3,7 +3,6 @@ ghost use Rattle.std.specs.Prelude.{◌≡◌, ◌≤◌, ◌<◌, ◌∷◌, []
 ghost use Rattle.exec_graph.specs.Wellformed.{IsGraphOk};
 ghost use Rattle.script_loading.specs.of_graph_build.Graphs.{graph_of};
 ghost use Rattle.outside.specs.Asked.{Asks};
-ghost use Rattle.outside.specs.Seen.{seen};
 ghost use Rattle.script_loading.specs.of_script_laws.WellFormed.{IsWellFormed};
 ghost use Rattle.script_loading.specs.Ready.{IsReady};
 ghost use Rattle.script_run.specs.Runs.{IsPlanOf};
@@ -33,15 +32,14 @@ pub fn plan_for<R: Source>(
     requires graph { IsGraphOk (graph_of program.now.script) }
     requires tries { 0 < tries }
     ensures plan { IfOk result (λ it.
-        IsPlanFor (R.files source.old) program.now.script from.now it.plan) }
+        IsPlanFor (R.seen source.old).files program.now.script from.now it.plan) }
     ensures of_script { IfOk result (λ it. IsPlanOf program.now.script it.plan) }
     ensures text { IfOk result (λ it. it.text.items ≡ text_shown program.now.script it.plan) }
-    ensures stop { IfErr result (IsPlanStop tries (seen R.files R.faults source.old)
-        (seen R.files R.faults source.new) program.now.script from.now) }
-    ensures asked { Asks tries (plan_file from.now) (seen R.asked R.faults source.old)
-        (seen R.asked R.faults source.new) }
-    ensures files { R.files source.new ≡ R.files source.old }
-    ensures later { R.faults source.old ≤ R.faults source.new }
+    ensures stop { IfErr result (IsPlanStop tries (R.seen source.old)
+        (R.seen source.new) program.now.script from.now) }
+    ensures asked { Asks tries (plan_file from.now) (R.seen source.old) (R.seen source.new) }
+    ensures files { (R.seen source.new).files ≡ (R.seen source.old).files }
+    ensures later { (R.seen source.old).faults ≤ (R.seen source.new).faults }
 {
     match from {
         Some(name) => plan_in_file(alloc, program, name.as_str(), source, tries),
@@ -62,15 +60,14 @@ fn plan_in_file<R: Source>(
     requires graph { IsGraphOk (graph_of program.now.script) }
     requires tries { 0 < tries }
     ensures plan { IfOk result (λ it.
-        IsPlanFor (R.files source.old) program.now.script (Some name.now) it.plan) }
+        IsPlanFor (R.seen source.old).files program.now.script (Some name.now) it.plan) }
     ensures of_script { IfOk result (λ it. IsPlanOf program.now.script it.plan) }
     ensures text { IfOk result (λ it. it.text.items ≡ text_shown program.now.script it.plan) }
-    ensures stop { IfErr result (IsFileCause tries (seen R.files R.faults source.old)
-        (seen R.files R.faults source.new) program.now.script name.now) }
-    ensures asked { Asks tries (name.now ∷ []) (seen R.asked R.faults source.old)
-        (seen R.asked R.faults source.new) }
-    ensures files { R.files source.new ≡ R.files source.old }
-    ensures later { R.faults source.old ≤ R.faults source.new }
+    ensures stop { IfErr result (IsFileCause tries (R.seen source.old)
+        (R.seen source.new) program.now.script name.now) }
+    ensures asked { Asks tries (name.now ∷ []) (R.seen source.old) (R.seen source.new) }
+    ensures files { (R.seen source.new).files ≡ (R.seen source.old).files }
+    ensures later { (R.seen source.old).faults ≤ (R.seen source.new).faults }
 {
     let bytes = plan_bytes(alloc, name, source, tries)?;
     taken_shown(alloc, program, bytes.as_slice())

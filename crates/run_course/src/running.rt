@@ -1,7 +1,7 @@
 // What the run of a plan of a script writes, or why it writes nothing.
 ghost use Rattle.std.specs.Prelude.{◌≡◌, ◌++◌, IfErr, IfOk, codes, drop, length, map};
 ghost use Rattle.std.specs.List.{AllZip};
-ghost use Rattle.crew.specs.Hosts.{Grew, account};
+ghost use Rattle.crew.specs.Hosts.{Grew};
 ghost use Rattle.script_loading.specs.of_direct_meaning.Inputs.{AreInputs};
 ghost use Rattle.outside.specs.Saves.{output_file};
 ghost use Rattle.run_texts.specs.Texts.{size_lines};
@@ -45,17 +45,16 @@ pub fn written_run<X: Threads + Sync, H: Host + Send>(
     ensures written { IfOk result (λ it. GivesFiles program.now.script inputs shown.text.items
         (map output_file it.outputs.items) it.screen.items) }
     ensures ran { IfOk result (λ it. AllTasksRan settings.now program.now.script inputs shown.plan
-        (lent settings.now (map (account H.notes H.losses) hosts.old))
-        (lent settings.now (map (account H.notes H.losses) hosts.new))) }
+        (lent settings.now (map H.account hosts.old))
+        (lent settings.now (map H.account hosts.new))) }
     ensures asked { AsksSomePhases settings.now
         (phases_of settings.now program.now.script inputs shown.plan)
-        (lent settings.now (map (account H.notes H.losses) hosts.old))
-        (lent settings.now (map (account H.notes H.losses) hosts.new)) }
+        (lent settings.now (map H.account hosts.old))
+        (lent settings.now (map H.account hosts.new)) }
     ensures stop { IfErr result (IsRunStop settings.now program.now.script inputs shown.plan
-        (lent settings.now (map (account H.notes H.losses) hosts.old))
-        (lent settings.now (map (account H.notes H.losses) hosts.new))) }
-    ensures grew { AllZip Grew (map (account H.notes H.losses) hosts.old)
-        (map (account H.notes H.losses) hosts.new) }
+        (lent settings.now (map H.account hosts.old))
+        (lent settings.now (map H.account hosts.new))) }
+    ensures grew { AllZip Grew (map H.account hosts.old) (map H.account hosts.new) }
     ensures hosts { drop settings.now.workers hosts.new ≡ drop settings.now.workers hosts.old }
 {
     let ShownPlan { plan, text } = shown;
@@ -86,16 +85,15 @@ pub fn ran_on<X: Threads + Sync, H: Host + Send>(
     requires sixteen { length hosts.old ≡ 16 }
     ensures asked { AsksSomePhases settings.now
         (phases_of settings.now program.now.script inputs plan.now)
-        (lent settings.now (map (account H.notes H.losses) hosts.old))
-        (lent settings.now (map (account H.notes H.losses) hosts.new)) }
+        (lent settings.now (map H.account hosts.old))
+        (lent settings.now (map H.account hosts.new)) }
     ensures ran { IfOk result (IsRan settings.now program.now.script inputs plan.now
-        (lent settings.now (map (account H.notes H.losses) hosts.old))
-        (lent settings.now (map (account H.notes H.losses) hosts.new))) }
+        (lent settings.now (map H.account hosts.old))
+        (lent settings.now (map H.account hosts.new))) }
     ensures fault { IfErr result (IsRunFault settings.now program.now.script inputs plan.now
-        (lent settings.now (map (account H.notes H.losses) hosts.old))
-        (lent settings.now (map (account H.notes H.losses) hosts.new))) }
-    ensures grew { AllZip Grew (map (account H.notes H.losses) hosts.old)
-        (map (account H.notes H.losses) hosts.new) }
+        (lent settings.now (map H.account hosts.old))
+        (lent settings.now (map H.account hosts.new))) }
+    ensures grew { AllZip Grew (map H.account hosts.old) (map H.account hosts.new) }
     ensures hosts { drop settings.now.workers hosts.new ≡ drop settings.now.workers hosts.old }
 {
     let (lent, _spare) = hosts.split_at_mut(settings.workers() as usize);

@@ -139,11 +139,9 @@ impl<'a> TestHost<'a> {
 }
 
 impl<'a> Host for TestHost<'a> {
-    ghost use Rattle.std.specs.Prelude.{None};
+    ghost use Rattle.outside.specs.Accounts.{calm};
 
-    ghost notes = { λ _. None };
-
-    ghost losses = { λ _. 0 };
+    ghost account = { λ _. calm };
 
     fn pass(&mut self, at: At) -> Result<(), Down> {
         if let Some(seat) = self.seat {

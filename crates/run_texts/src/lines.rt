@@ -2,7 +2,6 @@
 ghost use Rattle.std.specs.Prelude.{◌≡◌, ◌≤◌};
 ghost use Rattle.run_texts.specs.Lines.{line_of, phase_name, place_line, plan_kind_name, row_kind_name, script_kind_name, trap_kind_name, trap_line};
 ghost use Rattle.outside.specs.Says.{HasLine, Says};
-ghost use Rattle.outside.specs.Seen.{seen};
 
 use crate::status::{Place, Status};
 use csv_rows::RowKind;
@@ -15,9 +14,8 @@ use printing::{say_named, say_value};
 
 /// Writes the line of a refusal as far as the screen takes it.
 pub fn tell<P: Screen>(screen: &mut P, status: &Status)
-    ensures line { HasLine (line_of status.now)
-        (seen P.text P.faults screen.old) (seen P.text P.faults screen.new) }
-    ensures later { P.faults screen.old ≤ P.faults screen.new }
+    ensures line { HasLine (line_of status.now) (P.seen screen.old) (P.seen screen.new) }
+    ensures later { (P.seen screen.old).faults ≤ (P.seen screen.new).faults }
 {
     let _ = say_line(screen, status);
 }
@@ -26,15 +24,14 @@ pub fn tell<P: Screen>(screen: &mut P, status: &Status)
 /// to make a part of, why it traps, and its element.
 pub fn tell_trap<P: Screen>(screen: &mut P, name: &[u8], kind: Kind, element: &Value)
     ensures line { HasLine (trap_line name.now kind element.now)
-        (seen P.text P.faults screen.old) (seen P.text P.faults screen.new) }
-    ensures later { P.faults screen.old ≤ P.faults screen.new }
+        (P.seen screen.old) (P.seen screen.new) }
+    ensures later { (P.seen screen.old).faults ≤ (P.seen screen.new).faults }
 {
     let _ = say_trap(screen, name, kind, element);
 }
 
 fn say_line<P: Screen>(screen: &mut P, status: &Status) -> Result<(), Failed>
-    ensures { Says (line_of status.now)
-        (seen P.text P.faults screen.old) (seen P.text P.faults screen.new) result }
+    ensures { Says (line_of status.now) (P.seen screen.old) (P.seen screen.new) result }
 {
     match status {
         Status::Done | Status::Trap { .. } => say_all(screen, &[]),
@@ -67,7 +64,7 @@ fn say_trap<P: Screen>(
     element: &Value,
 ) -> Result<(), Failed>
     ensures { Says (trap_line name.now kind element.now)
-        (seen P.text P.faults screen.old) (seen P.text P.faults screen.new) result }
+        (P.seen screen.old) (P.seen screen.new) result }
 {
     say(screen, b"trap at ")?;
     say(screen, name)?;
@@ -78,7 +75,7 @@ fn say_trap<P: Screen>(
 
 fn say_script_refused<P: Screen>(screen: &mut P, line: u32, kind: ScriptKind) -> Result<(), Failed>
     ensures { Says (line_of (Status.ScriptRefused line kind))
-        (seen P.text P.faults screen.old) (seen P.text P.faults screen.new) result }
+        (P.seen screen.old) (P.seen screen.new) result }
 {
     let mut digits = Buffer::new();
     let line = digits.format(line).as_bytes();
@@ -100,7 +97,7 @@ fn say_input_refused<P: Screen>(
     kind: RowKind,
 ) -> Result<(), Failed>
     ensures { Says (line_of (Status.InputRefused name.now row column kind))
-        (seen P.text P.faults screen.old) (seen P.text P.faults screen.new) result }
+        (P.seen screen.old) (P.seen screen.new) result }
 {
     let mut row_digits = Buffer::new();
     let mut column_digits = Buffer::new();
@@ -120,7 +117,7 @@ fn say_input_refused<P: Screen>(
 
 fn say_gave_up<P: Screen>(screen: &mut P, stage: u32, phase: Phase, task: u32) -> Result<(), Failed>
     ensures { Says (line_of (Status.GaveUp stage phase task))
-        (seen P.text P.faults screen.old) (seen P.text P.faults screen.new) result }
+        (P.seen screen.old) (P.seen screen.new) result }
 {
     let mut stage_digits = Buffer::new();
     let mut task_digits = Buffer::new();
@@ -140,7 +137,7 @@ fn say_gave_up<P: Screen>(screen: &mut P, stage: u32, phase: Phase, task: u32) -
 
 fn say_too_long<P: Screen>(screen: &mut P, name: &[u8], limit: u64) -> Result<(), Failed>
     ensures { Says (line_of (Status.TooLong name.now limit))
-        (seen P.text P.faults screen.old) (seen P.text P.faults screen.new) result }
+        (P.seen screen.old) (P.seen screen.new) result }
 {
     let mut digits = Buffer::new();
     let limit = digits.format(limit).as_bytes();
@@ -154,7 +151,7 @@ fn say_too_long<P: Screen>(screen: &mut P, name: &[u8], limit: u64) -> Result<()
 
 fn say_plan_refused<P: Screen>(screen: &mut P, step: u32, kind: PlanKind) -> Result<(), Failed>
     ensures { Says (line_of (Status.PlanRefused step kind))
-        (seen P.text P.faults screen.old) (seen P.text P.faults screen.new) result }
+        (P.seen screen.old) (P.seen screen.new) result }
 {
     let mut digits = Buffer::new();
     let step = digits.format(step).as_bytes();
@@ -170,8 +167,7 @@ fn say_plan_refused<P: Screen>(screen: &mut P, step: u32, kind: PlanKind) -> Res
 
 // A screen that failed gets no line.
 fn say_place<P: Screen>(screen: &mut P, place: &Place) -> Result<(), Failed>
-    ensures { Says (place_line place.now)
-        (seen P.text P.faults screen.old) (seen P.text P.faults screen.new) result }
+    ensures { Says (place_line place.now) (P.seen screen.old) (P.seen screen.new) result }
 {
     match place {
         Place::File(name) => say_named(screen, b"write fault: ", name.as_bytes(), &[b"\n"]),

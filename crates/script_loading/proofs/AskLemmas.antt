@@ -3,7 +3,8 @@ use Rattle.std.proofs.Common.{◌≡◌, ℕ, suc, ◌+◌, ◌<◌, Bool, true,
 use Rattle.std.proofs.lemmas.List.{map-append}
 use Rattle.build_law.specs.of_direct_meaning.Inputs.{Wanted, inputs_of}
 use Rattle.outside.specs.Asked.{Asks, AsksFront}
-use Rattle.outside.proofs.AskLemmas.{SeenAsks, asks_both, asks_front, asks_none}
+use Rattle.outside.proofs.AskLemmas.{asks_both, asks_front, asks_none}
+use Rattle.outside.specs.Seen.{SeenSource}
 use Rattle.script_program.specs.Needed.{is_needed}
 use Rattle.script_program.specs.Script.{Script}
 use Rattle.script_loading.specs.Loads.{file_names}
@@ -44,14 +45,14 @@ inputs_split script number entry false found is =
 
 module _ (tries : ℕ) (script : Script) (number : ℕ) where
   -- a node that is not needed
-  pub asks_unneeded : (it : SeenAsks) → is_needed script number ≡ false
+  pub asks_unneeded : (it : SeenSource) → is_needed script number ≡ false
       → Asks tries (file_names (inputs_at script number)) it it
   asks_unneeded it is =
       subst (λ (l : List Wanted). Asks tries (file_names l) it it)
       (sym (at_unneeded script number is)) (asks_none tries it)
 
   -- a node that is no input
-  pub asks_other : (it : SeenAsks) (entry : Entry) → slice_get script.nodes number ≡ Some entry
+  pub asks_other : (it : SeenSource) (entry : Entry) → slice_get script.nodes number ≡ Some entry
       → is_needed script number ≡ true → wanted entry ≡ []
       → Asks tries (file_names (inputs_at script number)) it it
   asks_other it entry found is other =
@@ -59,7 +60,7 @@ module _ (tries : ℕ) (script : Script) (number : ℕ) where
       (sym (at_needed script number entry found is ∙ other)) (asks_none tries it)
 
   -- a node that is this input
-  pub asks_input : (before after : SeenAsks) (entry : Entry) (it : Wanted)
+  pub asks_input : (before after : SeenSource) (entry : Entry) (it : Wanted)
       → slice_get script.nodes number ≡ Some entry → is_needed script number ≡ true
       → wanted entry ≡ it ∷ []
       → Asks tries (it.file ∷ []) before after
@@ -70,10 +71,10 @@ module _ (tries : ℕ) (script : Script) (number : ℕ) where
 
 -- ---- the nodes so far
 
-pub none_asked : (tries : ℕ) (script : Script) (it : SeenAsks) → HasAsked tries script 0 it it
+pub none_asked : (tries : ℕ) (script : Script) (it : SeenSource) → HasAsked tries script 0 it it
 none_asked tries script it = ([], refl, asks_none tries it)
 
-pub more_asked : (tries : ℕ) (script : Script) (number : ℕ) (before middle after : SeenAsks)
+pub more_asked : (tries : ℕ) (script : Script) (number : ℕ) (before middle after : SeenSource)
     → number < length script.nodes → HasAsked tries script number before middle
     → Asks tries (file_names (inputs_at script number)) middle after
     → HasAsked tries script (number + 1) before after
@@ -91,7 +92,7 @@ more_asked tries script number before middle after within asked asks =
           (asks_both tries (file_names asked.0) (file_names own) before middle after asked.2 asks),
     )
 
-pub front_asked : (tries : ℕ) (script : Script) (number : ℕ) (before after : SeenAsks)
+pub front_asked : (tries : ℕ) (script : Script) (number : ℕ) (before after : SeenSource)
     → HasAsked tries script number before after
     → AsksFront tries (file_names (inputs_of script)) before after
 front_asked tries script number before after asked =

@@ -12,7 +12,7 @@ use Rattle.flume_types.specs.Columns.{input_columns_of}
 use Rattle.flume_types.specs.Typing.{AllHave}
 use Rattle.flume_types.specs.declared.column.Column.{Column}
 use Rattle.flume_value.specs.declared.value.Value.{Value}
-use Rattle.outside.specs.Seen.{Seen}
+use Rattle.outside.specs.Seen.{SeenSource}
 use Rattle.outside.specs.declared.file.File.{File as NamedBytes}
 use Rattle.run_texts.specs.declared.status.Status.{Status}
 use Rattle.script_program.specs.declared.made.Made.{Made}
@@ -162,10 +162,10 @@ reads_more told script number rows entry it own found needed is has read =
     )
 
 -- why an input has no rows is why the inputs have none
-pub stops_at : (tries : ℕ) (before after : Seen (List NamedBytes)) (script : Script) (number : ℕ)
+pub stops_at : (tries : ℕ) (before after : SeenSource) (script : Script) (number : ℕ)
     (rows : List (List Value)) (entry : Entry) (it : Wanted) (status : Status)
     → slice_get script.nodes number ≡ Some entry → is_needed script number ≡ true
-    → wanted entry ≡ it ∷ [] → HasRead before.told script number rows
+    → wanted entry ≡ it ∷ [] → HasRead before.files script number rows
     → IsInputCause tries before after it status
     → IsInputsCause tries before after (inputs_of script) status
 stops_at tries before after script number rows entry it status found needed is read cause = (

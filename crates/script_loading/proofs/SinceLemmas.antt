@@ -2,7 +2,7 @@
 use Rattle.std.proofs.Common.{◌≡◌, ℕ, ◌≤◌, List, Option, subst, arith}
 use Rattle.build_law.specs.of_direct_meaning.Inputs.{Wanted}
 use Rattle.outside.specs.Cause.{RoseBy}
-use Rattle.outside.specs.Seen.{Seen}
+use Rattle.outside.specs.Seen.{SeenSource}
 use Rattle.outside.specs.declared.file.File.{File as NamedBytes}
 use Rattle.run_texts.specs.declared.status.Status.{Status}
 use Rattle.run_texts.specs.declared.status.Status.TheVariants.{Done, GaveUp, Usage, ScriptRefused, InputRefused, Trap, ReadFault, WriteFault, WantOfMemory, TooLong, NoFile, PlanRefused}
@@ -13,16 +13,13 @@ use Rattle.script_loading.specs.Limits.{input_limit}
 abbrev Told : Type 0
 Told = Option (List NamedBytes)
 
-abbrev SeenSource : Type 0
-SeenSource = Seen (List NamedBytes)
-
 -- a count that rose after a later moment rose
 rose_since : (tries before middle after : ℕ) → before ≤ middle → RoseBy tries middle after
     → RoseBy tries before after
 rose_since tries before middle after later rose = omega arith
 
 module _ (tries : ℕ) (before middle after : SeenSource) where
-  input_since : (wanted : Wanted) (status : Status) → middle.told ≡ before.told
+  input_since : (wanted : Wanted) (status : Status) → middle.files ≡ before.files
       → before.faults ≤ middle.faults → IsInputCause tries middle after wanted status
       → IsInputCause tries before after wanted status
   input_since wanted (InputRefused name row column kind) told later cause = (
@@ -50,7 +47,7 @@ module _ (tries : ℕ) (before middle after : SeenSource) where
   input_since wanted (PlanRefused step kind) told later cause = absurd cause
 
   -- the same of a file that is loaded
-  pub load_since : (name : List ℕ) (limit : ℕ) (status : Status) → middle.told ≡ before.told
+  pub load_since : (name : List ℕ) (limit : ℕ) (status : Status) → middle.files ≡ before.files
       → before.faults ≤ middle.faults → IsLoadCause tries middle after name limit status
       → IsLoadCause tries before after name limit status
   load_since name limit (NoFile other) told later cause =
@@ -70,7 +67,7 @@ module _ (tries : ℕ) (before middle after : SeenSource) where
   load_since name limit (PlanRefused step kind) told later cause = absurd cause
 
   -- the same cause, counted from an earlier moment
-  pub inputs_since : (inputs : List Wanted) (status : Status) → middle.told ≡ before.told
+  pub inputs_since : (inputs : List Wanted) (status : Status) → middle.files ≡ before.files
       → before.faults ≤ middle.faults → IsInputsCause tries middle after inputs status
       → IsInputsCause tries before after inputs status
   inputs_since inputs status told later cause = (

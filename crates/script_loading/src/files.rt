@@ -1,7 +1,6 @@
 // A file, as it is loaded.
 ghost use Rattle.std.specs.Prelude.{◌≡◌, ◌≤◌, ◌<◌, ◌⊎◌, ◌∷◌, [], IfErr, IfOk};
 ghost use Rattle.outside.specs.Asked.{Asks};
-ghost use Rattle.outside.specs.Seen.{seen};
 ghost use Rattle.script_loading.specs.Causes.{IsLoadCause};
 ghost use Rattle.script_loading.specs.Loads.{Loads};
 ghost use Rattle.script_loading.specs.inner.Reading.{status_of};
@@ -20,13 +19,12 @@ pub fn loaded<R: Source>(
     tries: u32,
 ) -> Result<Pieces, Status>
     requires tries { 0 < tries }
-    ensures files { R.files source.new ≡ R.files source.old }
-    ensures ok { IfOk result (λ bytes. Loads (R.files source.old) name.now limit bytes) }
-    ensures err { IfErr result (IsLoadCause tries (seen R.files R.faults source.old)
-        (seen R.files R.faults source.new) name.now limit) }
-    ensures later { R.faults source.old ≤ R.faults source.new }
-    ensures asked { Asks tries (name.now ∷ []) (seen R.asked R.faults source.old)
-        (seen R.asked R.faults source.new) }
+    ensures files { (R.seen source.new).files ≡ (R.seen source.old).files }
+    ensures ok { IfOk result (λ bytes. Loads (R.seen source.old).files name.now limit bytes) }
+    ensures err { IfErr result (IsLoadCause tries (R.seen source.old)
+        (R.seen source.new) name.now limit) }
+    ensures later { (R.seen source.old).faults ≤ (R.seen source.new).faults }
+    ensures asked { Asks tries (name.now ∷ []) (R.seen source.old) (R.seen source.new) }
 {
     match load_tried(alloc, source, name, limit, tries) {
         Ok(bytes) => Ok(bytes),

@@ -4,7 +4,6 @@ ghost use Rattle.build_law.specs.of_direct_meaning.Inputs.{AreInputs, Wanted, in
 ghost use Rattle.flume_types.specs.Columns.{input_columns_of};
 ghost use Rattle.flume_types.specs.declared.types.Ty.{Ty};
 ghost use Rattle.outside.specs.Asked.{Asks, AsksFront};
-ghost use Rattle.outside.specs.Seen.{seen};
 ghost use Rattle.build_law.specs.of_script_laws.WellFormed.{IsWellFormed};
 ghost use Rattle.script_program.specs.Saved.{HasNoSaved};
 ghost use Rattle.script_loading.specs.Causes.{IsInputCause, IsInputsCause};
@@ -40,18 +39,17 @@ pub fn rows_of_inputs<X: Threads + Sync, R: Source>(
     requires well_formed { IsWellFormed program.now.script }
     requires written { HasNoSaved program.now.script }
     requires ready { IsReady program.now.script }
-    ensures files { R.files source.new ≡ R.files source.old }
+    ensures files { (R.seen source.new).files ≡ (R.seen source.old).files }
     ensures ok { IfOk result
-        (AllHaveRows (R.files source.old) (inputs_of program.now.script)) }
+        (AllHaveRows (R.seen source.old).files (inputs_of program.now.script)) }
     ensures typed { IfOk result (AreInputs program.now.script) }
-    ensures err { IfErr result (IsInputsCause tries (seen R.files R.faults source.old)
-        (seen R.files R.faults source.new) (inputs_of program.now.script)) }
-    ensures later { R.faults source.old ≤ R.faults source.new }
+    ensures err { IfErr result (IsInputsCause tries (R.seen source.old)
+        (R.seen source.new) (inputs_of program.now.script)) }
+    ensures later { (R.seen source.old).faults ≤ (R.seen source.new).faults }
     ensures asked { OnOk result (Asks tries (file_names (inputs_of program.now.script))
-        (seen R.asked R.faults source.old) (seen R.asked R.faults source.new)) }
-    ensures asked_front { OnErr result
-        (AsksFront tries (file_names (inputs_of program.now.script))
-        (seen R.asked R.faults source.old) (seen R.asked R.faults source.new)) }
+        (R.seen source.old) (R.seen source.new)) }
+    ensures asked_front { OnErr result (AsksFront tries (file_names (inputs_of program.now.script))
+        (R.seen source.old) (R.seen source.new)) }
 {
     inputs_law();
     let mut rows = Pile::new(alloc);
@@ -78,15 +76,15 @@ fn add_rows<X: Threads + Sync, R: Source>(
     requires well_formed { IsWellFormed program.now.script }
     requires ready { IsReady program.now.script }
     requires within { number < length program.now.script.nodes }
-    requires read { HasRead (R.files source.old) program.now.script number rows.old }
-    ensures files { R.files source.new ≡ R.files source.old }
+    requires read { HasRead (R.seen source.old).files program.now.script number rows.old }
+    ensures files { (R.seen source.new).files ≡ (R.seen source.old).files }
     ensures read { OnOk result
-        (HasRead (R.files source.old) program.now.script (number + 1) rows.new) }
-    ensures err { IfErr result (IsInputsCause tries (seen R.files R.faults source.old)
-        (seen R.files R.faults source.new) (inputs_of program.now.script)) }
-    ensures later { R.faults source.old ≤ R.faults source.new }
+        (HasRead (R.seen source.old).files program.now.script (number + 1) rows.new) }
+    ensures err { IfErr result (IsInputsCause tries (R.seen source.old)
+        (R.seen source.new) (inputs_of program.now.script)) }
+    ensures later { (R.seen source.old).faults ≤ (R.seen source.new).faults }
     ensures asked { Asks tries (file_names (inputs_at program.now.script number))
-        (seen R.asked R.faults source.old) (seen R.asked R.faults source.new) }
+        (R.seen source.old) (R.seen source.new) }
 {
     if !program.is_needed(number) {
         return Ok(());
@@ -115,16 +113,15 @@ fn rows_of_file<X: Threads + Sync, R: Source>(
 ) -> Result<Items, Status>
     requires tries { 0 < tries }
     requires named { IsUtf8 file.now }
-    ensures files { R.files source.new ≡ R.files source.old }
+    ensures files { (R.seen source.new).files ≡ (R.seen source.old).files }
     ensures ok { IfOk result (λ rows. (type : Ty) → input_columns_of type ≡ Some columns.now →
-        HasRows (R.files source.old) (record { file = file.now; type = type }) rows) }
+        HasRows (R.seen source.old).files (record { file = file.now; type = type }) rows) }
     ensures err { IfErr result (λ status. (type : Ty) →
         input_columns_of type ≡ Some columns.now →
-        IsInputCause tries (seen R.files R.faults source.old) (seen R.files R.faults source.new)
+        IsInputCause tries (R.seen source.old) (R.seen source.new)
         (record { file = file.now; type = type }) status) }
-    ensures later { R.faults source.old ≤ R.faults source.new }
-    ensures asked { Asks tries (file.now ∷ []) (seen R.asked R.faults source.old)
-        (seen R.asked R.faults source.new) }
+    ensures later { (R.seen source.old).faults ≤ (R.seen source.new).faults }
+    ensures asked { Asks tries (file.now ∷ []) (R.seen source.old) (R.seen source.new) }
 {
     let Ok(name) = str::from_utf8(file.as_bytes()) else {
         unreachable!();

@@ -1,7 +1,6 @@
 // The file of a plan from outside, as it is loaded.
 ghost use Rattle.std.specs.Prelude.{◌≡◌, ◌≤◌, ◌<◌, ◌∷◌, [], IfErr, IfOk};
 ghost use Rattle.outside.specs.Asked.{Asks};
-ghost use Rattle.outside.specs.Seen.{seen};
 ghost use Rattle.script_loading.specs.Causes.{IsLoadCause};
 ghost use Rattle.script_loading.specs.Limits.{plan_limit};
 ghost use Rattle.script_loading.specs.Loads.{Loads};
@@ -20,14 +19,13 @@ pub fn plan_bytes<R: Source>(
     tries: u32,
 ) -> Result<Vec<u8>, Status>
     requires tries { 0 < tries }
-    ensures files { R.files source.new ≡ R.files source.old }
+    ensures files { (R.seen source.new).files ≡ (R.seen source.old).files }
     ensures ok { IfOk result (λ bytes.
-        Loads (R.files source.old) name.now plan_limit bytes.items) }
-    ensures err { IfErr result (IsLoadCause tries (seen R.files R.faults source.old)
-        (seen R.files R.faults source.new) name.now plan_limit) }
-    ensures later { R.faults source.old ≤ R.faults source.new }
-    ensures asked { Asks tries (name.now ∷ []) (seen R.asked R.faults source.old)
-        (seen R.asked R.faults source.new) }
+        Loads (R.seen source.old).files name.now plan_limit bytes.items) }
+    ensures err { IfErr result (IsLoadCause tries (R.seen source.old)
+        (R.seen source.new) name.now plan_limit) }
+    ensures later { (R.seen source.old).faults ≤ (R.seen source.new).faults }
+    ensures asked { Asks tries (name.now ∷ []) (R.seen source.old) (R.seen source.new) }
 {
     let file = loaded(alloc, source, name, PLAN_LIMIT, tries)?;
     match file.into_vec(alloc) {

@@ -1,7 +1,6 @@
 // The script, as it is loaded, parsed and checked.
 ghost use Rattle.std.specs.Prelude.{◌≡◌, ◌≤◌, ◌<◌, ◌∷◌, [], IfErr, IfOk};
 ghost use Rattle.outside.specs.Asked.{Asks};
-ghost use Rattle.outside.specs.Seen.{seen};
 ghost use Rattle.build_law.specs.of_script_laws.WellFormed.{IsWellFormed};
 ghost use Rattle.script_program.specs.Saved.{HasNoSaved};
 ghost use Rattle.script_loading.specs.Accepted.{Accepted};
@@ -27,17 +26,16 @@ pub fn script_of<R: Source>(
     tries: u32,
 ) -> Result<Program, Status>
     requires tries { 0 < tries }
-    ensures files { R.files source.new ≡ R.files source.old }
+    ensures files { (R.seen source.new).files ≡ (R.seen source.old).files }
     ensures ok { IfOk result (λ program.
-        IsLoaded (R.files source.old) name.now program.script) }
+        IsLoaded (R.seen source.old).files name.now program.script) }
     ensures well_formed { IfOk result (λ program. IsWellFormed program.script) }
     ensures written { IfOk result (λ program. HasNoSaved program.script) }
     ensures ready { IfOk result (λ program. IsReady program.script) }
-    ensures err { IfErr result (IsScriptCause tries (seen R.files R.faults source.old)
-        (seen R.files R.faults source.new) name.now) }
-    ensures later { R.faults source.old ≤ R.faults source.new }
-    ensures asked { Asks tries (name.now ∷ []) (seen R.asked R.faults source.old)
-        (seen R.asked R.faults source.new) }
+    ensures err { IfErr result (IsScriptCause tries (R.seen source.old)
+        (R.seen source.new) name.now) }
+    ensures later { (R.seen source.old).faults ≤ (R.seen source.new).faults }
+    ensures asked { Asks tries (name.now ∷ []) (R.seen source.old) (R.seen source.new) }
 {
     let file = loaded(alloc, source, name, SCRIPT_LIMIT, tries)?;
     match program_in(alloc, file) {

@@ -3,7 +3,7 @@ use Rattle.std.proofs.Common.{◌≡◌, ℕ, zero, suc, List, [], ◌∷◌, Op
 use Rattle.std.specs.List.{Contains}
 use Rattle.run_sizes.specs.of_build_law.Signatures.{signatures_of}
 use Rattle.run_sizes.specs.of_build_law.Worlds.{script_world}
-use Rattle.crew.specs.Hosts.{Account}
+use Rattle.outside.specs.Accounts.{Account}
 use Rattle.run_sizes.specs.of_direct_meaning.Direct.{meaning, traps_of}
 use Rattle.exec_graph.specs.Typing.{IsWorldTyped}
 use Rattle.exec_graph.specs.World.{World}

@@ -3,7 +3,7 @@ use Rattle.std.specs.Prelude.{◌≡◌, ℕ, List, [], Option, Some, ⊤, lengt
 use Rattle.std.specs.List.{AllZip, Contains}
 use Rattle.run_sizes.specs.of_build_law.Signatures.{signatures_of}
 use Rattle.run_sizes.specs.of_build_law.Worlds.{script_world}
-use Rattle.crew.specs.Hosts.{Account}
+use Rattle.outside.specs.Accounts.{Account}
 use Rattle.run_sizes.specs.of_direct_meaning.Direct.{meaning, sizes_of, traps_of}
 use Rattle.exec_graph.specs.World.{World}
 use Rattle.exec_plan.specs.Typing.{IsPlanTyped}

@@ -2,7 +2,7 @@
 ghost use Rattle.std.specs.Prelude.{◌≡◌, ◌≤◌, IfErr, IfOk, length, map};
 ghost use Rattle.std.specs.List.{AllZip};
 ghost use Rattle.run_sizes.specs.of_build_law.Limits.{HasShortFlattens};
-ghost use Rattle.crew.specs.Hosts.{account, Grew};
+ghost use Rattle.crew.specs.Hosts.{Grew};
 ghost use Rattle.run_sizes.specs.of_direct_meaning.Inputs.{AreInputs};
 ghost use Rattle.flume_value.specs.Bag.{bag_of};
 ghost use Rattle.run_sizes.specs.of_script_laws.WellFormed.{IsWellFormed};
@@ -52,15 +52,14 @@ pub fn run_script<X: Threads + Sync, H: Host + Send>(
     requires plan { IsPlanOf program.now.script plan.now }
     requires inputs { AreInputs program.now.script inputs }
     requires hosts { length hosts.old ≡ settings.now.workers }
-    ensures grew { AllZip Grew
-        (map (account H.notes H.losses) hosts.old) (map (account H.notes H.losses) hosts.new) }
+    ensures grew { AllZip Grew (map H.account hosts.old) (map H.account hosts.new) }
     ensures asked { AsksSomePhases settings.now
         (phases_of settings.now program.now.script inputs plan.now)
-        (map (account H.notes H.losses) hosts.old) (map (account H.notes H.losses) hosts.new) }
+        (map H.account hosts.old) (map H.account hosts.new) }
     ensures ran { IfOk result (IsRan settings.now program.now.script inputs plan.now
-        (map (account H.notes H.losses) hosts.old) (map (account H.notes H.losses) hosts.new)) }
+        (map H.account hosts.old) (map H.account hosts.new)) }
     ensures fault { IfErr result (IsRunFault settings.now program.now.script inputs plan.now
-        (map (account H.notes H.losses) hosts.old) (map (account H.notes H.losses) hosts.new)) }
+        (map H.account hosts.old) (map H.account hosts.new)) }
 {
     plan_law();
     meaning_law();

@@ -3,7 +3,7 @@ use Rattle.std.proofs.Common.{◌≡◌, ◌+◌, ◌<◌, ◌≤◌, ℕ, suc, 
 use Rattle.std.proofs.Math.Seq.{drop-cons}
 use Rattle.std.specs.List.{flat_map}
 use Rattle.combine_table.specs.declared.comb.Comb.{Comb}
-use Rattle.crew.specs.Hosts.{Account}
+use Rattle.outside.specs.Accounts.{Account}
 use Rattle.crew.specs.declared.drill.Entry.{Entry}
 use Rattle.exec_graph.specs.Objects.{act_result, none_of, only, untrapped, value_in, values_in, with_first}
 use Rattle.exec_graph.specs.World.{World}

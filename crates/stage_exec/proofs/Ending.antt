@@ -1,7 +1,7 @@
 -- A plan's execution, from its beginning and at its end.
 use Rattle.std.proofs.Common.{◌≡◌, ◌<◌, ◌+◌, ℕ, zero, suc, List, [], ◌∷◌, ◌++◌, length, map, take, drop, Bool, true, false, ◌&&◌, Some, slice_get, slice_index, refl, sym, ap, ◌∙◌, arith}
 use Rattle.std.specs.List.{AllByRecursion as Each, Contains}
-use Rattle.crew.specs.Hosts.{Account}
+use Rattle.outside.specs.Accounts.{Account}
 use Rattle.exec_graph.specs.World.{World}
 use Rattle.exec_plan.specs.Meaning.{emitted_by, plan_collection, plan_traps}
 use Rattle.exec_graph.specs.Objects.{gives_object}

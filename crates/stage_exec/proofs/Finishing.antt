@@ -3,7 +3,7 @@ use Rattle.std.proofs.Common.{List, [], ◌∷◌, ◌++◌, ℕ, ap, length, su
 use Rattle.std.specs.List.{AllByRecursion as Each}
 use Rattle.crew.proofs.Ending.{cannot_finish}
 use Rattle.crew.specs.declared.drill.Entry.{Entry}
-use Rattle.crew.specs.Hosts.{Account}
+use Rattle.outside.specs.Accounts.{Account}
 use Rattle.crew.specs.Phases.{CanFinish}
 use Rattle.exec_graph.specs.World.{World}
 use Rattle.plan_phases.proofs.Joining.{tasks_both}

@@ -7,7 +7,8 @@ use Rattle.std.proofs.Math.Seq.{drop-cons}
 use Rattle.crew.proofs.Accounts.{gains_nothing}
 use Rattle.flume_value.specs.declared.value.Value.{Value}
 use Rattle.flume_collection.specs.Calls.{Called}
-use Rattle.crew.specs.Hosts.{Account, Grew}
+use Rattle.outside.specs.Accounts.{Account}
+use Rattle.crew.specs.Hosts.{Grew}
 use Rattle.exec_graph.specs.World.{World}
 use Rattle.exec_plan.specs.declared.plan.Stage.{Stage}
 use Rattle.stage_results.specs.of_map_shard.Tables.{table}

@@ -1,7 +1,7 @@
 -- What the execution of a plan comes to.
 use Rattle.std.specs.Prelude.{◌≡◌, ℕ, ◌<◌, List, [], Some, ⊤, length, map, slice_get}
 use Rattle.std.specs.List.{AllZip, Contains}
-use Rattle.crew.specs.Hosts.{Account}
+use Rattle.outside.specs.Accounts.{Account}
 use Rattle.exec_graph.specs.World.{World}
 use Rattle.exec_plan.specs.Meaning.{emitted_by, plan_collection, plan_traps}
 use Rattle.exec_plan.specs.declared.plan.Plan.{Plan}

@@ -1,7 +1,7 @@
 // A plan, executed stage by stage.
 ghost use Rattle.std.specs.Prelude.{◌≡◌, ◌<◌, ◌≤◌, IfErr, IfOk, length, map};
 ghost use Rattle.std.specs.List.{AllZip};
-ghost use Rattle.crew.specs.Hosts.{account, Grew};
+ghost use Rattle.crew.specs.Hosts.{Grew};
 ghost use Rattle.exec_plan.specs.Wellformed.{IsPlanOk};
 ghost use Rattle.forest_steps.specs.Fresh.{zeros};
 ghost use Rattle.stage_results.specs.of_map_shard.Tables.{table};
@@ -48,26 +48,22 @@ pub fn execute<R: Threads + Sync, F: Functions + Sync, H: Host + Send>(
         (F.can_call functions.now) plan.now }
     requires some { 1 ≤ length hosts.old }
     requires most { length hosts.old ≤ 16 }
-    ensures grew { AllZip Grew
-        (map (account H.notes H.losses) hosts.old) (map (account H.notes H.losses) hosts.new) }
+    ensures grew { AllZip Grew (map H.account hosts.old) (map H.account hosts.new) }
     // However it ends, no phase is made twice, and none behind the one where it stops.
-    ensures asked { AskedFront settings.now.tries settings.now.drill (with_tasks
-        (phases (run_world (F.called functions.now) sources.items) (split_of settings.now)
-        plan.now))
-        (map (account H.notes H.losses) hosts.old) (map (account H.notes H.losses) hosts.new) }
+    ensures asked { AskedFront settings.now.tries settings.now.drill (with_tasks (phases
+        (run_world (F.called functions.now) sources.items) (split_of settings.now) plan.now))
+        (map H.account hosts.old) (map H.account hosts.new) }
     ensures done { IfOk result (IsExecuted settings.now
         (run_world (F.called functions.now) sources.items) plan.now nodes
-        (map (account H.notes H.losses) hosts.old) (map (account H.notes H.losses) hosts.new)) }
+        (map H.account hosts.old) (map H.account hosts.new)) }
     ensures fault { IfErr result (IsExecutionFault settings.now
         (run_world (F.called functions.now) sources.items) plan.now
-        (map (account H.notes H.losses) hosts.old) (map (account H.notes H.losses) hosts.new)) }
+        (map H.account hosts.old) (map H.account hosts.new)) }
     // No task is given up, where each has a try that is neither in the drill nor accounted for by
     // the losses of the hosts.
-    ensures complete { CanFinishAll settings.now.tries settings.now.drill (with_tasks
-        (phases (run_world (F.called functions.now) sources.items) (split_of settings.now)
-        plan.now))
-        (map (account H.notes H.losses) hosts.old) (map (account H.notes H.losses) hosts.new)
-        → IfErr result IsNotGivenUp }
+    ensures complete { CanFinishAll settings.now.tries settings.now.drill (with_tasks (phases
+        (run_world (F.called functions.now) sources.items) (split_of settings.now) plan.now))
+        (map H.account hosts.old) (map H.account hosts.new) → IfErr result IsNotGivenUp }
 {
     cut_law(settings);
     tasks_law();

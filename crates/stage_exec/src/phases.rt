@@ -1,7 +1,7 @@
 // The phases of a stage, one after the other.
 ghost use Rattle.std.specs.Prelude.{◌≡◌, ◌<◌, ◌≤◌, ◌∷◌, [], length, map, IfOk, IfErr, OnOk};
 ghost use Rattle.std.specs.List.{AllZip};
-ghost use Rattle.crew.specs.Hosts.{account, Grew};
+ghost use Rattle.crew.specs.Hosts.{Grew};
 ghost use Rattle.exec_graph.specs.World.{World};
 ghost use Rattle.exec_plan.specs.declared.plan.PlanPlace.{PlanPlace as GhostPlace};
 ghost use Rattle.exec_plan.specs.declared.plan.Stage.TheVariants as stages;
@@ -55,8 +55,7 @@ pub(crate) fn stage_outs<R: Threads + Sync, F: Functions + Sync, H: Host + Send>
     requires ready { (w : World) × (w.called ≡ F.called inputs.now.functions.now)
         × CanRunStage w (F.can_call inputs.now.functions.now) number
         (table sources.old.items results.old.items) (stages.Mscr stage.now) }
-    ensures grew { AllZip Grew
-        (map (account H.notes H.losses) hosts.old) (map (account H.notes H.losses) hosts.new) }
+    ensures grew { AllZip Grew (map H.account hosts.old) (map H.account hosts.new) }
     ensures maps { (w : World) → w.called ≡ F.called inputs.now.functions.now →
         IfOk result (λ outs. AreMapOuts w
         (split inputs.now.settings.now.shards inputs.now.settings.now.partitions)
@@ -65,19 +64,16 @@ pub(crate) fn stage_outs<R: Threads + Sync, F: Functions + Sync, H: Host + Send>
         IfOk result (λ outs. AreReduceOuts w
         (split inputs.now.settings.now.shards inputs.now.settings.now.partitions)
         (table sources.old.items results.old.items) stage.now outs.reduces.items) }
-    ensures ran { (w : World) → w.called ≡ F.called inputs.now.functions.now → OnOk result
-        (HaveRun inputs.now.settings.now.tries inputs.now.settings.now.drill w
-        (stage_phases w number
+    ensures ran { (w : World) → w.called ≡ F.called inputs.now.functions.now → OnOk result (HaveRun
+        inputs.now.settings.now.tries inputs.now.settings.now.drill w (stage_phases w number
         (split inputs.now.settings.now.shards inputs.now.settings.now.partitions)
         (table sources.old.items results.old.items) (stages.Mscr stage.now))
-        (map (account H.notes H.losses) hosts.old) (map (account H.notes H.losses) hosts.new)
-        winners.old.items winners.new.items) }
+        (map H.account hosts.old) (map H.account hosts.new) winners.old.items winners.new.items) }
     ensures stopped { (w : World) → w.called ≡ F.called inputs.now.functions.now → IfErr result
-        (IsStopped inputs.now.settings.now.tries inputs.now.settings.now.drill w
-        (stage_phases w number
-        (split inputs.now.settings.now.shards inputs.now.settings.now.partitions)
+        (IsStopped inputs.now.settings.now.tries inputs.now.settings.now.drill w (stage_phases w
+        number (split inputs.now.settings.now.shards inputs.now.settings.now.partitions)
         (table sources.old.items results.old.items) (stages.Mscr stage.now))
-        (map (account H.notes H.losses) hosts.old) (map (account H.notes H.losses) hosts.new)) }
+        (map H.account hosts.old) (map H.account hosts.new)) }
     ensures others { AgreeOn (later_reads later.now outputs.now)
         (table sources.new.items results.new.items) (table sources.old.items results.old.items) }
     ensures typed { (type : GhostTy) (q : GhostPlace) →
@@ -116,25 +112,22 @@ fn all_maps<R: Threads + Sync, F: Functions + Sync, H: Host + Send>(
     requires ready { (w : World) × (w.called ≡ F.called inputs.now.functions.now)
         × CanRunStage w (F.can_call inputs.now.functions.now) number
         (table sources.now.items results.now.items) (stages.Mscr stage.now) }
-    ensures grew { AllZip Grew
-        (map (account H.notes H.losses) hosts.old) (map (account H.notes H.losses) hosts.new) }
+    ensures grew { AllZip Grew (map H.account hosts.old) (map H.account hosts.new) }
     ensures outs { (w : World) → w.called ≡ F.called inputs.now.functions.now →
         IfOk result (λ outs. AreMapOuts w
         (split inputs.now.settings.now.shards inputs.now.settings.now.partitions)
         (table sources.now.items results.now.items) stage.now outs.items) }
-    ensures ran { (w : World) → w.called ≡ F.called inputs.now.functions.now → OnOk result
-        (HaveRun inputs.now.settings.now.tries inputs.now.settings.now.drill w
-        (OfTasks (map_phase_of number
+    ensures ran { (w : World) → w.called ≡ F.called inputs.now.functions.now → OnOk result (HaveRun
+        inputs.now.settings.now.tries inputs.now.settings.now.drill w (OfTasks (map_phase_of number
         (split inputs.now.settings.now.shards inputs.now.settings.now.partitions)
-        (table sources.now.items results.now.items) stage.now) ∷ [])
-        (map (account H.notes H.losses) hosts.old) (map (account H.notes H.losses) hosts.new)
-        winners.old.items winners.new.items) }
+        (table sources.now.items results.now.items) stage.now) ∷ []) (map H.account hosts.old)
+        (map H.account hosts.new) winners.old.items winners.new.items) }
     ensures stopped { (w : World) → w.called ≡ F.called inputs.now.functions.now → IfErr result
         (IsStopped inputs.now.settings.now.tries inputs.now.settings.now.drill w
         (OfTasks (map_phase_of number
         (split inputs.now.settings.now.shards inputs.now.settings.now.partitions)
         (table sources.now.items results.now.items) stage.now) ∷ [])
-        (map (account H.notes H.losses) hosts.old) (map (account H.notes H.losses) hosts.new)) }
+        (map H.account hosts.old) (map H.account hosts.new)) }
 {
     let rows = sources.as_slice();
     map_outs(

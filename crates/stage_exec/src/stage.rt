@@ -1,7 +1,7 @@
 // One stage.
 ghost use Rattle.std.specs.Prelude.{◌≡◌, ◌<◌, ◌≤◌, ◌*◌, ◌∷◌, [], true, length, map, sum, IfOk, IfErr, OnOk};
 ghost use Rattle.std.specs.List.{AllZip, flat_map};
-ghost use Rattle.crew.specs.Hosts.{account, Grew};
+ghost use Rattle.crew.specs.Hosts.{Grew};
 ghost use Rattle.exec_graph.specs.Objects.{gives_object};
 ghost use Rattle.exec_graph.specs.World.{World};
 ghost use Rattle.exec_plan.specs.declared.plan.PlanPlace.{PlanPlace as GhostPlace};
@@ -57,8 +57,7 @@ pub(crate) fn run_stage<R: Threads + Sync, F: Functions + Sync, H: Host + Send>(
         × CanRunStage w (F.can_call inputs.now.functions.now) number
         (table sources.old.items results.old.items) stage.now }
     requires object { GivesObject stage.now }
-    ensures grew { AllZip Grew
-        (map (account H.notes H.losses) hosts.old) (map (account H.notes H.losses) hosts.new) }
+    ensures grew { AllZip Grew (map H.account hosts.old) (map H.account hosts.new) }
     ensures lists { (w : World) → w.called ≡ F.called inputs.now.functions.now →
         IfOk result (λ lists. lists ≡ result_lists w
         (split inputs.now.settings.now.shards inputs.now.settings.now.partitions)
@@ -67,19 +66,16 @@ pub(crate) fn run_stage<R: Threads + Sync, F: Functions + Sync, H: Host + Send>(
         OnOk result (HaveGrown (λ i. sum (stage_tasks (task_counts w i) w
         (split inputs.now.settings.now.shards inputs.now.settings.now.partitions)
         (table sources.old.items results.old.items) stage.now)) sizes.old sizes.new) }
-    ensures ran { (w : World) → w.called ≡ F.called inputs.now.functions.now → OnOk result
-        (HaveRun inputs.now.settings.now.tries inputs.now.settings.now.drill w
-        (stage_phases w number
+    ensures ran { (w : World) → w.called ≡ F.called inputs.now.functions.now → OnOk result (HaveRun
+        inputs.now.settings.now.tries inputs.now.settings.now.drill w (stage_phases w number
         (split inputs.now.settings.now.shards inputs.now.settings.now.partitions)
-        (table sources.old.items results.old.items) stage.now)
-        (map (account H.notes H.losses) hosts.old) (map (account H.notes H.losses) hosts.new)
-        winners.old.items winners.new.items) }
+        (table sources.old.items results.old.items) stage.now) (map H.account hosts.old)
+        (map H.account hosts.new) winners.old.items winners.new.items) }
     ensures stopped { (w : World) → w.called ≡ F.called inputs.now.functions.now → IfErr result
-        (IsStopped inputs.now.settings.now.tries inputs.now.settings.now.drill w
-        (stage_phases w number
-        (split inputs.now.settings.now.shards inputs.now.settings.now.partitions)
-        (table sources.old.items results.old.items) stage.now)
-        (map (account H.notes H.losses) hosts.old) (map (account H.notes H.losses) hosts.new)) }
+        (IsStopped inputs.now.settings.now.tries inputs.now.settings.now.drill w (stage_phases w
+        number (split inputs.now.settings.now.shards inputs.now.settings.now.partitions)
+        (table sources.old.items results.old.items) stage.now) (map H.account hosts.old)
+        (map H.account hosts.new)) }
     ensures others { AgreeOn (later_reads later.now outputs.now)
         (table sources.new.items results.new.items) (table sources.old.items results.old.items) }
     ensures typed { (type : GhostTy) (q : GhostPlace) →
@@ -175,8 +171,7 @@ fn run_mscr<R: Threads + Sync, F: Functions + Sync, H: Host + Send>(
     requires ready { (w : World) × (w.called ≡ F.called inputs.now.functions.now)
         × CanRunStage w (F.can_call inputs.now.functions.now) number
         (table sources.old.items results.old.items) (stages.Mscr stage.now) }
-    ensures grew { AllZip Grew
-        (map (account H.notes H.losses) hosts.old) (map (account H.notes H.losses) hosts.new) }
+    ensures grew { AllZip Grew (map H.account hosts.old) (map H.account hosts.new) }
     ensures lists { (w : World) → w.called ≡ F.called inputs.now.functions.now →
         IfOk result (λ lists. lists ≡ result_lists w
         (split inputs.now.settings.now.shards inputs.now.settings.now.partitions)
@@ -185,19 +180,16 @@ fn run_mscr<R: Threads + Sync, F: Functions + Sync, H: Host + Send>(
         OnOk result (HaveGrown (λ i. sum (stage_tasks (task_counts w i) w
         (split inputs.now.settings.now.shards inputs.now.settings.now.partitions)
         (table sources.old.items results.old.items) (stages.Mscr stage.now))) sizes.old sizes.new) }
-    ensures ran { (w : World) → w.called ≡ F.called inputs.now.functions.now → OnOk result
-        (HaveRun inputs.now.settings.now.tries inputs.now.settings.now.drill w
-        (stage_phases w number
+    ensures ran { (w : World) → w.called ≡ F.called inputs.now.functions.now → OnOk result (HaveRun
+        inputs.now.settings.now.tries inputs.now.settings.now.drill w (stage_phases w number
         (split inputs.now.settings.now.shards inputs.now.settings.now.partitions)
         (table sources.old.items results.old.items) (stages.Mscr stage.now))
-        (map (account H.notes H.losses) hosts.old) (map (account H.notes H.losses) hosts.new)
-        winners.old.items winners.new.items) }
+        (map H.account hosts.old) (map H.account hosts.new) winners.old.items winners.new.items) }
     ensures stopped { (w : World) → w.called ≡ F.called inputs.now.functions.now → IfErr result
-        (IsStopped inputs.now.settings.now.tries inputs.now.settings.now.drill w
-        (stage_phases w number
-        (split inputs.now.settings.now.shards inputs.now.settings.now.partitions)
+        (IsStopped inputs.now.settings.now.tries inputs.now.settings.now.drill w (stage_phases w
+        number (split inputs.now.settings.now.shards inputs.now.settings.now.partitions)
         (table sources.old.items results.old.items) (stages.Mscr stage.now))
-        (map (account H.notes H.losses) hosts.old) (map (account H.notes H.losses) hosts.new)) }
+        (map H.account hosts.old) (map H.account hosts.new)) }
     ensures others { AgreeOn (later_reads later.now outputs.now)
         (table sources.new.items results.new.items) (table sources.old.items results.old.items) }
     ensures typed { (type : GhostTy) (q : GhostPlace) →

@@ -1,7 +1,7 @@
 // The stages of a plan, one after another.
 ghost use Rattle.std.specs.Prelude.{◌≡◌, ◌∷◌, ◌++◌, [], ◌<◌, ◌≤◌, ◌^◌, length, map, IfErr, IfOk, OnOk};
 ghost use Rattle.std.specs.List.{AllZip};
-ghost use Rattle.crew.specs.Hosts.{account, Grew};
+ghost use Rattle.crew.specs.Hosts.{Grew};
 ghost use Rattle.stage_results.specs.of_map_shard.Tables.{table};
 ghost use Rattle.plan_phases.specs.Told.{HaveRun, IsStopped};
 ghost use Rattle.stage_exec.specs.inner.Along.{CanGoOn, counted_on, lists_after, phases_on};
@@ -40,8 +40,7 @@ pub(crate) fn run_stages<R: Threads + Sync, F: Functions + Sync, H: Host + Send>
         (run_world (F.called inputs.now.functions.now) sources.old.items)
         (F.can_call inputs.now.functions.now) 1 stages.now
         (source_lists (run_world (F.called inputs.now.functions.now) sources.old.items)) }
-    ensures grew { AllZip Grew
-        (map (account H.notes H.losses) hosts.old) (map (account H.notes H.losses) hosts.new) }
+    ensures grew { AllZip Grew (map H.account hosts.old) (map H.account hosts.new) }
     ensures lists { IfOk result (λ results. AgreeOn outputs.now
         (table sources.new.items results.items)
         (lists_after inputs.now.settings.now
@@ -51,21 +50,17 @@ pub(crate) fn run_stages<R: Threads + Sync, F: Functions + Sync, H: Host + Send>
         (run_world (F.called inputs.now.functions.now) sources.old.items) 1 stages.now
         (source_lists (run_world (F.called inputs.now.functions.now) sources.old.items)))
         sizes.old sizes.new) }
-    ensures ran { OnOk result (HaveRun
-        inputs.now.settings.now.tries inputs.now.settings.now.drill
-        (run_world (F.called inputs.now.functions.now) sources.old.items)
-        (phases_on inputs.now.settings.now
-        (run_world (F.called inputs.now.functions.now) sources.old.items) 1 stages.now
-        (source_lists (run_world (F.called inputs.now.functions.now) sources.old.items)))
-        (map (account H.notes H.losses) hosts.old) (map (account H.notes H.losses) hosts.new)
-        winners.old.items winners.new.items) }
-    ensures stopped { IfErr result (IsStopped
-        inputs.now.settings.now.tries inputs.now.settings.now.drill
-        (run_world (F.called inputs.now.functions.now) sources.old.items)
-        (phases_on inputs.now.settings.now
-        (run_world (F.called inputs.now.functions.now) sources.old.items) 1 stages.now
-        (source_lists (run_world (F.called inputs.now.functions.now) sources.old.items)))
-        (map (account H.notes H.losses) hosts.old) (map (account H.notes H.losses) hosts.new)) }
+    ensures ran { OnOk result (HaveRun inputs.now.settings.now.tries inputs.now.settings.now.drill
+        (run_world (F.called inputs.now.functions.now) sources.old.items) (phases_on
+        inputs.now.settings.now (run_world (F.called inputs.now.functions.now) sources.old.items) 1
+        stages.now (source_lists (run_world (F.called inputs.now.functions.now) sources.old.items)))
+        (map H.account hosts.old) (map H.account hosts.new) winners.old.items winners.new.items) }
+    ensures stopped { IfErr result (IsStopped inputs.now.settings.now.tries
+        inputs.now.settings.now.drill
+        (run_world (F.called inputs.now.functions.now) sources.old.items) (phases_on
+        inputs.now.settings.now (run_world (F.called inputs.now.functions.now) sources.old.items) 1
+        stages.now (source_lists (run_world (F.called inputs.now.functions.now) sources.old.items)))
+        (map H.account hosts.old) (map H.account hosts.new)) }
 {
     let mut results = Vec::new(alloc);
     for (k, stage) in stages.iter().enumerate() {

@@ -3,7 +3,7 @@ use Rattle.std.proofs.Common.{◌≡◌, ℕ, zero, suc, ◌<◌, ◌≤◌, inl
 use Rattle.std.proofs.lemmas.List.{length-take-le}
 use Rattle.std.proofs.lemmas.Option.{none-some, same_Some, slice_get_within}
 use Rattle.crew.specs.Drills.{Settings}
-use Rattle.crew.specs.Hosts.{Account}
+use Rattle.outside.specs.Accounts.{Account}
 use Rattle.crew.specs.Phases.{AreAskedOnce, IsCut, IsLostTask, IsWork, IsWorkSoFar}
 use Rattle.exec_graph.specs.World.{World}
 use Rattle.flume_collection.specs.declared.trap.Trap.{Trap}

@@ -1,7 +1,7 @@
 // The map phase of a stage.
 ghost use Rattle.std.specs.Prelude.{◌≡◌, ◌<◌, ◌≤◌, ◌^◌, ◌∷◌, [], length, map, IfOk, IfErr, OnOk};
 ghost use Rattle.std.specs.List.{AllZip};
-ghost use Rattle.crew.specs.Hosts.{account, Grew};
+ghost use Rattle.crew.specs.Hosts.{Grew};
 ghost use Rattle.exec_graph.specs.World.{World};
 ghost use Rattle.exec_plan.specs.declared.plan.Stage.TheVariants as stages;
 ghost use Rattle.task_lists.specs.Outs.{AreMapOuts};
@@ -40,25 +40,22 @@ pub fn map_outs<R: Threads + Sync, F: Functions + Sync, H: Host + Send>(
     requires ready { (w : World) × (w.called ≡ F.called inputs.now.functions.now)
         × CanRunStage w (F.can_call inputs.now.functions.now) number
         (table sources.now results.now) (stages.Mscr stage.now) }
-    ensures grew { AllZip Grew
-        (map (account H.notes H.losses) hosts.old) (map (account H.notes H.losses) hosts.new) }
+    ensures grew { AllZip Grew (map H.account hosts.old) (map H.account hosts.new) }
     ensures outs { (w : World) → w.called ≡ F.called inputs.now.functions.now →
         IfOk result (λ outs. AreMapOuts w
         (split inputs.now.settings.now.shards inputs.now.settings.now.partitions)
         (table sources.now results.now) stage.now outs.items) }
-    ensures ran { (w : World) → w.called ≡ F.called inputs.now.functions.now →
-        OnOk result (HaveRun inputs.now.settings.now.tries inputs.now.settings.now.drill w
-        (OfTasks (map_phase_of number
+    ensures ran { (w : World) → w.called ≡ F.called inputs.now.functions.now → OnOk result (HaveRun
+        inputs.now.settings.now.tries inputs.now.settings.now.drill w (OfTasks (map_phase_of number
         (split inputs.now.settings.now.shards inputs.now.settings.now.partitions)
-        (table sources.now results.now) stage.now) ∷ [])
-        (map (account H.notes H.losses) hosts.old) (map (account H.notes H.losses) hosts.new)
-        winners.old.items winners.new.items) }
+        (table sources.now results.now) stage.now) ∷ []) (map H.account hosts.old)
+        (map H.account hosts.new) winners.old.items winners.new.items) }
     ensures stopped { (w : World) → w.called ≡ F.called inputs.now.functions.now →
         IfErr result (IsStopped inputs.now.settings.now.tries inputs.now.settings.now.drill w
         (OfTasks (map_phase_of number
         (split inputs.now.settings.now.shards inputs.now.settings.now.partitions)
         (table sources.now results.now) stage.now) ∷ [])
-        (map (account H.notes H.losses) hosts.old) (map (account H.notes H.losses) hosts.new)) }
+        (map H.account hosts.old) (map H.account hosts.new)) }
 {
     let tasks = map_tasks(inputs, sources, results, stage, number);
     let phase = inputs.phase(number, Phase::Map);

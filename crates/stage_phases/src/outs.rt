@@ -1,7 +1,7 @@
 // A phase of a stage, and its winners.
 ghost use Rattle.std.specs.Prelude.{◌≡◌, ◌*◌, ◌^◌, ◌<◌, ◌≤◌, ◌∷◌, ◌++◌, [], length, map, IfOk, IfErr, OnOk};
 ghost use Rattle.std.specs.List.{AllZip};
-ghost use Rattle.crew.specs.Hosts.{account, Grew};
+ghost use Rattle.crew.specs.Hosts.{Grew};
 ghost use Rattle.exec_graph.specs.World.{World};
 ghost use Rattle.plan_phases.specs.Phases.{OfTasks, PhaseTasks};
 ghost use Rattle.plan_phases.specs.Told.{HaveRun, IsStopped};
@@ -35,19 +35,17 @@ pub(crate) fn outs_of<
     requires tries { (0 < phase.now.tries) × (phase.now.tries ≤ 8) }
     requires hosts { (0 < length hosts.old) × (length hosts.old ≤ 16) }
     requires limit { T.count_of tasks.now * phase.now.tries < 2 ^ 31 }
-    ensures grew { AllZip Grew
-        (map (account H.notes H.losses) hosts.old) (map (account H.notes H.losses) hosts.new) }
+    ensures grew { AllZip Grew (map H.account hosts.old) (map H.account hosts.new) }
     ensures values { IfOk result (λ outs.
         AreValues (T.count_of tasks.now) (T.is_value tasks.now) outs.items) }
-    ensures ran { (w : World) (ph : PhaseTasks) → IsPhaseOf w ph phase.now
-        (T.count_of tasks.now) (T.is_value tasks.now) (T.places tasks.now) →
-        OnOk result (HaveRun phase.now.tries phase.now.drill w (OfTasks ph ∷ [])
-        (map (account H.notes H.losses) hosts.old) (map (account H.notes H.losses) hosts.new)
+    ensures ran { (w : World) (ph : PhaseTasks) → IsPhaseOf w ph phase.now (T.count_of tasks.now)
+        (T.is_value tasks.now) (T.places tasks.now) → OnOk result (HaveRun phase.now.tries
+        phase.now.drill w (OfTasks ph ∷ []) (map H.account hosts.old) (map H.account hosts.new)
         winners.old.items winners.new.items) }
     ensures stopped { (w : World) (ph : PhaseTasks) → IsPhaseOf w ph phase.now
         (T.count_of tasks.now) (T.is_value tasks.now) (T.places tasks.now) →
         IfErr result (IsStopped phase.now.tries phase.now.drill w (OfTasks ph ∷ [])
-        (map (account H.notes H.losses) hosts.old) (map (account H.notes H.losses) hosts.new)) }
+        (map H.account hosts.old) (map H.account hosts.new)) }
 {
     match run_to_end(rt, alloc, tasks, hosts, phase) {
         Ok(made) => {

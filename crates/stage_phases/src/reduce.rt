@@ -1,7 +1,7 @@
 // The reduce phase of a stage.
 ghost use Rattle.std.specs.Prelude.{◌≡◌, ◌<◌, ◌≤◌, ◌^◌, ◌∷◌, [], length, map, IfOk, IfErr, OnOk};
 ghost use Rattle.std.specs.List.{AllZip, list_any};
-ghost use Rattle.crew.specs.Hosts.{account, Grew};
+ghost use Rattle.crew.specs.Hosts.{Grew};
 ghost use Rattle.exec_graph.specs.World.{World};
 ghost use Rattle.task_lists.specs.Outs.{AreMapOuts};
 ghost use Rattle.task_lists.specs.Tasks.{Lists, groupings};
@@ -41,8 +41,7 @@ pub fn reduce_outs<R: Threads + Sync, F: Functions + Sync, H: Host + Send>(
         (F.can_call inputs.now.functions.now)
         (split inputs.now.settings.now.shards inputs.now.settings.now.partitions) number stage.now
         maps.now }
-    ensures grew { AllZip Grew
-        (map (account H.notes H.losses) hosts.old) (map (account H.notes H.losses) hosts.new) }
+    ensures grew { AllZip Grew (map H.account hosts.old) (map H.account hosts.new) }
     ensures outs { (w : World) (t : Lists) → w.called ≡ F.called inputs.now.functions.now →
         AreMapOuts w (split inputs.now.settings.now.shards inputs.now.settings.now.partitions) t
         stage.now maps.now →
@@ -51,21 +50,17 @@ pub fn reduce_outs<R: Threads + Sync, F: Functions + Sync, H: Host + Send>(
         outs.items) }
     ensures ran { (w : World) (t : Lists) → w.called ≡ F.called inputs.now.functions.now →
         AreMapOuts w (split inputs.now.settings.now.shards inputs.now.settings.now.partitions) t
-        stage.now maps.now →
-        OnOk result (HaveRun inputs.now.settings.now.tries inputs.now.settings.now.drill w
-        (reduce_phases w number
+        stage.now maps.now → OnOk result (HaveRun inputs.now.settings.now.tries
+        inputs.now.settings.now.drill w (reduce_phases w number
         (split inputs.now.settings.now.shards inputs.now.settings.now.partitions) t stage.now
-        (groupings stage.now.outputs))
-        (map (account H.notes H.losses) hosts.old) (map (account H.notes H.losses) hosts.new)
+        (groupings stage.now.outputs)) (map H.account hosts.old) (map H.account hosts.new)
         winners.old.items winners.new.items) }
     ensures stopped { (w : World) (t : Lists) → w.called ≡ F.called inputs.now.functions.now →
         AreMapOuts w (split inputs.now.settings.now.shards inputs.now.settings.now.partitions) t
-        stage.now maps.now →
-        IfErr result (IsStopped inputs.now.settings.now.tries inputs.now.settings.now.drill w
-        (reduce_phases w number
+        stage.now maps.now → IfErr result (IsStopped inputs.now.settings.now.tries
+        inputs.now.settings.now.drill w (reduce_phases w number
         (split inputs.now.settings.now.shards inputs.now.settings.now.partitions) t stage.now
-        (groupings stage.now.outputs))
-        (map (account H.notes H.losses) hosts.old) (map (account H.notes H.losses) hosts.new)) }
+        (groupings stage.now.outputs)) (map H.account hosts.old) (map H.account hosts.new)) }
 {
     reducing_law();
     if !has_groupings(stage) {

@@ -110,9 +110,7 @@ impl MemCache {
 }
 
 impl Cache for MemCache {
-    ghost entries = { λ s. Some s.entries };
-
-    ghost faults = { λ s. s.faults };
+    ghost seen = { λ s. record { entries = Some s.entries; faults = s.faults } };
 
     fn find(&mut self, alloc: Global, key: &[u8]) -> Result<Option<Vec<u8>>, FindFault>
         ensures entries { Some self.new.entries ≡ Some self.old.entries }

@@ -1,9 +1,10 @@
 -- What a run comes to before anything is written.
 use Rattle.std.specs.Prelude.{◌≡◌, ◌⊎◌, ◌++◌, ℕ, List, [], Option, Some, Result, codes, length, map}
 use Rattle.std.specs.List.{AllByRecursion, AllZip, Contains}
+use Rattle.cache_store.specs.Seen.{SeenCache}
 use Rattle.run_course.specs.of_build_law.Worlds.{script_world}
 use Rattle.cache_store.specs.declared.entry.CacheEntry.{CacheEntry}
-use Rattle.crew.specs.Hosts.{Account}
+use Rattle.outside.specs.Accounts.{Account}
 use Rattle.kept_results.specs.of_direct_meaning.Direct.{meaning, sizes_of, traps_of}
 use Rattle.exec_plan.specs.declared.plan.Plan.{Plan}
 use Rattle.flume_collection.specs.declared.trap.Trap.{Trap}
@@ -13,7 +14,7 @@ use Rattle.kept_results.specs.Lists.{found_of, given_to, input_numbers, later_of
 use Rattle.kept_results.specs.Sizes.{beside, nodes_needed, sizes_kept, sizes_told}
 use Rattle.outside.specs.Saves.{HasFiles}
 use Rattle.outside.specs.Says.{HasLine}
-use Rattle.outside.specs.Seen.{Seen, SeenShelf}
+use Rattle.outside.specs.Seen.{SeenScreen, SeenShelf, SeenSource}
 use Rattle.outside.specs.declared.file.File.{File}
 use Rattle.outside.specs.declared.host.Phase.{Phase}
 use Rattle.plan_phases.specs.Told.{IsGivenUp}
@@ -34,7 +35,7 @@ use Rattle.run_course.specs.of_script_plans.Plans.{IsScriptPlan}
 use Rattle.script_program.specs.Script.{Script}
 use Rattle.run_course.specs.of_script_run.Comes.{AreMembers}
 use Rattle.run_course.specs.of_script_run.Runs.{AsksSomePhases, phases_of}
-use Rattle.cached_course.specs.Answers.{AsksRun, HasLooked, SeenCache, found, lists_run, script_run}
+use Rattle.cached_course.specs.Answers.{AsksRun, HasLooked, found, lists_run, script_run}
 use Rattle.cached_course.specs.Kept.{HasKept, entries_kept, value_kept}
 use Rattle.cached_course.specs.Looked.{WereLooked, not_found}
 use Rattle.cached_course.specs.Reused.{IsReused, WritesReused}
@@ -133,15 +134,15 @@ pub record IsPrepared (words : List (List ℕ)) (told : Option (List File))
   pub held : AllByRecursion (λ one. IsHeld (value_kept it.script (found it) table one.0))
       (not_found it.asked it.looked)
 
-module _ (words : List (List ℕ)) (before after : Seen (List File)) (olds news : List Account)
+module _ (words : List (List ℕ)) (before after : SeenSource) (olds news : List Account)
     (cache later : SeenCache) where
   -- the plan that is run, over what it is run over, which means this table
   pub record IsRunning : Type 0 where
-    pub it : HasLooked words before.told cache later
+    pub it : HasLooked words before.files cache later
     pub rows : List (List Value)
     pub table : Table
     pub plan : Plan
-    pub meant : IsReused before.told it.script (found it) rows table
+    pub meant : IsReused before.files it.script (found it) rows table
     pub planned : IsScriptPlan (script_run it) plan
 
   abbrev pub GivesUp : ℕ → Phase → ℕ → Type 0
@@ -177,7 +178,7 @@ AsksHostsInCall words told olds news cache later r =
 -- what is left where a run came to the writing of these files and this text, and to the keeping of
 -- these entries
 module _ (files : List File) (text : List ℕ) (kept : List CacheEntry) (shelf shelf' : SeenShelf)
-    (screen screen' : Seen (List ℕ)) (cache later : SeenCache) where
+    (screen screen' : SeenScreen) (cache later : SeenCache) where
   abbrev pub DeliversKept : Status → Type 0
   DeliversKept Done =
       HasFiles files shelf shelf' × HasKept kept cache later × HasText text screen screen'

@@ -2,7 +2,8 @@
 use Rattle.std.specs.Prelude.{◌≡◌, ◌≢◌, ℕ, ◌<◌, true, List, length, All, Contains}
 use Rattle.claim_board.specs.Counts.{times, times_first}
 use Rattle.claim_board.specs.Protocol.{PassState, limit, task_of}
-use Rattle.crew.specs.Hosts.{Account, HaveRisen, Refused, SomeHost}
+use Rattle.outside.specs.Accounts.{Account}
+use Rattle.crew.specs.Hosts.{HaveRisen, Refused, SomeHost}
 use Rattle.crew.specs.Drills.{Settings, is_drilled}
 use Rattle.crew.specs.Work.{drawn_attempt}
 

@@ -3,7 +3,7 @@ use Rattle.std.specs.Prelude.{◌≡◌, ◌⊎◌, ℕ, List, [], ◌∷◌, �
 use Rattle.outside.specs.Cause.{RoseBy}
 use Rattle.claim_board.specs.Protocol.{PassState, SawWord, task_of}
 use Rattle.crew.specs.declared.kept.KeptOut.{KeptOut}
-use Rattle.crew.specs.Hosts.{Account, Gains}
+use Rattle.outside.specs.Accounts.{Account, Gains}
 use Rattle.crew.specs.Drills.{Settings}
 use Rattle.crew.specs.Outs.{IsOut, RanOn, draw_by}
 use Rattle.crew.specs.Work.{Turn, HasDone, IsAsked, Cause, Worked, look_of}

@@ -1,7 +1,8 @@
 -- What a host has let through of an attempt.
 use Rattle.std.specs.Prelude.{ℕ, []}
 use Rattle.crew.specs.declared.drill.Entry.{Entry}
-use Rattle.crew.specs.Hosts.{Account, Gains, places_below}
+use Rattle.outside.specs.Accounts.{Account, Gains}
+use Rattle.crew.specs.Hosts.{places_below}
 
 -- the places below n, in order, and nothing else
 abbrev pub LetThrough : Entry → ℕ → Account → Account → Type 0

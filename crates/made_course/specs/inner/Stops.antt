@@ -1,7 +1,7 @@
 -- What the run of the script of the sums comes to, and why `make` writes nothing.
 use Rattle.std.specs.Prelude.{◌≡◌, List, [], ◌∷◌, Result, Ok, Err, ⊤}
 use Rattle.command_words.specs.declared.workload.Workload.{Workload}
-use Rattle.crew.specs.Hosts.{Account}
+use Rattle.outside.specs.Accounts.{Account}
 use Rattle.plan_phases.specs.declared.fault.RunFault.{RunFault}
 use Rattle.plan_phases.specs.declared.fault.RunFault.TheVariants as fault
 use Rattle.run_texts.specs.declared.status.Status.{Status}

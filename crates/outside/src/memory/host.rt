@@ -1,7 +1,8 @@
 // A host in memory, which is down exactly at the places of a list and notes what it is asked.
-ghost use Rattle.std.specs.Prelude.{◌≡◌, ◌↔◌, is_ok, Contains, IsErr, IfOk, IfSome, IsSomeAnd};
+ghost use Rattle.std.specs.Prelude.{◌≡◌, ◌↔◌, [], ◌∷◌, is_ok, Contains, IsErr, IfOk, OnOk, OnErr};
+ghost use Rattle.outside.specs.Accounts.{Gains};
 ghost use Rattle.outside.specs.Cause.{HasCause};
-ghost use Rattle.outside.specs.Notes.{noted, new_host, told_by, asked};
+ghost use Rattle.outside.specs.Notes.{account_of, new_host, asked};
 
 use crate::{At, Down, Host};
 use flume_value::Pile;
@@ -77,13 +78,13 @@ impl MemHost {
 }
 
 impl Host for MemHost {
-    ghost notes = { told_by };
-
-    ghost losses = { λ h. h.losses };
+    ghost account = { account_of };
 
     fn pass(&mut self, at: At) -> Result<(), Down>
-        ensures notes { IfSome (told_by self.new) (λ new.
-            IsSomeAnd (told_by self.old) (λ old. new ≡ noted old at (is_ok result))) }
+        ensures through { OnOk result
+            (Gains (account_of self.old) (account_of self.new) (at ∷ []) []) }
+        ensures refused { OnErr result
+            (Gains (account_of self.old) (account_of self.new) [] (at ∷ [])) }
         ensures cause { HasCause self.old.losses self.new.losses result }
 
         // It is down exactly where its list says.

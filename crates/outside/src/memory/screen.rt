@@ -74,9 +74,7 @@ impl MemScreen {
 }
 
 impl Screen for MemScreen {
-    ghost text = { λ s. Some s.text };
-
-    ghost faults = { λ s. s.faults };
+    ghost seen = { λ s. record { text = Some s.text; faults = s.faults } };
 
     fn write(&mut self, piece: &[u8]) -> Result<usize, Failed>
         ensures ok { IfOk result (λ n.

@@ -124,15 +124,14 @@ impl MemShelf {
 }
 
 impl Shelf for MemShelf {
-    ghost files = { λ s. Some s.files };
-
-    ghost begun = { λ s. is_some s.begun };
+    ghost seen = { λ s. record {
+      files = Some s.files;
+      begun = is_some s.begun;
+      left = s.left;
+      faults = s.faults;
+    } };
 
     ghost begun_name = { λ s. unwrap_or s.begun [] };
-
-    ghost left = { λ s. s.left };
-
-    ghost faults = { λ s. s.faults };
 
     fn begin(&mut self, name: &str) -> Result<(), Failed>
         ensures files { Some self.new.files ≡

@@ -106,15 +106,11 @@ impl MemSource {
 }
 
 impl Source for MemSource {
-    ghost files = { λ s. Some s.files };
-
-    ghost asked = { λ s. s.asked };
+    ghost seen = { λ s. record { files = Some s.files; asked = s.asked; faults = s.faults } };
 
     ghost begun = { λ s. is_some s.rest };
 
     ghost rest = { λ s. unwrap_or s.rest [] };
-
-    ghost faults = { λ s. s.faults };
 
     fn begin(&mut self, name: &str) -> Result<(), BeginFault>
         ensures files { Some self.new.files ≡ Some self.old.files }

@@ -3,7 +3,7 @@ use Rattle.std.specs.Prelude.{◌≡◌, ◌⊎◌, ℕ, List, [], ◌∷◌, �
 use Rattle.std.specs.List.{All, AllZip, Contains}
 use Rattle.command_words.specs.declared.words.Command.{Command}
 use Rattle.command_words.specs.declared.words.Command.TheVariants.{Direct, Run}
-use Rattle.crew.specs.Hosts.{Account}
+use Rattle.outside.specs.Accounts.{Account}
 use Rattle.csv_rows.specs.Text.{table_text}
 use Rattle.script_loading.specs.of_direct_meaning.Direct.{meaning, sizes_of, traps_of}
 use Rattle.script_loading.specs.of_direct_meaning.Evaluated.{bag_at}
@@ -16,7 +16,7 @@ use Rattle.outer_plans.specs.Plans.{IsNotTaken}
 use Rattle.outside.specs.Asked.{Asks, AsksFront}
 use Rattle.outside.specs.Saves.{HasFiles}
 use Rattle.outside.specs.Says.{HasLine}
-use Rattle.outside.specs.Seen.{Seen, SeenShelf}
+use Rattle.outside.specs.Seen.{SeenScreen, SeenShelf, SeenSource}
 use Rattle.outside.specs.declared.file.File.{File as NamedBytes}
 use Rattle.outside.specs.declared.host.Phase.{Phase}
 use Rattle.plan_faults.specs.declared.fault.PlanFault.{PlanFault}
@@ -130,11 +130,11 @@ IsTrappedAt command olds news told script trap =
     × (name_at script trap.trap.origin ≡ Some trap.name)
 
 -- why the meaning of a script writes nothing; no host has a part in it
-abbrev pub IsMeaningStop : Seen (List NamedBytes) → Seen (List NamedBytes) → Script → Stop → Type 0
+abbrev pub IsMeaningStop : SeenSource → SeenSource → Script → Stop → Type 0
 IsMeaningStop before after script (stop.Refused status) =
     (status ≡ WantOfMemory) ⊎ IsInputsCause usual_tries before after (inputs_of script) status
 IsMeaningStop before after script (stop.Trapped trap) =
-    IsTrappedAt Direct [] [] before.told script trap
+    IsTrappedAt Direct [] [] before.files script trap
 
 -- the command is a run of a script which gave a task up, and the answer is that
 abbrev pub HasGivenUp : Command → Option (List NamedBytes) → List Account → List Account → Script
@@ -159,30 +159,30 @@ IsTakingStop script bytes status =
 
 -- why a run has no plan, where the answer is this one: no memory was found, or the file of a plan
 -- gives none
-abbrev pub IsPlanStop : ℕ → Seen (List NamedBytes) → Seen (List NamedBytes) → Script
+abbrev pub IsPlanStop : ℕ → SeenSource → SeenSource → Script
     → Option (List ℕ) → Status → Type 0
 IsPlanStop tries before after script None status = status ≡ WantOfMemory
 IsPlanStop tries before after script (Some name) status =
     IsFileCause tries before after script name status
 
 -- the command reads the file of a plan, which gives none, and the inputs that it reads have rows
-abbrev pub HasNoPlan : Command → Seen (List NamedBytes) → Seen (List NamedBytes) → Script → Status
+abbrev pub HasNoPlan : Command → SeenSource → SeenSource → Script → Status
     → Type 0
 HasNoPlan command before after script status =
     (name : List ℕ) × (rows : List (List Value)) × (plan_read command ≡ Some name)
-    × AllHaveRows before.told (inputs_read command script) rows
+    × AllHaveRows before.files (inputs_read command script) rows
     × IsFileCause (tries_of command) before after script name status
 
 -- why a command writes nothing of this script
-abbrev pub IsCommandStop : Command → Seen (List NamedBytes) → Seen (List NamedBytes)
+abbrev pub IsCommandStop : Command → SeenSource → SeenSource
     → List Account → List Account → Script → Stop → Type 0
 IsCommandStop command before after olds news script (stop.Refused status) =
     (status ≡ WantOfMemory)
     ⊎ (IsInputsCause (tries_of command) before after (inputs_read command script) status
-    ⊎ (HasGivenUp command before.told olds news script status
+    ⊎ (HasGivenUp command before.files olds news script status
     ⊎ HasNoPlan command before after script status))
 IsCommandStop command before after olds news script (stop.Trapped trap) =
-    IsTrappedAt command olds news before.told script trap
+    IsTrappedAt command olds news before.files script trap
 
 -- the words ask for a script's meaning with this trap, of which the command may tell
 abbrev pub HasTrap : List (List ℕ) → Option (List NamedBytes) → List Account → List Account
@@ -194,18 +194,18 @@ HasTrap words told olds news trap =
     × (name_at script trap.trap.origin ≡ Some trap.name)
 
 -- why nothing is written
-abbrev pub IsStopped : List (List ℕ) → Seen (List NamedBytes) → Seen (List NamedBytes)
+abbrev pub IsStopped : List (List ℕ) → SeenSource → SeenSource
     → List Account → List Account → Stop → Type 0
 IsStopped words before after olds news (stop.Refused status) =
     IsCause words before after olds news status
 IsStopped words before after olds news (stop.Trapped trap) =
-    HasTrap words before.told olds news trap
+    HasTrap words before.files olds news trap
 
 -- ---- what is asked for
 
 -- what was asked for of these files, by the answer to a command: all, or a front where the inputs
 -- were not all read
-module _ (tries : ℕ) (names : List (List ℕ)) (before after : Seen (List (List ℕ))) where
+module _ (tries : ℕ) (names : List (List ℕ)) (before after : SeenSource) where
   abbrev pub AsksWith : Status → Type 0
   AsksWith (GaveUp stage phase task) = Asks tries names before after
   AsksWith (PlanRefused step kind) = Asks tries names before after
@@ -223,12 +223,11 @@ module _ (tries : ℕ) (names : List (List ℕ)) (before after : Seen (List (Lis
   AsksUntil (Err (stop.Refused status)) = AsksWith status
 
 -- what was asked for in a call with these words, by what comes of it
-module _ (words : List (List ℕ)) (told : Option (List NamedBytes))
-    (before after : Seen (List (List ℕ))) where
+module _ (words : List (List ℕ)) (before after : SeenSource) where
   abbrev pub AsksInCall : {T : Type 0} → Result T Stop → Type 0
-  AsksInCall (Ok it) = AsksAll words told before after
-  AsksInCall (Err (stop.Trapped trap)) = AsksAll words told before after
-  AsksInCall (Err (stop.Refused status)) = AsksFor words told before after status
+  AsksInCall (Ok it) = AsksAll words before after
+  AsksInCall (Err (stop.Trapped trap)) = AsksAll words before after
+  AsksInCall (Err (stop.Refused status)) = AsksFor words before after status
 
 -- ---- what hosts are asked for
 
@@ -260,8 +259,8 @@ AsksHostsInCall words told olds news r =
 -- ---- what is left
 
 -- what is left where a call came to the writing of these files and this text
-abbrev pub Delivers : List NamedBytes → List ℕ → SeenShelf → SeenShelf → Seen (List ℕ) →
-    Seen (List ℕ) → Status → Type 0
+abbrev pub Delivers : List NamedBytes → List ℕ → SeenShelf → SeenShelf → SeenScreen →
+    SeenScreen → Status → Type 0
 Delivers files text shelf shelf' screen screen' Done =
     HasFiles files shelf shelf' × HasText text screen screen'
 Delivers files text shelf shelf' screen screen' (WriteFault (File name)) =

@@ -10,7 +10,7 @@ use Rattle.flume_grammar.specs.declared.fault.ScriptFault.{ScriptFault}
 use Rattle.flume_grammar.specs.declared.fault.ScriptFault.TheVariants as script_fault
 use Rattle.flume_value.specs.declared.value.Value.{Value}
 use Rattle.outside.specs.Asked.{Asks}
-use Rattle.outside.specs.Seen.{Seen}
+use Rattle.outside.specs.Seen.{SeenSource}
 use Rattle.outside.specs.declared.file.File.{File as NamedBytes}
 use Rattle.outside.specs.declared.loads.LoadFault.{LoadFault}
 use Rattle.outside.specs.declared.loads.LoadFault.TheVariants as load
@@ -60,7 +60,7 @@ inputs_at script number =
     else []
 
 -- the source was asked for the files of the inputs of the nodes below a number
-abbrev pub HasAsked : ℕ → Script → ℕ → Seen (List (List ℕ)) → Seen (List (List ℕ)) → Type 0
+abbrev pub HasAsked : ℕ → Script → ℕ → SeenSource → SeenSource → Type 0
 HasAsked tries script number before after =
     (done : List Wanted)
     × (inputs_of script ≡ done ++ inputs_from script number (drop number script.nodes))

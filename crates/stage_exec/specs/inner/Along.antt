@@ -2,7 +2,8 @@
 use Rattle.std.specs.Prelude.{◌≡◌, ℕ, ◌+◌, List, ◌++◌, drop, length, sum}
 use Rattle.std.proofs.Common.{suc}
 use Rattle.std.specs.List.{AllByRecursion, AllZip}
-use Rattle.crew.specs.Hosts.{Account, Grew}
+use Rattle.outside.specs.Accounts.{Account}
+use Rattle.crew.specs.Hosts.{Grew}
 use Rattle.exec_graph.specs.Typing.{IsWorldTyped, Signatures}
 use Rattle.exec_graph.specs.World.{World}
 use Rattle.exec_plan.specs.Typing.{AreStagesTyped}

@@ -1,6 +1,5 @@
 use Rattle.std.proofs.Common.{◌<◌, ◌∙◌, ℕ, List, length, subst, sym}
 use Rattle.std.specs.Prelude.{All}
-use Rattle.outside.specs.Seen.{seen}
 use Rattle.run_course.proofs.RunLemmas.{as_many}
 use Rattle.cached_course.specs.inner.Course.{WasLookedUp}
 use Rattle.cached_course.proofs.AskedLemmas.{keyed_below}
@@ -21,8 +20,7 @@ pub returns-clause-seen : goal.returns-clause-seen
 returns-clause-seen g c =
     subst
     (λ (l : List (ℕ × List ℕ)). WasLookedUp c.args.program.now.script l
-    (seen g.C.Cache.entries g.C.Cache.faults c.args.cache.now)
-    (seen g.C.Cache.entries g.C.Cache.faults c.find_each.new.cache) c.in_ok-it.it)
+    (g.C.Cache.seen c.args.cache.now) (g.C.Cache.seen c.find_each.new.cache) c.in_ok-it.it)
     (c.as_slice-asked.ensures.value ∙ c.in_ok-keyed.ensures)
     (record {
       looked = c.in_ok-looked.looked.items;

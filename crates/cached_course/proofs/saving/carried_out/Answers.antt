@@ -1,5 +1,4 @@
 use Rattle.std.proofs.Common.{◌++◌, ◌∙◌, codes, map}
-use Rattle.crew.specs.Hosts.{account}
 use Rattle.kept_results.specs.Sizes.{sizes_told}
 use Rattle.outside.specs.Saves.{output_file}
 use Rattle.run_course.specs.Lent.{lent}
@@ -16,9 +15,8 @@ pub returns-in-Ok-clause-ran : goal.returns-in-Ok-clause-ran
 returns-in-Ok-clause-ran g c =
     let s = c.args.settings.now in
     let out = c.in_ok-written_out-in-Ok.field-0 in
-    was_run s c.args.given c.args.shown.plan
-    (lent s (map (account g.H.Host.notes g.H.Host.losses) c.args.hosts.now))
-    (lent s (map (account g.H.Host.notes g.H.Host.losses) c.ran_through.new.hosts))
+    was_run s c.args.given c.args.shown.plan (lent s (map g.H.Host.account c.args.hosts.now))
+    (lent s (map g.H.Host.account c.ran_through.new.hosts))
     c.requires.planned c.in-Ok.ran c.args.shown.text.items out.written.screen.items
     (map output_file out.written.outputs.items) out.kept.items c.in-Ok.ensures.ran c.requires.text
     c.in_ok-written_out-in-Ok.ensures.files

@@ -1,5 +1,4 @@
 use Rattle.std.proofs.Common.{◌∙◌, List, refl, subst, sym}
-use Rattle.outside.specs.Seen.{seen}
 use Rattle.kept_results.specs.Keyed.{keyed_nodes}
 use Rattle.kept_results.specs.of_script_laws.WellFormed.{IsWellFormed}
 use Rattle.kept_results.proofs.of_script_laws.SavedLemmas.{saved-well}
@@ -20,9 +19,8 @@ returns-clause-given g c =
     let own = c.in_ok-it.ensures.seen in
     let goes = own.goes in
     let given = c.in_ok-given.ensures in
-    was_given script keyed keyed own.looked c.args.inputs.rows
-    (seen g.C.Cache.entries g.C.Cache.faults c.args.cache.now)
-    (seen g.C.Cache.entries g.C.Cache.faults c.looked_for.new.cache)
+    was_given script keyed keyed own.looked c.args.inputs.rows (g.C.Cache.seen c.args.cache.now)
+    (g.C.Cache.seen c.looked_for.new.cache)
     c.in_ok-it.it.found c.in_ok-it.it.inputs.items c.in_ok-given.given refl own.was goes.found
     (subst (λ (l : List Missing). AreMissing script (not_found keyed own.looked) l)
     (sym given.missing) goes.missing)

@@ -1,12 +1,10 @@
 use Rattle.std.proofs.Common.{ℕ, inl, inr, List, [], ◌∷◌, Option, None, map, refl, subst, ⊎_elim}
 use Rattle.std.proofs.lemmas.Result.{IfErr-weaker, IfOk-weaker, err_from_is_err_and}
-use Rattle.crew.specs.Hosts.{account}
 use Rattle.crew.proofs.Accounts.{all_grew_not}
 use Rattle.kept_results.specs.Keyed.{keyed_nodes}
 use Rattle.kept_results.specs.of_direct_meaning.Inputs.{inputs_of}
 use Rattle.outside.specs.Asked.{Asks, AsksFront}
 use Rattle.outside.specs.Saves.{output_file}
-use Rattle.outside.specs.Seen.{seen}
 use Rattle.outside.specs.declared.file.File.{File}
 use Rattle.run_course.specs.Lent.{lent}
 use Rattle.run_course.specs.of_script_loading.Causes.{IsInputsCause, IsScriptCause}
@@ -22,7 +20,7 @@ use Rattle.cached_course.proofs.saving.prepare.Goals as goal
 
 pub returns-in_err-script-clause-grew : goal.returns-in_err-script-clause-grew
 returns-in_err-script-clause-grew g c =
-    all_grew_not (map (account g.H.Host.notes g.H.Host.losses) c.args.hosts.now)
+    all_grew_not (map g.H.Host.account c.args.hosts.now)
 
 pub returns-in_err-script-clause-err : goal.returns-in_err-script-clause-err
 returns-in_err-script-clause-err g c =
@@ -30,17 +28,13 @@ returns-in_err-script-clause-err g c =
     let p = err_from_is_err_and end.result end.ensures.1 in
     rw (p.1, p.2)
     (λ words asks.
-    script_stops words (seen g.R.Source.files g.R.Source.faults c.args.source.now)
-    (seen g.R.Source.files g.R.Source.faults c.args.source.now)
-    (seen g.R.Source.files g.R.Source.faults c.keyed_script.new.source)
-    (map (account g.H.Host.notes g.H.Host.losses) c.args.hosts.now)
-    (map (account g.H.Host.notes g.H.Host.losses) c.args.hosts.now)
-    (seen g.C.Cache.entries g.C.Cache.faults c.args.cache.now)
-    (seen g.C.Cache.entries g.C.Cache.faults c.args.cache.now)
+    script_stops words (g.R.Source.seen c.args.source.now) (g.R.Source.seen c.args.source.now)
+    (g.R.Source.seen c.keyed_script.new.source) (map g.H.Host.account c.args.hosts.now)
+    (map g.H.Host.account c.args.hosts.now) (g.C.Cache.seen c.args.cache.now)
+    (g.C.Cache.seen c.args.cache.now)
     c.args.settings.now c.args.name.now asks c.in_err-script.field-0.0
-    (subst (λ (n : ℕ). IsScriptCause n
-    (seen g.R.Source.files g.R.Source.faults c.args.source.now)
-    (seen g.R.Source.files g.R.Source.faults c.keyed_script.new.source)
+    (subst (λ (n : ℕ). IsScriptCause n (g.R.Source.seen c.args.source.now)
+    (g.R.Source.seen c.keyed_script.new.source)
     c.args.name.now c.in_err-script.field-0.0) c.tries-tries.ensures.value
     c.in_err-script.ensures.err))
 
@@ -50,20 +44,14 @@ returns-in_err-script-clause-asked g c =
     let p = err_from_is_err_and end.result end.ensures.1 in
     rw (p.1, p.2)
     (λ words asks.
-    script_for words (g.R.Source.files c.args.source.now) (Run c.args.settings.now None)
-    c.args.name.now
-    (seen g.R.Source.files g.R.Source.faults c.args.source.now)
-    (seen g.R.Source.files g.R.Source.faults c.keyed_script.new.source)
-    (seen g.R.Source.asked g.R.Source.faults c.args.source.now)
-    (seen g.R.Source.asked g.R.Source.faults c.keyed_script.new.source) _ asks
-    (subst (λ (n : ℕ). IsScriptCause n
-    (seen g.R.Source.files g.R.Source.faults c.args.source.now)
-    (seen g.R.Source.files g.R.Source.faults c.keyed_script.new.source)
+    script_for words (Run c.args.settings.now None) c.args.name.now
+    (g.R.Source.seen c.args.source.now) (g.R.Source.seen c.keyed_script.new.source) _ asks
+    (subst (λ (n : ℕ). IsScriptCause n (g.R.Source.seen c.args.source.now)
+    (g.R.Source.seen c.keyed_script.new.source)
     c.args.name.now c.in_err-script.field-0.0) c.tries-tries.ensures.value
     c.in_err-script.ensures.err)
-    (subst (λ (n : ℕ). Asks n (c.args.name.now ∷ [])
-    (seen g.R.Source.asked g.R.Source.faults c.args.source.now)
-    (seen g.R.Source.asked g.R.Source.faults c.keyed_script.new.source))
+    (subst (λ (n : ℕ). Asks n (c.args.name.now ∷ []) (g.R.Source.seen c.args.source.now)
+    (g.R.Source.seen c.keyed_script.new.source))
     c.tries-tries.ensures.value c.in_err-script.ensures.asked))
 
 pub returns-in_err-script-clause-asked_hosts : goal.returns-in_err-script-clause-asked_hosts
@@ -73,7 +61,7 @@ returns-in_err-script-clause-asked_hosts g c = λ words asks. inl refl
 
 pub returns-in_err-inputs-clause-grew : goal.returns-in_err-inputs-clause-grew
 returns-in_err-inputs-clause-grew g c =
-    all_grew_not (map (account g.H.Host.notes g.H.Host.losses) c.args.hosts.now)
+    all_grew_not (map g.H.Host.account c.args.hosts.now)
 
 pub returns-in_err-inputs-clause-err : goal.returns-in_err-inputs-clause-err
 returns-in_err-inputs-clause-err g c =
@@ -82,20 +70,16 @@ returns-in_err-inputs-clause-err g c =
     let it = c.in_ok-script.script in
     rw (p.1, p.2)
     (λ words asks.
-    inputs_stop words (seen g.R.Source.files g.R.Source.faults c.args.source.now)
-    (seen g.R.Source.files g.R.Source.faults c.keyed_script.new.source)
-    (seen g.R.Source.files g.R.Source.faults c.keyed_inputs.new.source)
-    (map (account g.H.Host.notes g.H.Host.losses) c.args.hosts.now)
-    (map (account g.H.Host.notes g.H.Host.losses) c.args.hosts.now)
-    (seen g.C.Cache.entries g.C.Cache.faults c.args.cache.now)
-    (seen g.C.Cache.entries g.C.Cache.faults c.args.cache.now)
+    inputs_stop words (g.R.Source.seen c.args.source.now)
+    (g.R.Source.seen c.keyed_script.new.source) (g.R.Source.seen c.keyed_inputs.new.source)
+    (map g.H.Host.account c.args.hosts.now) (map g.H.Host.account c.args.hosts.now)
+    (g.C.Cache.seen c.args.cache.now) (g.C.Cache.seen c.args.cache.now)
     c.args.settings.now c.args.name.now asks it.program.script
-    (is_loaded (g.R.Source.files c.args.source.now) c.args.name.now it.program.script it.outlines
-    it.texts c.in_ok-script.ensures.ok)
+    (is_loaded (g.R.Source.seen c.args.source.now).files c.args.name.now it.program.script
+    it.outlines it.texts c.in_ok-script.ensures.ok)
     c.in_ok-script.ensures.files c.in_ok-script.ensures.later c.in_err-inputs.field-0.0
-    (subst (λ (n : ℕ). IsInputsCause n
-    (seen g.R.Source.files g.R.Source.faults c.keyed_script.new.source)
-    (seen g.R.Source.files g.R.Source.faults c.keyed_inputs.new.source)
+    (subst (λ (n : ℕ). IsInputsCause n (g.R.Source.seen c.keyed_script.new.source)
+    (g.R.Source.seen c.keyed_inputs.new.source)
     (inputs_of it.program.script) c.in_err-inputs.field-0.0) c.tries-tries.ensures.value
     c.in_err-inputs.ensures.err))
 
@@ -106,28 +90,21 @@ returns-in_err-inputs-clause-asked g c =
     let it = c.in_ok-script.script in
     rw (p.1, p.2)
     (λ words asks.
-    inputs_asked words (g.R.Source.files c.args.source.now)
-    (seen g.R.Source.asked g.R.Source.faults c.args.source.now)
-    (seen g.R.Source.asked g.R.Source.faults c.keyed_script.new.source)
-    (seen g.R.Source.asked g.R.Source.faults c.keyed_inputs.new.source)
+    inputs_asked words (g.R.Source.seen c.args.source.now)
+    (g.R.Source.seen c.keyed_script.new.source) (g.R.Source.seen c.keyed_inputs.new.source)
     c.args.settings.now c.args.name.now asks it.program.script
-    (is_loaded (g.R.Source.files c.args.source.now) c.args.name.now it.program.script it.outlines
-    it.texts c.in_ok-script.ensures.ok)
-    (subst (λ (n : ℕ). Asks n (c.args.name.now ∷ [])
-    (seen g.R.Source.asked g.R.Source.faults c.args.source.now)
-    (seen g.R.Source.asked g.R.Source.faults c.keyed_script.new.source))
+    (is_loaded (g.R.Source.seen c.args.source.now).files c.args.name.now it.program.script
+    it.outlines it.texts c.in_ok-script.ensures.ok)
+    (subst (λ (n : ℕ). Asks n (c.args.name.now ∷ []) (g.R.Source.seen c.args.source.now)
+    (g.R.Source.seen c.keyed_script.new.source))
     c.tries-tries.ensures.value c.in_ok-script.ensures.asked)
-    (seen g.R.Source.files g.R.Source.faults c.keyed_script.new.source)
-    (seen g.R.Source.files g.R.Source.faults c.keyed_inputs.new.source)
     c.in_err-inputs.field-0.0
-    (subst (λ (n : ℕ). IsInputsCause n
-    (seen g.R.Source.files g.R.Source.faults c.keyed_script.new.source)
-    (seen g.R.Source.files g.R.Source.faults c.keyed_inputs.new.source)
+    (subst (λ (n : ℕ). IsInputsCause n (g.R.Source.seen c.keyed_script.new.source)
+    (g.R.Source.seen c.keyed_inputs.new.source)
     (inputs_of it.program.script) c.in_err-inputs.field-0.0) c.tries-tries.ensures.value
     c.in_err-inputs.ensures.err)
     (subst (λ (n : ℕ). AsksFront n (file_names (inputs_of it.program.script))
-    (seen g.R.Source.asked g.R.Source.faults c.keyed_script.new.source)
-    (seen g.R.Source.asked g.R.Source.faults c.keyed_inputs.new.source))
+    (g.R.Source.seen c.keyed_script.new.source) (g.R.Source.seen c.keyed_inputs.new.source))
     c.tries-tries.ensures.value c.in_err-inputs.ensures.asked_front))
 
 pub returns-in_err-inputs-clause-asked_hosts : goal.returns-in_err-inputs-clause-asked_hosts
@@ -137,7 +114,7 @@ returns-in_err-inputs-clause-asked_hosts g c = λ words asks. inl refl
 
 pub returns-in_err-given-clause-grew : goal.returns-in_err-given-clause-grew
 returns-in_err-given-clause-grew g c =
-    all_grew_not (map (account g.H.Host.notes g.H.Host.losses) c.args.hosts.now)
+    all_grew_not (map g.H.Host.account c.args.hosts.now)
 
 pub returns-in_err-given-clause-err : goal.returns-in_err-given-clause-err
 returns-in_err-given-clause-err g c =
@@ -152,20 +129,16 @@ returns-in_err-given-clause-asked g c =
     let it = c.in_ok-script.script in
     rw (p.1, p.2)
     (λ words asks.
-    memory_asked words (g.R.Source.files c.args.source.now)
-    (seen g.R.Source.asked g.R.Source.faults c.args.source.now)
-    (seen g.R.Source.asked g.R.Source.faults c.keyed_script.new.source)
-    (seen g.R.Source.asked g.R.Source.faults c.keyed_inputs.new.source)
+    memory_asked words (g.R.Source.seen c.args.source.now)
+    (g.R.Source.seen c.keyed_script.new.source) (g.R.Source.seen c.keyed_inputs.new.source)
     c.args.settings.now c.args.name.now asks it.program.script
-    (is_loaded (g.R.Source.files c.args.source.now) c.args.name.now it.program.script it.outlines
-    it.texts c.in_ok-script.ensures.ok)
-    (subst (λ (n : ℕ). Asks n (c.args.name.now ∷ [])
-    (seen g.R.Source.asked g.R.Source.faults c.args.source.now)
-    (seen g.R.Source.asked g.R.Source.faults c.keyed_script.new.source))
+    (is_loaded (g.R.Source.seen c.args.source.now).files c.args.name.now it.program.script
+    it.outlines it.texts c.in_ok-script.ensures.ok)
+    (subst (λ (n : ℕ). Asks n (c.args.name.now ∷ []) (g.R.Source.seen c.args.source.now)
+    (g.R.Source.seen c.keyed_script.new.source))
     c.tries-tries.ensures.value c.in_ok-script.ensures.asked)
     (subst (λ (n : ℕ). Asks n (file_names (inputs_of it.program.script))
-    (seen g.R.Source.asked g.R.Source.faults c.keyed_script.new.source)
-    (seen g.R.Source.asked g.R.Source.faults c.keyed_inputs.new.source))
+    (g.R.Source.seen c.keyed_script.new.source) (g.R.Source.seen c.keyed_inputs.new.source))
     c.tries-tries.ensures.value c.in_ok-inputs.ensures.asked))
 
 pub returns-in_err-given-clause-asked_hosts : goal.returns-in_err-given-clause-asked_hosts
@@ -175,21 +148,18 @@ returns-in_err-given-clause-asked_hosts g c = λ words asks. inl refl
 
 pub returns-clause-ok : goal.returns-clause-ok
 returns-clause-ok g c =
-    let told = g.R.Source.files c.args.source.now in
+    let told = (g.R.Source.seen c.args.source.now).files in
     let it = c.in_ok-script.script in
     let inputs = c.in_ok-inputs.inputs in
     let asked = keyed_nodes it.outlines it.texts inputs.files it.program.script in
     IfOk-weaker c.run_given.result _ _
     (λ reused run words asks.
-    prepared words (seen g.R.Source.files g.R.Source.faults c.args.source.now)
-    (seen g.R.Source.files g.R.Source.faults c.keyed_inputs.new.source)
-    (map (account g.H.Host.notes g.H.Host.losses) c.args.hosts.now)
-    (map (account g.H.Host.notes g.H.Host.losses) c.run_given.new.hosts)
-    (seen g.C.Cache.entries g.C.Cache.faults c.args.cache.now)
-    (seen g.C.Cache.entries g.C.Cache.faults c.look_up.new.cache)
+    prepared words (g.R.Source.seen c.args.source.now) (g.R.Source.seen c.keyed_inputs.new.source)
+    (map g.H.Host.account c.args.hosts.now) (map g.H.Host.account c.run_given.new.hosts)
+    (g.C.Cache.seen c.args.cache.now) (g.C.Cache.seen c.look_up.new.cache)
     c.args.settings.now c.args.name.now it.program.script asked asks
-    (are_asked told (g.R.Source.files c.keyed_script.new.source) c.args.name.now it.program.script
-    it.outlines it.texts c.as_slice-texts.result.now inputs.files
+    (are_asked told (g.R.Source.seen c.keyed_script.new.source).files c.args.name.now
+    it.program.script it.outlines it.texts c.as_slice-texts.result.now inputs.files
     c.in_ok-script.ensures.files c.as_slice-texts.ensures c.in_ok-script.ensures.ok
     c.in_ok-inputs.ensures.loaded c.texts_short.ensures c.names_short.ensures)
     inputs.rows
@@ -202,21 +172,18 @@ returns-clause-ok g c =
 
 pub returns-clause-err : goal.returns-clause-err
 returns-clause-err g c =
-    let told = g.R.Source.files c.args.source.now in
+    let told = (g.R.Source.seen c.args.source.now).files in
     let it = c.in_ok-script.script in
     let inputs = c.in_ok-inputs.inputs in
     let asked = keyed_nodes it.outlines it.texts inputs.files it.program.script in
     IfErr-weaker c.run_given.result _ _
     (λ why stop words asks.
-    stops words (seen g.R.Source.files g.R.Source.faults c.args.source.now)
-    (seen g.R.Source.files g.R.Source.faults c.keyed_inputs.new.source)
-    (map (account g.H.Host.notes g.H.Host.losses) c.args.hosts.now)
-    (map (account g.H.Host.notes g.H.Host.losses) c.run_given.new.hosts)
-    (seen g.C.Cache.entries g.C.Cache.faults c.args.cache.now)
-    (seen g.C.Cache.entries g.C.Cache.faults c.look_up.new.cache)
+    stops words (g.R.Source.seen c.args.source.now) (g.R.Source.seen c.keyed_inputs.new.source)
+    (map g.H.Host.account c.args.hosts.now) (map g.H.Host.account c.run_given.new.hosts)
+    (g.C.Cache.seen c.args.cache.now) (g.C.Cache.seen c.look_up.new.cache)
     c.args.settings.now c.args.name.now it.program.script asked asks
-    (are_asked told (g.R.Source.files c.keyed_script.new.source) c.args.name.now it.program.script
-    it.outlines it.texts c.as_slice-texts.result.now inputs.files
+    (are_asked told (g.R.Source.seen c.keyed_script.new.source).files c.args.name.now
+    it.program.script it.outlines it.texts c.as_slice-texts.result.now inputs.files
     c.in_ok-script.ensures.files c.as_slice-texts.ensures c.in_ok-script.ensures.ok
     c.in_ok-inputs.ensures.loaded c.texts_short.ensures c.names_short.ensures)
     inputs.rows
@@ -229,24 +196,19 @@ pub returns-clause-asked : goal.returns-clause-asked
 returns-clause-asked g c =
     let it = c.in_ok-script.script in
     λ words asks.
-    run_asked words (g.R.Source.files c.args.source.now)
-    (seen g.R.Source.asked g.R.Source.faults c.args.source.now)
-    (seen g.R.Source.asked g.R.Source.faults c.keyed_script.new.source)
-    (seen g.R.Source.asked g.R.Source.faults c.keyed_inputs.new.source)
+    run_asked words (g.R.Source.seen c.args.source.now)
+    (g.R.Source.seen c.keyed_script.new.source) (g.R.Source.seen c.keyed_inputs.new.source)
     c.args.settings.now c.args.name.now asks it.program.script
-    (is_loaded (g.R.Source.files c.args.source.now) c.args.name.now it.program.script it.outlines
-    it.texts c.in_ok-script.ensures.ok)
-    (subst (λ (n : ℕ). Asks n (c.args.name.now ∷ [])
-    (seen g.R.Source.asked g.R.Source.faults c.args.source.now)
-    (seen g.R.Source.asked g.R.Source.faults c.keyed_script.new.source))
+    (is_loaded (g.R.Source.seen c.args.source.now).files c.args.name.now it.program.script
+    it.outlines it.texts c.in_ok-script.ensures.ok)
+    (subst (λ (n : ℕ). Asks n (c.args.name.now ∷ []) (g.R.Source.seen c.args.source.now)
+    (g.R.Source.seen c.keyed_script.new.source))
     c.tries-tries.ensures.value c.in_ok-script.ensures.asked)
     (subst (λ (n : ℕ). Asks n (file_names (inputs_of it.program.script))
-    (seen g.R.Source.asked g.R.Source.faults c.keyed_script.new.source)
-    (seen g.R.Source.asked g.R.Source.faults c.keyed_inputs.new.source))
+    (g.R.Source.seen c.keyed_script.new.source) (g.R.Source.seen c.keyed_inputs.new.source))
     c.tries-tries.ensures.value c.in_ok-inputs.ensures.asked)
-    c.in_ok-given.given
-    (lent c.args.settings.now (map (account g.H.Host.notes g.H.Host.losses) c.args.hosts.now))
-    (lent c.args.settings.now (map (account g.H.Host.notes g.H.Host.losses) c.run_given.new.hosts))
+    c.in_ok-given.given (lent c.args.settings.now (map g.H.Host.account c.args.hosts.now))
+    (lent c.args.settings.now (map g.H.Host.account c.run_given.new.hosts))
     c.run_given.result c.run_given.ensures.stop
 
 pub returns-clause-asked_hosts : goal.returns-clause-asked_hosts
@@ -258,19 +220,16 @@ returns-clause-asked_hosts g c =
     ⊎_elim (λ none. inl none)
     (λ phases. inr (
       may_come c.args.settings.now c.in_ok-given.given
-          (lent c.args.settings.now (map (account g.H.Host.notes g.H.Host.losses) c.args.hosts.now))
-          (lent c.args.settings.now
-          (map (account g.H.Host.notes g.H.Host.losses) c.run_given.new.hosts))
+          (lent c.args.settings.now (map g.H.Host.account c.args.hosts.now))
+          (lent c.args.settings.now (map g.H.Host.account c.run_given.new.hosts))
           c.run_given.result c.run_given.ensures.stop,
-      asks_here words (seen g.R.Source.files g.R.Source.faults c.args.source.now)
-          (seen g.R.Source.files g.R.Source.faults c.keyed_inputs.new.source)
-          (map (account g.H.Host.notes g.H.Host.losses) c.args.hosts.now)
-          (map (account g.H.Host.notes g.H.Host.losses) c.run_given.new.hosts)
-          (seen g.C.Cache.entries g.C.Cache.faults c.args.cache.now)
-          (seen g.C.Cache.entries g.C.Cache.faults c.look_up.new.cache)
+      asks_here words (g.R.Source.seen c.args.source.now)
+          (g.R.Source.seen c.keyed_inputs.new.source) (map g.H.Host.account c.args.hosts.now)
+          (map g.H.Host.account c.run_given.new.hosts) (g.C.Cache.seen c.args.cache.now)
+          (g.C.Cache.seen c.look_up.new.cache)
           c.args.settings.now c.args.name.now it.program.script asked asks
-          (are_asked (g.R.Source.files c.args.source.now)
-          (g.R.Source.files c.keyed_script.new.source) c.args.name.now it.program.script
+          (are_asked (g.R.Source.seen c.args.source.now).files
+          (g.R.Source.seen c.keyed_script.new.source).files c.args.name.now it.program.script
           it.outlines it.texts c.as_slice-texts.result.now inputs.files
           c.in_ok-script.ensures.files c.as_slice-texts.ensures c.in_ok-script.ensures.ok
           c.in_ok-inputs.ensures.loaded c.texts_short.ensures c.names_short.ensures)
@@ -279,7 +238,7 @@ returns-clause-asked_hosts g c =
           (λ (t : Option (List File)). AllHaveRows t (inputs_of it.program.script) inputs.rows)
           c.in_ok-script.ensures.files c.in_ok-inputs.ensures.ok)
           c.in_ok-given.given c.in_ok-given.ensures.given phases
-          (others_as (account g.H.Host.notes g.H.Host.losses) c.args.settings.now.workers
+          (others_as g.H.Host.account c.args.settings.now.workers
           c.args.hosts.now c.run_given.new.hosts c.run_given.ensures.hosts),
     ))
     c.run_given.ensures.asked

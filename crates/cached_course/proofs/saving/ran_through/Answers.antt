@@ -1,5 +1,5 @@
 use Rattle.std.proofs.Common.{List, map, subst}
-use Rattle.crew.specs.Hosts.{Account, account}
+use Rattle.outside.specs.Accounts.{Account}
 use Rattle.plan_phases.specs.declared.fault.RunFault.{RunFault}
 use Rattle.run_course.specs.Lent.{lent}
 use Rattle.run_course.specs.of_script_run.Runs.{IsRunFault}
@@ -11,9 +11,9 @@ trapped-requires g c =
     let s = c.args.settings.now in
     let script = c.args.program.now.script in
     let olds : List Account
-    = lent s (map (account g.H.Host.notes g.H.Host.losses) c.args.hosts.now) in
+    = lent s (map g.H.Host.account c.args.hosts.now) in
     let news : List Account
-    = lent s (map (account g.H.Host.notes g.H.Host.losses) c.ran_on.new.hosts) in
+    = lent s (map g.H.Host.account c.ran_on.new.hosts) in
     record {
       within = within s script c.args.lists c.args.plan.now olds news c.in-Err-Trap.trap
           (subst

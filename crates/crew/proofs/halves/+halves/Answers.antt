@@ -2,7 +2,8 @@ use Rattle.std.proofs.Common.{rules, map}
 use Rattle.std.specs.Prelude.{IfOk}
 use Rattle.std.specs.List.{AllZip}
 use Rattle.std.proofs.lemmas.List.{map-append}
-use Rattle.crew.specs.Hosts.{Account, account, Grew}
+use Rattle.outside.specs.Accounts.{Account}
+use Rattle.crew.specs.Hosts.{Grew}
 use Rattle.crew.specs.Workers.{Phased}
 use Rattle.crew.proofs.Accounts.{all_grew-append}
 use Rattle.crew.proofs.Joining.{phased_both, took_both}
@@ -10,7 +11,7 @@ use Rattle.crew.proofs.halves.+halves.Goals as goal
 
 pub both_halves-returns-clause-phased : goal.both_halves-returns-clause-phased
 both_halves-returns-clause-phased g t c =
-    let f : g.row.H.Denot → Account = account g.H.Host.notes g.H.Host.losses in
+    let f : g.row.H.Denot → Account = g.H.Host.account in
     let is_value = g.T.Tasks.is_value c.args.tasks.now in
     let places = g.T.Tasks.places c.args.tasks.now in
     let tasks = g.T.Tasks.count_of c.args.tasks.now in
@@ -29,7 +30,7 @@ both_halves-returns-clause-phased g t c =
 
 pub work_all-returns-clause-grew : goal.work_all-returns-clause-grew
 work_all-returns-clause-grew g t c =
-    let f : g.row.H.Denot → Account = account g.H.Host.notes g.H.Host.losses in
+    let f : g.row.H.Denot → Account = g.H.Host.account in
     let cut = c.split_at_mut-first_hosts in
     let first = c.both_halves.new.first_hosts in
     let last = c.both_halves.new.last_hosts in
@@ -41,7 +42,7 @@ work_all-returns-clause-grew g t c =
 
 pub work_all-returns-clause-asked : goal.work_all-returns-clause-asked
 work_all-returns-clause-asked g t c =
-    let f : g.row.H.Denot → Account = account g.H.Host.notes g.H.Host.losses in
+    let f : g.row.H.Denot → Account = g.H.Host.account in
     let cut = c.split_at_mut-first_hosts in
     let first = c.both_halves.new.first_hosts in
     let last = c.both_halves.new.last_hosts in

@@ -2,7 +2,7 @@ use Rattle.std.proofs.Common.{List, [], map, sym, ◌∙◌, subst}
 use Rattle.std.specs.Prelude.{All, IfOk}
 use Rattle.std.proofs.lemmas.List.Elements.{All-head}
 use Rattle.claim_board.specs.Boards.{Pass}
-use Rattle.crew.specs.Hosts.{Account, account}
+use Rattle.outside.specs.Accounts.{Account}
 use Rattle.crew.specs.Work.{Took, Worked}
 use Rattle.crew.specs.Workers.{IsFresh, AllTook, Phased}
 use Rattle.crew.proofs.Joining.{phased_alone, took_alone, set_alone, alone}
@@ -10,7 +10,7 @@ use Rattle.crew.proofs.halves.work_alone.Goals as goal
 
 pub returns-clause-phased : goal.returns-clause-phased
 returns-clause-phased g c =
-    let f : g.row.H.Denot → Account = account g.H.Host.notes g.H.Host.losses in
+    let f : g.row.H.Denot → Account = g.H.Host.account in
     let tasks = g.T.Tasks.count_of c.args.tasks.now in
     let s = c.args.phase.now in
     let is_value = g.T.Tasks.is_value c.args.tasks.now in
@@ -40,7 +40,7 @@ returns-clause-phased g c =
 
 pub returns-clause-asked : goal.returns-clause-asked
 returns-clause-asked g c =
-    let f : g.row.H.Denot → Account = account g.H.Host.notes g.H.Host.losses in
+    let f : g.row.H.Denot → Account = g.H.Host.account in
     let tasks = g.T.Tasks.count_of c.args.tasks.now in
     let s = c.args.phase.now in
     let places = g.T.Tasks.places c.args.tasks.now in

@@ -5,7 +5,7 @@ use Rattle.std.proofs.lemmas.Result.{err_from_is_err_and}
 use Rattle.claim_board.specs.Protocol.{IsGood}
 use Rattle.claim_board.specs.Boards.{Pass, Passes, Tally, AreOf, states_of}
 use Rattle.claim_board.specs.Told.{closing_state}
-use Rattle.crew.specs.Hosts.{Account, account}
+use Rattle.outside.specs.Accounts.{Account}
 use Rattle.crew.specs.declared.kept.KeptOut.{KeptOut}
 use Rattle.crew.proofs.Accounts.{all_grew_not}
 use Rattle.crew.proofs.Lists.{lent_back}
@@ -41,7 +41,7 @@ close-tally-requires-clause-members g c =
 
 pub returns-clause-settled : goal.returns-clause-settled
 returns-clause-settled g c =
-    let f : g.row.H.Denot → Account = account g.H.Host.notes g.H.Host.losses in
+    let f : g.row.H.Denot → Account = g.H.Host.account in
     let b = c.in_ok-board.board in
     let old : List Pass = c.in_ok-board.passes.members in
     let new : List Pass = c.work_all-worked.new.passes in
@@ -72,7 +72,7 @@ returns-clause-settled g c =
 
 pub returns-in-Some-clause-fault : goal.returns-in-Some-clause-fault
 returns-in-Some-clause-fault g c =
-    let f : g.row.H.Denot → Account = account g.H.Host.notes g.H.Host.losses in
+    let f : g.row.H.Denot → Account = g.H.Host.account in
     let b = c.in_ok-board.board in
     let old : List Pass = c.in_ok-board.passes.members in
     let new : List Pass = c.work_all-worked.new.passes in

@@ -2,9 +2,7 @@ use Rattle.std.proofs.Common.{◌≡◌, ◌∙◌, ℕ, arith, drop, map, refl,
 use Rattle.std.specs.Prelude.{IfSome, Option}
 use Rattle.command_words.specs.Workloads.{IsWithin}
 use Rattle.command_words.specs.declared.workload.Workload.{Workload}
-use Rattle.crew.specs.Hosts.{account}
 use Rattle.crew.proofs.Accounts.{all_grew_not}
-use Rattle.outside.specs.Seen.{seen, seen_shelf}
 use Rattle.made_course.specs.of_run_course.World.{world}
 use Rattle.run_texts.specs.declared.status.Status.{Status}
 use Rattle.flume_run.proofs.Promised.{lends_made, lends_other, of_make, of_no_memory, of_script}
@@ -20,21 +18,13 @@ make-requires-clause-within g c lives bounds =
 
 pub returns-in-Ok-Some-clause-promises : goal.returns-in-Ok-Some-clause-promises
 returns-in-Ok-Some-clause-promises g c =
-    of_make (map string_bytes c.args.words.now)
-    (world (seen g.R.Source.files g.R.Source.faults c.args.source.now)
-    (g.R.Source.asked c.args.source.now)
-    (seen_shelf g.K.Shelf.files g.K.Shelf.begun g.K.Shelf.left g.K.Shelf.faults c.args.shelf.now)
-    (seen g.P.Screen.text g.P.Screen.faults c.args.screen.now)
-    (map (account g.H.Host.notes g.H.Host.losses) c.args.hosts.now))
-    (world (seen g.R.Source.files g.R.Source.faults c.args.source.now)
-    (g.R.Source.asked c.args.source.now)
-    (seen_shelf g.K.Shelf.files g.K.Shelf.begun g.K.Shelf.left g.K.Shelf.faults c.make.new.shelf)
-    (seen g.P.Screen.text g.P.Screen.faults c.make.new.screen)
-    (map (account g.H.Host.notes g.H.Host.losses) c.make.new.hosts))
-    c.make.result c.in-Ok-Some.workload
+    of_make (map string_bytes c.args.words.now) (world (g.R.Source.seen c.args.source.now)
+    (g.K.Shelf.seen c.args.shelf.now) (g.P.Screen.seen c.args.screen.now)
+    (map g.H.Host.account c.args.hosts.now)) (world (g.R.Source.seen c.args.source.now)
+    (g.K.Shelf.seen c.make.new.shelf) (g.P.Screen.seen c.make.new.screen)
+    (map g.H.Host.account c.make.new.hosts)) c.make.result c.in-Ok-Some.workload
     (sym c.in-Ok-Some.field-0-is ∙ c.in-Ok-Some.ensures.value)
-    (c.make.ensures.promises (seen g.R.Source.files g.R.Source.faults c.args.source.now)
-    (g.R.Source.asked c.args.source.now))
+    (c.make.ensures.promises (g.R.Source.seen c.args.source.now))
 
 pub returns-in-Ok-Some-clause-hosts : goal.returns-in-Ok-Some-clause-hosts
 returns-in-Ok-Some-clause-hosts g c =
@@ -46,17 +36,11 @@ returns-in-Ok-Some-clause-hosts g c =
 
 pub returns-in-Ok-None-clause-promises : goal.returns-in-Ok-None-clause-promises
 returns-in-Ok-None-clause-promises g c =
-    of_script (map string_bytes c.args.words.now)
-    (world (seen g.R.Source.files g.R.Source.faults c.args.source.now)
-    (g.R.Source.asked c.args.source.now)
-    (seen_shelf g.K.Shelf.files g.K.Shelf.begun g.K.Shelf.left g.K.Shelf.faults c.args.shelf.now)
-    (seen g.P.Screen.text g.P.Screen.faults c.args.screen.now)
-    (map (account g.H.Host.notes g.H.Host.losses) c.args.hosts.now))
-    (world (seen g.R.Source.files g.R.Source.faults c.run.new.source)
-    (g.R.Source.asked c.run.new.source)
-    (seen_shelf g.K.Shelf.files g.K.Shelf.begun g.K.Shelf.left g.K.Shelf.faults c.run.new.shelf)
-    (seen g.P.Screen.text g.P.Screen.faults c.run.new.screen)
-    (map (account g.H.Host.notes g.H.Host.losses) c.run.new.hosts))
+    of_script (map string_bytes c.args.words.now) (world (g.R.Source.seen c.args.source.now)
+    (g.K.Shelf.seen c.args.shelf.now) (g.P.Screen.seen c.args.screen.now)
+    (map g.H.Host.account c.args.hosts.now)) (world (g.R.Source.seen c.run.new.source)
+    (g.K.Shelf.seen c.run.new.shelf) (g.P.Screen.seen c.run.new.screen)
+    (map g.H.Host.account c.run.new.hosts))
     c.run.result (sym c.in-Ok-None.field-0-is ∙ c.in-Ok-None.ensures.value) c.run.ensures.promises
 
 pub returns-in-Ok-None-clause-hosts : goal.returns-in-Ok-None-clause-hosts
@@ -70,16 +54,10 @@ returns-in-Ok-None-clause-hosts g c =
 pub returns-in-Err-clause-promises : goal.returns-in-Err-clause-promises
 returns-in-Err-clause-promises g c =
     let words = map string_bytes c.args.words.now in
-    let before = world (seen g.R.Source.files g.R.Source.faults c.args.source.now)
-    (g.R.Source.asked c.args.source.now)
-    (seen_shelf g.K.Shelf.files g.K.Shelf.begun g.K.Shelf.left g.K.Shelf.faults c.args.shelf.now)
-    (seen g.P.Screen.text g.P.Screen.faults c.args.screen.now)
-    (map (account g.H.Host.notes g.H.Host.losses) c.args.hosts.now) in
-    let after = world (seen g.R.Source.files g.R.Source.faults c.args.source.now)
-    (g.R.Source.asked c.args.source.now)
-    (seen_shelf g.K.Shelf.files g.K.Shelf.begun g.K.Shelf.left g.K.Shelf.faults c.args.shelf.now)
-    (seen g.P.Screen.text g.P.Screen.faults c.no_memory.new.screen)
-    (map (account g.H.Host.notes g.H.Host.losses) c.args.hosts.now) in
+    let before = world (g.R.Source.seen c.args.source.now) (g.K.Shelf.seen c.args.shelf.now)
+    (g.P.Screen.seen c.args.screen.now) (map g.H.Host.account c.args.hosts.now) in
+    let after = world (g.R.Source.seen c.args.source.now) (g.K.Shelf.seen c.args.shelf.now)
+    (g.P.Screen.seen c.no_memory.new.screen) (map g.H.Host.account c.args.hosts.now) in
     subst (λ (status : Status). Promises words before after status) (sym c.no_memory.ensures.answer)
     (of_no_memory words before after (record { shelf = refl; line = c.no_memory.ensures.line })
     (record {
@@ -87,5 +65,5 @@ returns-in-Err-clause-promises g c =
       source = omega arith;
       shelf = omega arith;
       screen = c.no_memory.ensures.later;
-      hosts = all_grew_not (map (account g.H.Host.notes g.H.Host.losses) c.args.hosts.now);
-    }) refl refl refl refl)
+      hosts = all_grew_not (map g.H.Host.account c.args.hosts.now);
+    }) refl refl)

@@ -1,6 +1,5 @@
 use Rattle.std.proofs.Common.{◌≡◌, ◌+◌, ℕ, length, arith, subst}
 use Rattle.crew.specs.Drills.{attempt_at}
-use Rattle.crew.specs.Hosts.{account}
 use Rattle.forest_courses.proofs.Coursing.{whole_course}
 use Rattle.forest_run.specs.inner.Asking.{LetThrough}
 use Rattle.forest_run.proofs.Asking.{let_none}
@@ -14,8 +13,8 @@ returns-in-Ok-clause-value g c w =
 pub returns-in-Ok-clause-asked : goal.returns-in-Ok-clause-asked
 returns-in-Ok-clause-asked g c =
     let e = attempt_at c.args.spot.now c.args.task in
-    let a = account g.H.Host.notes g.H.Host.losses c.args.host.now in
-    let b = account g.H.Host.notes g.H.Host.losses c.ask_all.new.host in
+    let a = g.H.Host.account c.args.host.now in
+    let b = g.H.Host.account c.ask_all.new.host in
     let many : c.len-count.result ≡ length c.args.elements.items = omega (
       arith,
       c.len-count.ensures,

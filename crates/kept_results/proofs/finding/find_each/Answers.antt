@@ -30,12 +30,12 @@ loop-one-preserved g c =
       kept = kept_next script asked i one looked new found within at is
           c.in_ok-find_next.ensures.kept so_far.kept;
       found = found_next script asked i one looked new found within at is
-          (g.C.Cache.entries c.loop-one.cache) (g.C.Cache.entries c.args.cache.now)
+          (g.C.Cache.seen c.loop-one.cache).entries (g.C.Cache.seen c.args.cache.now).entries
           so_far.entries c.in_ok-find_next.ensures.found so_far.found;
       finds = finds_next script asked i one looked new found within at is
-          (g.C.Cache.entries c.loop-one.cache) (g.C.Cache.entries c.args.cache.now)
-          (g.C.Cache.faults c.args.cache.now) (g.C.Cache.faults c.loop-one.cache)
-          (g.C.Cache.faults c.find_next.new.cache) so_far.entries so_far.later
+          (g.C.Cache.seen c.loop-one.cache).entries (g.C.Cache.seen c.args.cache.now).entries
+          (g.C.Cache.seen c.args.cache.now).faults (g.C.Cache.seen c.loop-one.cache).faults
+          (g.C.Cache.seen c.find_next.new.cache).faults so_far.entries so_far.later
           c.in_ok-find_next.ensures.later c.in_ok-find_next.ensures.finds so_far.finds;
     }
 
@@ -48,17 +48,15 @@ returns-clause-kept g c =
 
 pub returns-clause-found : goal.returns-clause-found
 returns-clause-found g c =
-    subst
-    (λ (l : List (ℕ × List ℕ)). IfSome (g.C.Cache.entries c.args.cache.now) (λ entries.
+    subst (λ (l : List (ℕ × List ℕ)). IfSome (g.C.Cache.seen c.args.cache.now).entries (λ entries.
     AreFound c.args.program.now.script entries l c.loop-one.looked.items))
     (take_all c.loop-one.one-index c.args.asked.now (omega (arith, c.loop-one-test.false)))
     c.loop-one.invariant.found
 
 pub returns-clause-finds : goal.returns-clause-finds
 returns-clause-finds g c =
-    subst
-    (λ (l : List (ℕ × List ℕ)). IfSome (g.C.Cache.entries c.args.cache.now) (λ entries.
-    (Rose (g.C.Cache.faults c.args.cache.now) (g.C.Cache.faults c.loop-one.cache) → ⊥)
+    subst (λ (l : List (ℕ × List ℕ)). IfSome (g.C.Cache.seen c.args.cache.now).entries (λ entries.
+    (Rose (g.C.Cache.seen c.args.cache.now).faults (g.C.Cache.seen c.loop-one.cache).faults → ⊥)
     → FindsEach c.args.program.now.script entries l c.loop-one.looked.items))
     (take_all c.loop-one.one-index c.args.asked.now (omega (arith, c.loop-one-test.false)))
     c.loop-one.invariant.finds

@@ -8,12 +8,12 @@ abbrev pub invariant-loop-one : goal.invariant-loop-one
 invariant-loop-one g l =
     let script = l.program.script in
     let asked = take l.one-index l.asked in record {
-      entries : g.C.Cache.entries l.cache ≡ g.C.Cache.entries l.fn.cache;
-      later : g.C.Cache.faults l.fn.cache ≤ g.C.Cache.faults l.cache;
+      entries : (g.C.Cache.seen l.cache).entries ≡ (g.C.Cache.seen l.fn.cache).entries;
+      later : (g.C.Cache.seen l.fn.cache).faults ≤ (g.C.Cache.seen l.cache).faults;
       kept : AreKept script asked l.looked.items;
-      found : IfSome (g.C.Cache.entries l.fn.cache) (λ entries.
+      found : IfSome (g.C.Cache.seen l.fn.cache).entries (λ entries.
           AreFound script entries asked l.looked.items);
-      finds : IfSome (g.C.Cache.entries l.fn.cache) (λ entries.
-          (Rose (g.C.Cache.faults l.fn.cache) (g.C.Cache.faults l.cache) → ⊥)
+      finds : IfSome (g.C.Cache.seen l.fn.cache).entries (λ entries.
+          (Rose (g.C.Cache.seen l.fn.cache).faults (g.C.Cache.seen l.cache).faults → ⊥)
           → FindsEach script entries asked l.looked.items);
     }

@@ -10,17 +10,17 @@ loop-entry-preserved g c =
     let entry = c.entry-item.result in
     let within = c.loop-entry-test.true in
     let at = c.entry-item.is in
-    let started = g.C.Cache.entries c.args.cache.now in
-    let told = g.C.Cache.entries c.loop-entry.cache in
-    let new = g.C.Cache.entries c.keep_one.new.cache in
+    let started = (g.C.Cache.seen c.args.cache.now).entries in
+    let told = (g.C.Cache.seen c.loop-entry.cache).entries in
+    let new = (g.C.Cache.seen c.keep_one.new.cache).entries in
     let is = c.keep_one.ensures.entries in
     let cause = c.keep_one.ensures.cause in
     let so_far = c.loop-entry.invariant in record {
       later = omega (arith, so_far.later, cause.later);
       told = ap is_some is ∙ told_same told (is_ok c.keep_one.result) entry ∙ so_far.told;
       all = all_more kept i entry within at started told new
-          (g.C.Cache.faults c.args.cache.now) (g.C.Cache.faults c.loop-entry.cache)
-          (g.C.Cache.faults c.keep_one.new.cache) c.keep_one.result so_far.later cause is
+          (g.C.Cache.seen c.args.cache.now).faults (g.C.Cache.seen c.loop-entry.cache).faults
+          (g.C.Cache.seen c.keep_one.new.cache).faults c.keep_one.result so_far.later cause is
           so_far.all;
       some = some_more kept i entry within at started told new (is_ok c.keep_one.result) is
           so_far.some;
@@ -28,13 +28,13 @@ loop-entry-preserved g c =
 
 pub returns-clause-all : goal.returns-clause-all
 returns-clause-all g c =
-    all_end c.args.kept.now c.loop-entry.entry-index (g.C.Cache.entries c.args.cache.now)
-    (g.C.Cache.entries c.loop-entry.cache) (g.C.Cache.faults c.args.cache.now)
-    (g.C.Cache.faults c.loop-entry.cache) (omega (arith, c.loop-entry-test.false))
+    all_end c.args.kept.now c.loop-entry.entry-index (g.C.Cache.seen c.args.cache.now).entries
+    (g.C.Cache.seen c.loop-entry.cache).entries (g.C.Cache.seen c.args.cache.now).faults
+    (g.C.Cache.seen c.loop-entry.cache).faults (omega (arith, c.loop-entry-test.false))
     c.loop-entry.invariant.told c.loop-entry.invariant.all
 
 pub returns-clause-some : goal.returns-clause-some
 returns-clause-some g c =
-    some_end c.args.kept.now c.loop-entry.entry-index (g.C.Cache.entries c.args.cache.now)
-    (g.C.Cache.entries c.loop-entry.cache) (omega (arith, c.loop-entry-test.false))
+    some_end c.args.kept.now c.loop-entry.entry-index (g.C.Cache.seen c.args.cache.now).entries
+    (g.C.Cache.seen c.loop-entry.cache).entries (omega (arith, c.loop-entry-test.false))
     c.loop-entry.invariant.some

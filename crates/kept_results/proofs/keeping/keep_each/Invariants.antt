@@ -8,13 +8,13 @@ use Rattle.kept_results.proofs.keeping.keep_each.Given as goal
 
 abbrev pub invariant-loop-entry : goal.invariant-loop-entry
 invariant-loop-entry g l =
-    let started = g.C.Cache.entries l.fn.cache in
-    let now = g.C.Cache.entries l.cache in
+    let started = (g.C.Cache.seen l.fn.cache).entries in
+    let now = (g.C.Cache.seen l.cache).entries in
     let left = drop l.entry-index l.kept in record {
-      later : g.C.Cache.faults l.fn.cache ≤ g.C.Cache.faults l.cache;
+      later : (g.C.Cache.seen l.fn.cache).faults ≤ (g.C.Cache.seen l.cache).faults;
       told : is_some now ≡ is_some started;
       all : IfSome started (λ entries.
-          (Rose (g.C.Cache.faults l.fn.cache) (g.C.Cache.faults l.cache) → ⊥)
+          (Rose (g.C.Cache.seen l.fn.cache).faults (g.C.Cache.seen l.cache).faults → ⊥)
           → IfSome now (λ so_far. with_entries so_far left ≡ with_entries entries l.kept));
       some : IfSome started (λ entries. IfSome now (λ so_far.
           (after : List CacheEntry) → WereKept so_far left after

@@ -7,7 +7,7 @@ use Rattle.kept_results.proofs.keeping.keep_one.Goals as goal
 
 pub returns-clause-entries : goal.returns-clause-entries
 returns-clause-entries g c =
-    let before = g.C.Cache.entries c.args.cache.now in
+    let before = (g.C.Cache.seen c.args.cache.now).entries in
     c.keep.ensures.entries
     ∙ (λ i. if is_ok c.keep.result
     then option_map (λ (entries : List CacheEntry).

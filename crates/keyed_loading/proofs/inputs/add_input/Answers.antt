@@ -1,7 +1,6 @@
 use Rattle.std.proofs.Common.{◌≡◌, true, false, Some, ap, sym, ◌∙◌, refl, rules, arith}
 use Rattle.std.proofs.lemmas.Result.{err_from_is_err_and}
 use Rattle.script_program.specs.Needed.{is_needed}
-use Rattle.outside.specs.Seen.{seen}
 use Rattle.run_texts.specs.declared.status.Status.TheVariants.{WantOfMemory}
 use Rattle.script_loading.proofs.AskLemmas.{asks_input, asks_other, asks_unneeded}
 use Rattle.script_loading.proofs.InputLemmas.{at_place, behind_input, behind_other, behind_unneeded, input_at, its_columns, its_file, its_wanted, other_wants, stops_at, there, wants}
@@ -13,7 +12,8 @@ returns-then-not-is_needed-clause-read g c =
     let script = c.args.program.now.script in
     let unneeded : is_needed script c.args.number ≡ false = search rules in
     let at = there script.nodes c.args.number c.requires.within in
-    behind_unneeded (g.R.Source.files c.args.source.now) script c.args.number c.args.rows.now at.0
+    behind_unneeded (g.R.Source.seen c.args.source.now).files script c.args.number c.args.rows.now
+    at.0
     at.1 unneeded c.requires.read
 
 pub returns-then-not-is_needed-clause-loaded : goal.returns-then-not-is_needed-clause-loaded
@@ -21,15 +21,15 @@ returns-then-not-is_needed-clause-loaded g c =
     let script = c.args.program.now.script in
     let unneeded : is_needed script c.args.number ≡ false = search rules in
     let at = there script.nodes c.args.number c.requires.within in
-    loaded_unneeded (g.R.Source.files c.args.source.now) script c.args.number c.args.files.now at.0
+    loaded_unneeded (g.R.Source.seen c.args.source.now).files script c.args.number c.args.files.now
+    at.0
     at.1 c.requires.loaded unneeded
 
 pub returns-then-not-is_needed-clause-asked : goal.returns-then-not-is_needed-clause-asked
 returns-then-not-is_needed-clause-asked g c =
     let script = c.args.program.now.script in
     let unneeded : is_needed script c.args.number ≡ false = search rules in
-    asks_unneeded c.args.tries script c.args.number
-    (seen g.R.Source.asked g.R.Source.faults c.args.source.now) unneeded
+    asks_unneeded c.args.tries script c.args.number (g.R.Source.seen c.args.source.now) unneeded
 
 pub input_of-requires : goal.input_of-requires
 input_of-requires g c =
@@ -54,8 +54,8 @@ returns-in_err-own-in-Input-clause-err g c =
     let end = c.from_residual in
     let p = err_from_is_err_and end.result end.ensures.1 in
     rw (p.1, p.2)
-    (stops_at c.args.tries (seen g.R.Source.files g.R.Source.faults c.args.source.now)
-    (seen g.R.Source.files g.R.Source.faults c.input_of.new.source) script c.args.number
+    (stops_at c.args.tries (g.R.Source.seen c.args.source.now)
+    (g.R.Source.seen c.input_of.new.source) script c.args.number
     c.args.rows.now at.entry (its_wanted script c.args.number file columns at) _ at.found needed
     (wants script c.args.number file columns at) c.requires.read
     (c.in_err-own-in-Input.ensures.err at.entry.1.type fits))
@@ -67,9 +67,8 @@ returns-in_err-own-in-Input-clause-asked g c =
     let file = c.in-Input.file in
     let columns = c.in-Input.columns in
     let at = input_at script c.args.number _ file columns c.node.ensures.is c.in-Input.is in
-    asks_input c.args.tries script c.args.number
-    (seen g.R.Source.asked g.R.Source.faults c.args.source.now)
-    (seen g.R.Source.asked g.R.Source.faults c.input_of.new.source) at.entry
+    asks_input c.args.tries script c.args.number (g.R.Source.seen c.args.source.now)
+    (g.R.Source.seen c.input_of.new.source) at.entry
     (its_wanted script c.args.number file columns at) at.found needed
     (wants script c.args.number file columns at) c.in_err-own-in-Input.ensures.asked
 
@@ -80,9 +79,8 @@ returns-in-Ok-clause-asked g c =
     let file = c.in-Input.file in
     let columns = c.in-Input.columns in
     let at = input_at script c.args.number _ file columns c.node.ensures.is c.in-Input.is in
-    asks_input c.args.tries script c.args.number
-    (seen g.R.Source.asked g.R.Source.faults c.args.source.now)
-    (seen g.R.Source.asked g.R.Source.faults c.input_of.new.source) at.entry
+    asks_input c.args.tries script c.args.number (g.R.Source.seen c.args.source.now)
+    (g.R.Source.seen c.input_of.new.source) at.entry
     (its_wanted script c.args.number file columns at) at.found needed
     (wants script c.args.number file columns at) c.in_ok-own-in-Input.ensures.asked
 
@@ -93,9 +91,8 @@ returns-in-Err-clause-asked g c =
     let file = c.in-Input.file in
     let columns = c.in-Input.columns in
     let at = input_at script c.args.number _ file columns c.node.ensures.is c.in-Input.is in
-    asks_input c.args.tries script c.args.number
-    (seen g.R.Source.asked g.R.Source.faults c.args.source.now)
-    (seen g.R.Source.asked g.R.Source.faults c.input_of.new.source) at.entry
+    asks_input c.args.tries script c.args.number (g.R.Source.seen c.args.source.now)
+    (g.R.Source.seen c.input_of.new.source) at.entry
     (its_wanted script c.args.number file columns at) at.found needed
     (wants script c.args.number file columns at) c.in_ok-own-in-Input.ensures.asked
 
@@ -108,7 +105,7 @@ returns-in-Ok-clause-read g c =
     let at = input_at script c.args.number _ file columns c.node.ensures.is c.in-Input.is in
     let fits = its_columns script c.args.number file columns at c.requires.well_formed
     ∙ ap Some (sym c.as_slice.ensures) in
-    behind_input (g.R.Source.files c.args.source.now) script c.args.number c.args.rows.now
+    behind_input (g.R.Source.seen c.args.source.now).files script c.args.number c.args.rows.now
     c.push_input.new.rows at.entry (its_wanted script c.args.number file columns at)
     c.in_ok-own-in-Input.own.0 at.found needed (wants script c.args.number file columns at)
     (c.in_ok-own-in-Input.ensures.ok at.entry.1.type fits)
@@ -121,7 +118,8 @@ returns-in-Ok-clause-loaded g c =
     let file = c.in-Input.file in
     let columns = c.in-Input.columns in
     let at = input_at script c.args.number _ file columns c.node.ensures.is c.in-Input.is in
-    loaded_input (g.R.Source.files c.args.source.now) script c.args.number c.args.files.now at.entry
+    loaded_input (g.R.Source.seen c.args.source.now).files script c.args.number c.args.files.now
+    at.entry
     at.found c.requires.loaded c.push_input.new.files
     (its_wanted script c.args.number file columns at) c.in_ok-own-in-Input.own.1 needed
     (wants script c.args.number file columns at)
@@ -134,8 +132,8 @@ returns-in-Err-clause-err g c =
     let file = c.in-Input.file in
     let columns = c.in-Input.columns in
     let at = input_at script c.args.number _ file columns c.node.ensures.is c.in-Input.is in
-    stops_at c.args.tries (seen g.R.Source.files g.R.Source.faults c.args.source.now)
-    (seen g.R.Source.files g.R.Source.faults c.input_of.new.source) script c.args.number
+    stops_at c.args.tries (g.R.Source.seen c.args.source.now)
+    (g.R.Source.seen c.input_of.new.source) script c.args.number
     c.args.rows.now at.entry (its_wanted script c.args.number file columns at) WantOfMemory at.found
     needed (wants script c.args.number file columns at) c.requires.read tt
 
@@ -145,12 +143,12 @@ returns-in_default g c =
     let needed : is_needed script c.args.number ≡ true = search rules in
     let at = at_place script.nodes c.args.number _ c.node.ensures.is in
     let other = other_wants at.0 _ at.2 c.in_default.not-Input in
-    let read = behind_other (g.R.Source.files c.args.source.now) script c.args.number
+    let read = behind_other (g.R.Source.seen c.args.source.now).files script c.args.number
     c.args.rows.now at.0 at.1 needed other c.requires.read in
-    let loaded = loaded_other (g.R.Source.files c.args.source.now) script c.args.number
+    let loaded = loaded_other (g.R.Source.seen c.args.source.now).files script c.args.number
     c.args.files.now at.0 at.1 c.requires.loaded needed other in
     let asked = asks_other c.args.tries script c.args.number
-    (seen g.R.Source.asked g.R.Source.faults c.args.source.now) at.0 at.1 needed other in
+    (g.R.Source.seen c.args.source.now) at.0 at.1 needed other in
     record {
       files = refl;
       read = read;

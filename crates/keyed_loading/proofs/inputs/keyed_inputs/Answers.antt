@@ -1,6 +1,5 @@
 use Rattle.std.proofs.Common.{◌≡◌, ◌+◌, ◌∙◌, arith, length, subst}
 use Rattle.std.proofs.lemmas.Result.{err_from_is_err_and}
-use Rattle.outside.specs.Seen.{seen}
 use Rattle.script_loading.specs.of_direct_meaning.Inputs.{inputs_of}
 use Rattle.script_loading.specs.inner.Reading.{HasRead}
 use Rattle.script_loading.proofs.AskLemmas.{front_asked, more_asked}
@@ -15,18 +14,17 @@ returns-in_err-add_input-clause-err g c =
     let end = c.from_residual in
     let p = err_from_is_err_and end.result end.ensures.1 in
     rw (p.1, p.2)
-    (inputs_since c.args.tries (seen g.R.Source.files g.R.Source.faults c.args.source.now)
-    (seen g.R.Source.files g.R.Source.faults c.loop-number.source)
-    (seen g.R.Source.files g.R.Source.faults c.add_input.new.source)
+    (inputs_since c.args.tries (g.R.Source.seen c.args.source.now)
+    (g.R.Source.seen c.loop-number.source) (g.R.Source.seen c.add_input.new.source)
     (inputs_of c.args.program.now.script) _ c.loop-number.invariant.0 c.loop-number.invariant.1
     c.in_err-add_input.ensures.err)
 
 pub returns-in_err-add_input-clause-asked_front : goal.returns-in_err-add_input-clause-asked_front
 returns-in_err-add_input-clause-asked_front g c =
     let script = c.args.program.now.script in
-    let before = seen g.R.Source.asked g.R.Source.faults c.args.source.now in
-    let middle = seen g.R.Source.asked g.R.Source.faults c.loop-number.source in
-    let after = seen g.R.Source.asked g.R.Source.faults c.add_input.new.source in
+    let before = g.R.Source.seen c.args.source.now in
+    let middle = g.R.Source.seen c.loop-number.source in
+    let after = g.R.Source.seen c.add_input.new.source in
     let within = rw c.node_count-number-end.ensures at c.loop-number-test.true in
     let p = err_from_is_err_and c.from_residual.result c.from_residual.ensures.1 in
     rw p.1
@@ -37,9 +35,9 @@ returns-in_err-add_input-clause-asked_front g c =
 pub loop-number-preserved : goal.loop-number-preserved
 loop-number-preserved g c =
     let script = c.args.program.now.script in
-    let before = seen g.R.Source.asked g.R.Source.faults c.args.source.now in
-    let middle = seen g.R.Source.asked g.R.Source.faults c.loop-number.source in
-    let after = seen g.R.Source.asked g.R.Source.faults c.add_input.new.source in
+    let before = g.R.Source.seen c.args.source.now in
+    let middle = g.R.Source.seen c.loop-number.source in
+    let after = g.R.Source.seen c.add_input.new.source in
     let within = rw c.node_count-number-end.ensures at c.loop-number-test.true in (
       c.in_ok-add_input.ensures.files ∙ c.loop-number.invariant.0,
       omega (arith, c.in_ok-add_input.ensures.later, c.loop-number.invariant.1),
@@ -52,7 +50,7 @@ loop-number-preserved g c =
 pub returns-clause-loaded : goal.returns-clause-loaded
 returns-clause-loaded g c =
     let script = c.args.program.now.script in
-    let told = g.R.Source.files c.args.source.now in
+    let told = (g.R.Source.seen c.args.source.now).files in
     let files = c.loop-number.files in
     let end : c.loop-number.number ≡ length script.nodes = omega (
       arith,
@@ -66,7 +64,7 @@ returns-clause-loaded g c =
 pub returns-clause-typed : goal.returns-clause-typed
 returns-clause-typed g c =
     let script = c.args.program.now.script in
-    let told = g.R.Source.files c.args.source.now in
+    let told = (g.R.Source.seen c.args.source.now).files in
     let rows = c.loop-number.rows in
     let end : c.loop-number.number ≡ length script.nodes = omega (
       arith,

@@ -1,21 +1,15 @@
 use Rattle.std.proofs.Common.{map, refl, arith}
-use Rattle.crew.specs.Hosts.{account}
-use Rattle.outside.specs.Seen.{seen, seen_shelf}
 use Rattle.run_course.specs.World.{world}
 use Rattle.made_course.proofs.Delivered.{delivered, stopped}
 use Rattle.made_course.proofs.Promised.{makes}
 use Rattle.made_course.proofs.course.make.Goals as goal
 
 pub returns-in-Ok-clause-promises : goal.returns-in-Ok-clause-promises
-returns-in-Ok-clause-promises g c source asked =
-    let before = world source asked
-    (seen_shelf g.K.Shelf.files g.K.Shelf.begun g.K.Shelf.left g.K.Shelf.faults c.args.shelf.now)
-    (seen g.P.Screen.text g.P.Screen.faults c.args.screen.now)
-    (map (account g.H.Host.notes g.H.Host.losses) c.args.hosts.now) in
-    let after = world source asked
-    (seen_shelf g.K.Shelf.files g.K.Shelf.begun g.K.Shelf.left g.K.Shelf.faults c.deliver.new.shelf)
-    (seen g.P.Screen.text g.P.Screen.faults c.deliver.new.screen)
-    (map (account g.H.Host.notes g.H.Host.losses) c.prepare.new.hosts) in
+returns-in-Ok-clause-promises g c source =
+    let before = world source (g.K.Shelf.seen c.args.shelf.now) (g.P.Screen.seen c.args.screen.now)
+    (map g.H.Host.account c.args.hosts.now) in
+    let after = world source (g.K.Shelf.seen c.deliver.new.shelf)
+    (g.P.Screen.seen c.deliver.new.screen) (map g.H.Host.account c.prepare.new.hosts) in
     makes c.args.workload before after c.deliver.result
     (delivered c.args.workload before after _ _ c.deliver.result c.in-Ok.ensures.files
     c.in-Ok.ensures.line c.in-Ok.ensures.ran c.deliver.ensures.delivered)
@@ -25,18 +19,14 @@ returns-in-Ok-clause-promises g c source asked =
       shelf = c.deliver.ensures.shelf;
       screen = c.deliver.ensures.screen;
       hosts = c.in-Ok.ensures.grew;
-    }) refl refl c.in-Ok.ensures.asked
+    }) refl c.in-Ok.ensures.asked
 
 pub returns-in-Err-clause-promises : goal.returns-in-Err-clause-promises
-returns-in-Err-clause-promises g c source asked =
-    let before = world source asked
-    (seen_shelf g.K.Shelf.files g.K.Shelf.begun g.K.Shelf.left g.K.Shelf.faults c.args.shelf.now)
-    (seen g.P.Screen.text g.P.Screen.faults c.args.screen.now)
-    (map (account g.H.Host.notes g.H.Host.losses) c.args.hosts.now) in
-    let after = world source asked
-    (seen_shelf g.K.Shelf.files g.K.Shelf.begun g.K.Shelf.left g.K.Shelf.faults c.args.shelf.now)
-    (seen g.P.Screen.text g.P.Screen.faults c.tell.new.screen)
-    (map (account g.H.Host.notes g.H.Host.losses) c.prepare.new.hosts) in
+returns-in-Err-clause-promises g c source =
+    let before = world source (g.K.Shelf.seen c.args.shelf.now) (g.P.Screen.seen c.args.screen.now)
+    (map g.H.Host.account c.args.hosts.now) in
+    let after = world source (g.K.Shelf.seen c.args.shelf.now) (g.P.Screen.seen c.tell.new.screen)
+    (map g.H.Host.account c.prepare.new.hosts) in
     makes c.args.workload before after c.in-Err.status
     (stopped c.args.workload before after c.in-Err.status c.in-Err.ensures.stop refl
     c.tell.ensures.line)
@@ -46,4 +36,4 @@ returns-in-Err-clause-promises g c source asked =
       shelf = omega arith;
       screen = c.tell.ensures.later;
       hosts = c.in-Err.ensures.grew;
-    }) refl refl c.in-Err.ensures.asked
+    }) refl c.in-Err.ensures.asked

@@ -1,6 +1,5 @@
 use Rattle.std.proofs.Common.{◌≤◌, ◌∙◌, List, length, map, subst, sym}
 use Rattle.std.specs.Prelude.{Err}
-use Rattle.crew.specs.Hosts.{account}
 use Rattle.flume_value.specs.declared.value.Value.{Value}
 use Rattle.plan_phases.specs.declared.fault.RunFault.{RunFault}
 use Rattle.made_course.proofs.Runs.{first_sums, some_list}
@@ -21,6 +20,6 @@ pub unreachable-requires : goal.unreachable-requires
 unreachable-requires g c =
     subst
     (λ (f : RunFault).
-    ComesTo c.args.workload (map (account g.H.Host.notes g.H.Host.losses) c.args.hosts.now)
-    (map (account g.H.Host.notes g.H.Host.losses) c.sums_run.new.hosts) (Err f))
+    ComesTo c.args.workload (map g.H.Host.account c.args.hosts.now)
+    (map g.H.Host.account c.sums_run.new.hosts) (Err f))
     c.in-Err-Trap.field-0-is c.in-Err-Trap.ensures.comes

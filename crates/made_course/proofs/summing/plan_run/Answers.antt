@@ -1,6 +1,5 @@
 use Rattle.std.proofs.Common.{◌≡◌, drop, inl, map, refl, subst}
 use Rattle.std.proofs.lemmas.Result.{err_from_is_err_and}
-use Rattle.crew.specs.Hosts.{account}
 use Rattle.crew.proofs.Accounts.{all_grew_not}
 use Rattle.run_course.proofs.HostLemmas.{others_as}
 use Rattle.run_settings.specs.Settings.{RunSettings}
@@ -27,7 +26,7 @@ returns-in_err-inputs-clause-asked g c = inl refl
 
 pub returns-in_err-inputs-clause-grew : goal.returns-in_err-inputs-clause-grew
 returns-in_err-inputs-clause-grew g c =
-    all_grew_not (map (account g.H.Host.notes g.H.Host.losses) c.args.hosts.now)
+    all_grew_not (map g.H.Host.account c.args.hosts.now)
 
 -- ---- the run
 
@@ -37,18 +36,17 @@ returns-clause-comes g c =
     comes w c.standard-settings.result c.args.program.now.script c.in_ok-inputs.inputs
     c.standard-settings.ensures c.requires.script c.in_ok-inputs.ensures
     (c.sums_law.ensures.means w.start w.rows c.requires.within.start c.requires.within.rows)
-    c.args.plan.now (map (account g.H.Host.notes g.H.Host.losses) c.args.hosts.now)
-    (map (account g.H.Host.notes g.H.Host.losses) c.ran_on.new.hosts) c.ran_on.result
+    c.args.plan.now (map g.H.Host.account c.args.hosts.now)
+    (map g.H.Host.account c.ran_on.new.hosts) c.ran_on.result
     c.requires.optimised c.ran_on.ensures.ran c.ran_on.ensures.fault
 
 pub returns-clause-asked : goal.returns-clause-asked
 returns-clause-asked g c =
     asks_sums c.args.workload c.standard-settings.result c.args.program.now.script
     c.in_ok-inputs.inputs c.standard-settings.ensures c.requires.script c.in_ok-inputs.ensures
-    c.args.plan.now (map (account g.H.Host.notes g.H.Host.losses) c.args.hosts.now)
-    (map (account g.H.Host.notes g.H.Host.losses) c.ran_on.new.hosts) c.requires.optimised
-    c.ran_on.ensures.asked
-    (others_as (account g.H.Host.notes g.H.Host.losses) c.standard-settings.result.workers
+    c.args.plan.now (map g.H.Host.account c.args.hosts.now)
+    (map g.H.Host.account c.ran_on.new.hosts) c.requires.optimised c.ran_on.ensures.asked
+    (others_as g.H.Host.account c.standard-settings.result.workers
     c.args.hosts.now c.ran_on.new.hosts c.ran_on.ensures.hosts)
 
 pub returns-clause-hosts : goal.returns-clause-hosts

@@ -1,6 +1,5 @@
 use Rattle.std.proofs.Common.{inl, map, refl}
 use Rattle.std.proofs.lemmas.Result.{err_from_is_err_and}
-use Rattle.crew.specs.Hosts.{account}
 use Rattle.crew.proofs.Accounts.{all_grew_not}
 use Rattle.made_course.proofs.summing.sums_run.Goals as goal
 
@@ -17,4 +16,4 @@ returns-in_err-plan-clause-asked g c = inl refl
 
 pub returns-in_err-plan-clause-grew : goal.returns-in_err-plan-clause-grew
 returns-in_err-plan-clause-grew g c =
-    all_grew_not (map (account g.H.Host.notes g.H.Host.losses) c.args.hosts.now)
+    all_grew_not (map g.H.Host.account c.args.hosts.now)

@@ -1,6 +1,5 @@
 use Rattle.std.proofs.Common.{◌≡◌, Option, Some, None, IfSome, ◌∙◌, rules, arith}
 use Rattle.std.specs.Prelude.{⊤}
-use Rattle.outside.specs.Seen.{seen}
 use Rattle.outside.proofs.AskLemmas.{last_try}
 use Rattle.outside.proofs.loads.load_tried.Goals as goal
 
@@ -14,13 +13,12 @@ returns-in_default g c =
     record {
       files = c.load.ensures.files ∙ told;
       asked = last_try c.args.tries c.loop-turn._turn c.args.name.now
-          (seen g.S.Source.asked g.S.Source.faults c.args.source.now)
-          (seen g.S.Source.asked g.S.Source.faults c.loop-turn.source)
-          (seen g.S.Source.asked g.S.Source.faults c.load.new.source) c.loop-turn-test.true
+          (g.S.Source.seen c.args.source.now) (g.S.Source.seen c.loop-turn.source)
+          (g.S.Source.seen c.load.new.source) c.loop-turn-test.true
           c.loop-turn.invariant.asked c.loop-turn.invariant.rose c.load.ensures.asked
           c.load.ensures.later;
       within = tt;
-      bytes = nothing_said (g.S.Source.files c.args.source.now);
+      bytes = nothing_said (g.S.Source.seen c.args.source.now).files;
       missing = rw told at c.in_default.ensures.missing;
       too_long = rw told at c.in_default.ensures.too_long;
       left = rw told at c.in_default.ensures.left;
@@ -30,9 +28,7 @@ returns-in_default g c =
 
 pub returns-in_default-2-clause-asked : goal.returns-in_default-2-clause-asked
 returns-in_default-2-clause-asked g c =
-    last_try c.args.tries c.loop-turn._turn c.args.name.now
-    (seen g.S.Source.asked g.S.Source.faults c.args.source.now)
-    (seen g.S.Source.asked g.S.Source.faults c.loop-turn.source)
-    (seen g.S.Source.asked g.S.Source.faults c.load.new.source) c.loop-turn-test.true
+    last_try c.args.tries c.loop-turn._turn c.args.name.now (g.S.Source.seen c.args.source.now)
+    (g.S.Source.seen c.loop-turn.source) (g.S.Source.seen c.load.new.source) c.loop-turn-test.true
     c.loop-turn.invariant.asked c.loop-turn.invariant.rose c.load.ensures.asked
     c.load.ensures.later

@@ -1,11 +1,9 @@
 use Rattle.std.proofs.Common.{map, take}
 use Rattle.outside.specs.Saves.{HasFiles, output_file}
-use Rattle.outside.specs.Seen.{seen_shelf}
 use Rattle.outside.proofs.saves.save_all.Given as goal
 
 -- the outputs so far are whole and ended
 abbrev pub invariant-loop-k : goal.invariant-loop-k
 invariant-loop-k g l =
-    HasFiles (map output_file (take l.k l.outputs))
-    (seen_shelf g.K.Shelf.files g.K.Shelf.begun g.K.Shelf.left g.K.Shelf.faults l.fn.shelf)
-    (seen_shelf g.K.Shelf.files g.K.Shelf.begun g.K.Shelf.left g.K.Shelf.faults l.shelf)
+    HasFiles (map output_file (take l.k l.outputs)) (g.K.Shelf.seen l.fn.shelf)
+    (g.K.Shelf.seen l.shelf)

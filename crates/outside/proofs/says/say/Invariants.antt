@@ -6,9 +6,9 @@ use Rattle.outside.proofs.says.say.Given as goal
 abbrev pub invariant-loop-done : goal.invariant-loop-done
 invariant-loop-done g l = record {
   within : l.done ≤ length l.text;
-  text : g.P.Screen.text l.screen ≡ option_map (λ old. old ++ take l.done l.text)
-      (g.P.Screen.text l.fn.screen);
-  faults : g.P.Screen.faults l.screen ≡ g.P.Screen.faults l.fn.screen;
+  text : (g.P.Screen.seen l.screen).text ≡ option_map (λ old. old ++ take l.done l.text)
+      (g.P.Screen.seen l.fn.screen).text;
+  faults : (g.P.Screen.seen l.screen).faults ≡ (g.P.Screen.seen l.fn.screen).faults;
 }
 
 abbrev pub decreases-loop-done : goal.decreases-loop-done

@@ -1,7 +1,6 @@
 use Rattle.std.proofs.Common.{Ok, take}
 use Rattle.std.specs.List.{flat_map}
 use Rattle.outside.specs.Says.{Says}
-use Rattle.outside.specs.Seen.{seen}
 use Rattle.outside.specs.declared.source.Failed.{Failed}
 use Rattle.outside.proofs.says.say_all.Given as goal
 
@@ -9,5 +8,4 @@ use Rattle.outside.proofs.says.say_all.Given as goal
 abbrev pub invariant-loop-piece : goal.invariant-loop-piece
 invariant-loop-piece g l =
     Says {T = Unit {0}} {E = Failed} (flat_map (λ piece. piece.now) (take l.piece-index l.pieces))
-    (seen g.P.Screen.text g.P.Screen.faults l.fn.screen)
-    (seen g.P.Screen.text g.P.Screen.faults l.screen) (Ok tt)
+    (g.P.Screen.seen l.fn.screen) (g.P.Screen.seen l.screen) (Ok tt)

@@ -3,12 +3,10 @@ use Rattle.std.specs.List.{flat_map}
 use Rattle.outside.specs.declared.source.Failed.{Failed}
 use Rattle.printing.specs.Printed.{escaped}
 use Rattle.outside.specs.Says.{Says}
-use Rattle.outside.specs.Seen.{seen}
 use Rattle.printing.proofs.screen.say_escaped.Given as goal
 
 -- the bytes so far are said
 abbrev pub invariant-loop-byte : goal.invariant-loop-byte
 invariant-loop-byte g l =
     Says {T = Unit {0}} {E = Failed} (flat_map escaped (take l.byte-index l.name))
-    (seen g.P.Screen.text g.P.Screen.faults l.fn.screen)
-    (seen g.P.Screen.text g.P.Screen.faults l.screen) (Ok tt)
+    (g.P.Screen.seen l.fn.screen) (g.P.Screen.seen l.screen) (Ok tt)

@@ -6,7 +6,6 @@ use Rattle.std.proofs.lemmas.List.{length-map}
 use Rattle.partial_tables.specs.Tables.{Pairs}
 use Rattle.crew.specs.Attempts.{IsMadeOf}
 use Rattle.crew.specs.Drills.{attempt_at}
-use Rattle.crew.specs.Hosts.{account}
 use Rattle.forest_steps.specs.Functions.{world_of}
 use Rattle.forest_steps.specs.Turns.{in_turn}
 use Rattle.forest_run.specs.Asked.{Asked}
@@ -46,8 +45,8 @@ pub returns-clause-asked : goal.returns-clause-asked
 returns-clause-asked g c =
     let w = world_of (g.F.Functions.called c.args.functions.now) in
     let e = attempt_at c.args.spot.now c.args.task in
-    let a = account g.H.Host.notes g.H.Host.losses c.args.host.now in
-    let b = account g.H.Host.notes g.H.Host.losses c.walk.new.host in
+    let a = g.H.Host.account c.args.host.now in
+    let b = g.H.Host.account c.walk.new.host in
     let all : c.into_iter.result.rest.items ≡ c.args.merged.items = search rules in
     subst (λ (n : ℕ). Asked e n a b c.walk.result)
     (length-map c.into_iter.result.rest.items

@@ -1,6 +1,5 @@
 use Rattle.std.proofs.Common.{subst}
 use Rattle.crew.specs.Drills.{attempt_at}
-use Rattle.crew.specs.Hosts.{account}
 use Rattle.forest_run.specs.Asked.{Asked}
 use Rattle.forest_steps.specs.Functions.{world_of}
 use Rattle.reduce_part.proofs.Gathering.{all_reduced, can_run, count_gathered, count_merged, groups_reduced, merged_has_shape, pairs_gathered, partials_gathered, safe_groups, shape_gathered}
@@ -34,8 +33,8 @@ pub returns-in_ok-groups-in-None-default-clause-asked :
     goal.returns-in_ok-groups-in-None-default-clause-asked
 returns-in_ok-groups-in-None-default-clause-asked g c pairs gathered =
     let e = attempt_at c.args.spot.now c.args.task in
-    let a = account g.H.Host.notes g.H.Host.losses c.args.host.now in
-    let b = account g.H.Host.notes g.H.Host.losses c.reduce_groups.new.host in
+    let a = g.H.Host.account c.args.host.now in
+    let b = g.H.Host.account c.reduce_groups.new.host in
     subst (λ n. Asked e n a b c.reduce_groups.result)
     (count_gathered c.args.outs.now c.args.channel c.args.partition c.args.grouping.now
     c.in-None-default.is-0 c.in_ok-groups-in-None-default.groups.items
@@ -93,8 +92,8 @@ returns-in_ok-merged-in-Some-Some-clause-asked g c pairs gathered =
     (g.F.Functions.can_call c.args.functions.now) c.args.outs.now c.args.channel
     c.args.partition c.args.grouping.now it.comb it.is-0 c.requires.ready in
     let e = attempt_at c.args.spot.now c.args.task in
-    let a = account g.H.Host.notes g.H.Host.losses c.args.host.now in
-    let b = account g.H.Host.notes g.H.Host.losses c.reduce_merged.new.host in
+    let a = g.H.Host.account c.args.host.now in
+    let b = g.H.Host.account c.reduce_merged.new.host in
     subst (λ n. Asked e n a b c.reduce_merged.result)
     (count_merged (g.F.Functions.called c.args.functions.now) c.args.outs.now c.args.channel
     c.args.partition c.args.grouping.now it.comb it.roots merged.merged.items it.is-0 it.is-1

@@ -1,9 +1,7 @@
 use Rattle.std.proofs.Common.{inl, map, refl}
 use Rattle.std.proofs.lemmas.Result.{IfErr-weaker, err_from_is_err_and}
-use Rattle.crew.specs.Hosts.{account}
 use Rattle.crew.proofs.Accounts.{all_grew_not}
 use Rattle.outside.proofs.AskLemmas.{asks_none}
-use Rattle.outside.specs.Seen.{seen}
 use Rattle.run_course.specs.Limits.{usual_tries}
 use Rattle.script_loading.specs.of_direct_meaning.Inputs.{inputs_of}
 use Rattle.script_loading.specs.Loads.{file_names}
@@ -15,54 +13,53 @@ pub returns-in-Direct-clause-stop : goal.returns-in-Direct-clause-stop
 returns-in-Direct-clause-stop g c =
     rw c.in-Direct.is
     (IfErr-weaker c.meant.result _ _ (λ why stops.
-    meaning_stop (seen g.R.Source.files g.R.Source.faults c.args.source.now)
-    (seen g.R.Source.files g.R.Source.faults c.meant.new.source)
-    (map (account g.H.Host.notes g.H.Host.losses) c.args.hosts.now)
-    (map (account g.H.Host.notes g.H.Host.losses) c.args.hosts.now) c.args.program.now.script why
+    meaning_stop (g.R.Source.seen c.args.source.now) (g.R.Source.seen c.meant.new.source)
+    (map g.H.Host.account c.args.hosts.now)
+    (map g.H.Host.account c.args.hosts.now) c.args.program.now.script why
     stops) c.meant.ensures.stop)
 
 pub returns-in_err-accepted-in-Check-clause-grew : goal.returns-in_err-accepted-in-Check-clause-grew
 returns-in_err-accepted-in-Check-clause-grew g c =
-    all_grew_not (map (account g.H.Host.notes g.H.Host.losses) c.args.hosts.now)
+    all_grew_not (map g.H.Host.account c.args.hosts.now)
 
 pub returns-in_err-planned-in-Plan-clause-grew : goal.returns-in_err-planned-in-Plan-clause-grew
 returns-in_err-planned-in-Plan-clause-grew g c =
-    all_grew_not (map (account g.H.Host.notes g.H.Host.losses) c.args.hosts.now)
+    all_grew_not (map g.H.Host.account c.args.hosts.now)
 
 pub returns-in_ok-accepted-in-Check-clause-grew : goal.returns-in_ok-accepted-in-Check-clause-grew
 returns-in_ok-accepted-in-Check-clause-grew g c =
-    all_grew_not (map (account g.H.Host.notes g.H.Host.losses) c.args.hosts.now)
+    all_grew_not (map g.H.Host.account c.args.hosts.now)
 
 pub returns-in_ok-planned-in-Plan-clause-grew : goal.returns-in_ok-planned-in-Plan-clause-grew
 returns-in_ok-planned-in-Plan-clause-grew g c =
-    all_grew_not (map (account g.H.Host.notes g.H.Host.losses) c.args.hosts.now)
+    all_grew_not (map g.H.Host.account c.args.hosts.now)
 
 pub returns-in-Direct-clause-grew : goal.returns-in-Direct-clause-grew
 returns-in-Direct-clause-grew g c =
-    all_grew_not (map (account g.H.Host.notes g.H.Host.losses) c.args.hosts.now)
+    all_grew_not (map g.H.Host.account c.args.hosts.now)
 
 pub returns-in_err-accepted-in-Check-clause-asked :
     goal.returns-in_err-accepted-in-Check-clause-asked
 returns-in_err-accepted-in-Check-clause-asked g c =
     let end = c.from_residual in
     let p = err_from_is_err_and end.result end.ensures.1 in
-    rw (p.1, p.2) (none_with _ _ (seen g.R.Source.asked g.R.Source.faults c.args.source.now))
+    rw (p.1, p.2) (none_with _ _ (g.R.Source.seen c.args.source.now))
 
 pub returns-in_err-planned-in-Plan-clause-asked : goal.returns-in_err-planned-in-Plan-clause-asked
 returns-in_err-planned-in-Plan-clause-asked g c =
     let end = c.from_residual-in_err-planned-in-Plan in
     let p = err_from_is_err_and end.result end.ensures.1 in
-    rw (p.1, p.2) (none_with _ _ (seen g.R.Source.asked g.R.Source.faults c.args.source.now))
+    rw (p.1, p.2) (none_with _ _ (g.R.Source.seen c.args.source.now))
 
 pub returns-in_ok-accepted-in-Check-clause-asked : goal.returns-in_ok-accepted-in-Check-clause-asked
 returns-in_ok-accepted-in-Check-clause-asked g c =
     rw c.in-Check.is
-    (asks_none usual_tries (seen g.R.Source.asked g.R.Source.faults c.args.source.now))
+    (asks_none usual_tries (g.R.Source.seen c.args.source.now))
 
 pub returns-in_ok-planned-in-Plan-clause-asked : goal.returns-in_ok-planned-in-Plan-clause-asked
 returns-in_ok-planned-in-Plan-clause-asked g c =
     rw c.in-Plan.is
-    (asks_none usual_tries (seen g.R.Source.asked g.R.Source.faults c.args.source.now))
+    (asks_none usual_tries (g.R.Source.seen c.args.source.now))
 
 pub returns-in_err-accepted-in-Check-clause-asked_hosts :
     goal.returns-in_err-accepted-in-Check-clause-asked_hosts
@@ -88,6 +85,5 @@ pub returns-in-Direct-clause-asked : goal.returns-in-Direct-clause-asked
 returns-in-Direct-clause-asked g c =
     rw c.in-Direct.is
     (none_behind usual_tries (file_names (inputs_of c.args.program.now.script))
-    (seen g.R.Source.asked g.R.Source.faults c.args.source.now)
-    (seen g.R.Source.asked g.R.Source.faults c.meant.new.source) c.meant.result
+    (g.R.Source.seen c.args.source.now) (g.R.Source.seen c.meant.new.source) c.meant.result
     c.meant.ensures.asked)

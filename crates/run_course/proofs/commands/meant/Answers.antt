@@ -1,6 +1,5 @@
 use Rattle.std.proofs.lemmas.Result.{err_from_is_err_and}
 use Rattle.script_loading.specs.of_direct_meaning.Inputs.{inputs_of}
-use Rattle.outside.specs.Seen.{seen}
 use Rattle.script_loading.specs.Loads.{file_names}
 use Rattle.run_course.specs.Limits.{usual_tries}
 use Rattle.run_course.proofs.AskLemmas.{inputs_with, meant_until}
@@ -12,17 +11,15 @@ returns-in_err-inputs-clause-asked g c =
     let p = err_from_is_err_and end.result end.ensures.1 in
     rw (p.1, p.2)
     (inputs_with usual_tries (file_names (inputs_of c.args.program.now.script))
-    (seen g.R.Source.asked g.R.Source.faults c.args.source.now)
-    (seen g.R.Source.asked g.R.Source.faults c.rows_of_inputs.new.source) usual_tries
-    (seen g.R.Source.files g.R.Source.faults c.args.source.now)
-    (seen g.R.Source.files g.R.Source.faults c.rows_of_inputs.new.source)
+    (g.R.Source.seen c.args.source.now) (g.R.Source.seen c.rows_of_inputs.new.source) usual_tries
+    (g.R.Source.seen c.args.source.now) (g.R.Source.seen c.rows_of_inputs.new.source)
     (inputs_of c.args.program.now.script) c.in_err-inputs.field-0.0 c.in_err-inputs.ensures.err
     c.in_err-inputs.ensures.asked_front)
 
 pub returns-clause-asked : goal.returns-clause-asked
 returns-clause-asked g c =
     meant_until usual_tries (file_names (inputs_of c.args.program.now.script))
-    (seen g.R.Source.asked g.R.Source.faults c.args.source.now)
-    (seen g.R.Source.asked g.R.Source.faults c.rows_of_inputs.new.source) c.args.program.now.script
+    (g.R.Source.seen c.args.source.now)
+    (g.R.Source.seen c.rows_of_inputs.new.source) c.args.program.now.script
     c.in_ok-inputs.inputs c.written_meaning.result c.written_meaning.ensures.stop
     c.in_ok-inputs.ensures.asked

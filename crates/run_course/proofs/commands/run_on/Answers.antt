@@ -1,13 +1,11 @@
 use Rattle.std.proofs.Common.{ℕ, inl, inr, List, Option, ◌++◌, map, refl, sym, ◌∙◌, subst}
 use Rattle.std.proofs.lemmas.Result.{IfErr-weaker, err_from_is_err_and}
 use Rattle.script_loading.proofs.of_build_law.SourceLists.{as_many_inputs}
-use Rattle.crew.specs.Hosts.{account}
 use Rattle.crew.proofs.Accounts.{all_grew_not}
 use Rattle.script_loading.specs.of_direct_meaning.Inputs.{inputs_of}
 use Rattle.outside.proofs.AskLemmas.{asks_both}
 use Rattle.outside.specs.Asked.{Asks, AsksFront}
 use Rattle.outside.specs.Saves.{output_file}
-use Rattle.outside.specs.Seen.{seen}
 use Rattle.outside.specs.declared.file.File.{File}
 use Rattle.script_loading.specs.Causes.{IsInputsCause}
 use Rattle.script_loading.specs.Loads.{file_names}
@@ -25,16 +23,15 @@ use Rattle.run_course.proofs.commands.run_on.Goals as goal
 
 pub returns-in_err-inputs-clause-grew : goal.returns-in_err-inputs-clause-grew
 returns-in_err-inputs-clause-grew g c =
-    all_grew_not (map (account g.H.Host.notes g.H.Host.losses) c.args.hosts.now)
+    all_grew_not (map g.H.Host.account c.args.hosts.now)
 
 pub returns-in_err-inputs-clause-stop : goal.returns-in_err-inputs-clause-stop
 returns-in_err-inputs-clause-stop g c =
     let end = c.from_residual in
     let p = err_from_is_err_and end.result end.ensures.1 in
     rw (p.1, p.2)
-    (inr (inl (subst (λ (n : ℕ). IsInputsCause n
-    (seen g.R.Source.files g.R.Source.faults c.args.source.now)
-    (seen g.R.Source.files g.R.Source.faults c.rows_of_inputs.new.source)
+    (inr (inl (subst (λ (n : ℕ). IsInputsCause n (g.R.Source.seen c.args.source.now)
+    (g.R.Source.seen c.rows_of_inputs.new.source)
     (inputs_of c.args.program.now.script) c.in_err-inputs.field-0.0) c.tries-tries.ensures.value
     c.in_err-inputs.ensures.err)))
 
@@ -45,17 +42,14 @@ returns-in_err-inputs-clause-asked g c =
     let names : List (List ℕ) = file_names (inputs_of c.args.program.now.script) in
     rw (p.1, p.2)
     (inputs_with c.args.settings.now.tries (names ++ plan_file c.args.from.now)
-    (seen g.R.Source.asked g.R.Source.faults c.args.source.now)
-    (seen g.R.Source.asked g.R.Source.faults c.rows_of_inputs.new.source) c.tries-tries.result
-    (seen g.R.Source.files g.R.Source.faults c.args.source.now)
-    (seen g.R.Source.files g.R.Source.faults c.rows_of_inputs.new.source)
+    (g.R.Source.seen c.args.source.now)
+    (g.R.Source.seen c.rows_of_inputs.new.source) c.tries-tries.result
+    (g.R.Source.seen c.args.source.now) (g.R.Source.seen c.rows_of_inputs.new.source)
     (inputs_of c.args.program.now.script) c.in_err-inputs.field-0.0 c.in_err-inputs.ensures.err
     (front_more c.args.settings.now.tries names (plan_file c.args.from.now)
-    (seen g.R.Source.asked g.R.Source.faults c.args.source.now)
-    (seen g.R.Source.asked g.R.Source.faults c.rows_of_inputs.new.source)
-    (subst (λ (n : ℕ). AsksFront n names
-    (seen g.R.Source.asked g.R.Source.faults c.args.source.now)
-    (seen g.R.Source.asked g.R.Source.faults c.rows_of_inputs.new.source))
+    (g.R.Source.seen c.args.source.now) (g.R.Source.seen c.rows_of_inputs.new.source)
+    (subst (λ (n : ℕ). AsksFront n names (g.R.Source.seen c.args.source.now)
+    (g.R.Source.seen c.rows_of_inputs.new.source))
     c.tries-tries.ensures.value c.in_err-inputs.ensures.asked_front)))
 
 pub returns-in_err-inputs-clause-asked_hosts : goal.returns-in_err-inputs-clause-asked_hosts
@@ -65,24 +59,21 @@ returns-in_err-inputs-clause-asked_hosts g c = inl refl
 
 pub returns-in_err-shown-clause-grew : goal.returns-in_err-shown-clause-grew
 returns-in_err-shown-clause-grew g c =
-    all_grew_not (map (account g.H.Host.notes g.H.Host.losses) c.args.hosts.now)
+    all_grew_not (map g.H.Host.account c.args.hosts.now)
 
 pub returns-in_err-shown-clause-stop : goal.returns-in_err-shown-clause-stop
 returns-in_err-shown-clause-stop g c =
     let end = c.from_residual-in_err-shown in
     let p = err_from_is_err_and end.result end.ensures.1 in
     rw (p.1, p.2)
-    (no_plan_stop c.args.settings.now c.args.from.now
-    (seen g.R.Source.files g.R.Source.faults c.args.source.now)
-    (seen g.R.Source.files g.R.Source.faults c.rows_of_inputs.new.source)
-    (seen g.R.Source.files g.R.Source.faults c.plan_for.new.source)
-    (map (account g.H.Host.notes g.H.Host.losses) c.args.hosts.now)
-    (map (account g.H.Host.notes g.H.Host.losses) c.args.hosts.now) c.args.program.now.script
+    (no_plan_stop c.args.settings.now c.args.from.now (g.R.Source.seen c.args.source.now)
+    (g.R.Source.seen c.rows_of_inputs.new.source) (g.R.Source.seen c.plan_for.new.source)
+    (map g.H.Host.account c.args.hosts.now)
+    (map g.H.Host.account c.args.hosts.now) c.args.program.now.script
     c.in_ok-inputs.inputs c.in_err-shown.field-0.0 c.in_ok-inputs.ensures.files
     c.in_ok-inputs.ensures.later c.in_ok-inputs.ensures.ok
-    (subst (λ (n : ℕ). IsPlanStop n
-    (seen g.R.Source.files g.R.Source.faults c.rows_of_inputs.new.source)
-    (seen g.R.Source.files g.R.Source.faults c.plan_for.new.source) c.args.program.now.script
+    (subst (λ (n : ℕ). IsPlanStop n (g.R.Source.seen c.rows_of_inputs.new.source)
+    (g.R.Source.seen c.plan_for.new.source) c.args.program.now.script
     c.args.from.now c.in_err-shown.field-0.0) c.tries-tries.ensures.value
     c.in_err-shown.ensures.stop))
 
@@ -93,18 +84,16 @@ returns-in_err-shown-clause-asked g c =
     let names : List (List ℕ) = file_names (inputs_of c.args.program.now.script) in
     rw (p.1, p.2)
     (plan_with c.args.settings.now.tries (names ++ plan_file c.args.from.now)
-    (seen g.R.Source.asked g.R.Source.faults c.args.source.now)
-    (seen g.R.Source.asked g.R.Source.faults c.plan_for.new.source) c.tries-tries.result
-    (seen g.R.Source.files g.R.Source.faults c.rows_of_inputs.new.source)
-    (seen g.R.Source.files g.R.Source.faults c.plan_for.new.source) c.args.program.now.script
+    (g.R.Source.seen c.args.source.now) (g.R.Source.seen c.plan_for.new.source) c.tries-tries.result
+    (g.R.Source.seen c.rows_of_inputs.new.source)
+    (g.R.Source.seen c.plan_for.new.source) c.args.program.now.script
     c.args.from.now c.in_err-shown.field-0.0 c.in_err-shown.ensures.stop
     (subst (λ (n : ℕ). Asks n (names ++ plan_file c.args.from.now)
-    (seen g.R.Source.asked g.R.Source.faults c.args.source.now)
-    (seen g.R.Source.asked g.R.Source.faults c.plan_for.new.source)) c.tries-tries.ensures.value
+    (g.R.Source.seen c.args.source.now)
+    (g.R.Source.seen c.plan_for.new.source)) c.tries-tries.ensures.value
     (asks_both c.tries-tries.result names (plan_file c.args.from.now)
-    (seen g.R.Source.asked g.R.Source.faults c.args.source.now)
-    (seen g.R.Source.asked g.R.Source.faults c.rows_of_inputs.new.source)
-    (seen g.R.Source.asked g.R.Source.faults c.plan_for.new.source)
+    (g.R.Source.seen c.args.source.now) (g.R.Source.seen c.rows_of_inputs.new.source)
+    (g.R.Source.seen c.plan_for.new.source)
     c.in_ok-inputs.ensures.asked c.in_err-shown.ensures.asked)))
 
 pub returns-in_err-shown-clause-asked_hosts : goal.returns-in_err-shown-clause-asked_hosts
@@ -115,11 +104,9 @@ returns-in_err-shown-clause-asked_hosts g c = inl refl
 pub returns-clause-stop : goal.returns-clause-stop
 returns-clause-stop g c =
     IfErr-weaker c.written_run.result _ _ (λ why stops.
-    run_stop c.args.settings.now c.args.from.now
-    (seen g.R.Source.files g.R.Source.faults c.args.source.now)
-    (seen g.R.Source.files g.R.Source.faults c.plan_for.new.source)
-    (map (account g.H.Host.notes g.H.Host.losses) c.args.hosts.now)
-    (map (account g.H.Host.notes g.H.Host.losses) c.written_run.new.hosts)
+    run_stop c.args.settings.now c.args.from.now (g.R.Source.seen c.args.source.now)
+    (g.R.Source.seen c.plan_for.new.source) (map g.H.Host.account c.args.hosts.now)
+    (map g.H.Host.account c.written_run.new.hosts)
     c.args.program.now.script c.in_ok-inputs.inputs c.in_ok-shown.shown.plan why
     c.in_ok-inputs.ensures.ok
     (subst (λ (t : Option (List File)). IsPlanFor t c.args.program.now.script c.args.from.now
@@ -130,9 +117,8 @@ pub returns-clause-written : goal.returns-clause-written
 returns-clause-written g c =
     both_ok c.written_run.result _ _ _ c.written_run.ensures.written c.written_run.ensures.ran
     (λ it gives ran.
-    writes_run c.args.settings.now c.args.from.now (g.R.Source.files c.args.source.now)
-    (map (account g.H.Host.notes g.H.Host.losses) c.args.hosts.now)
-    (map (account g.H.Host.notes g.H.Host.losses) c.written_run.new.hosts)
+    writes_run c.args.settings.now c.args.from.now (g.R.Source.seen c.args.source.now).files
+    (map g.H.Host.account c.args.hosts.now) (map g.H.Host.account c.written_run.new.hosts)
     c.args.program.now.script c.in_ok-inputs.inputs c.in_ok-shown.shown.plan
     c.in_ok-shown.shown.text.items it.screen.items (map output_file it.outputs.items)
     c.in_ok-inputs.ensures.ok
@@ -144,27 +130,22 @@ pub returns-clause-asked : goal.returns-clause-asked
 returns-clause-asked g c =
     let names : List (List ℕ) = file_names (inputs_of c.args.program.now.script) in
     run_until c.args.settings.now.tries (names ++ plan_file c.args.from.now)
-    (seen g.R.Source.asked g.R.Source.faults c.args.source.now)
-    (seen g.R.Source.asked g.R.Source.faults c.plan_for.new.source) c.args.settings.now
+    (g.R.Source.seen c.args.source.now) (g.R.Source.seen c.plan_for.new.source) c.args.settings.now
     c.args.program.now.script c.in_ok-inputs.inputs c.in_ok-shown.shown.plan
-    (lent c.args.settings.now (map (account g.H.Host.notes g.H.Host.losses) c.args.hosts.now))
-    (lent c.args.settings.now
-    (map (account g.H.Host.notes g.H.Host.losses) c.written_run.new.hosts)) c.written_run.result
-    c.written_run.ensures.stop
+    (lent c.args.settings.now (map g.H.Host.account c.args.hosts.now)) (lent c.args.settings.now
+    (map g.H.Host.account c.written_run.new.hosts)) c.written_run.result c.written_run.ensures.stop
     (subst (λ (n : ℕ). Asks n (names ++ plan_file c.args.from.now)
-    (seen g.R.Source.asked g.R.Source.faults c.args.source.now)
-    (seen g.R.Source.asked g.R.Source.faults c.plan_for.new.source)) c.tries-tries.ensures.value
+    (g.R.Source.seen c.args.source.now)
+    (g.R.Source.seen c.plan_for.new.source)) c.tries-tries.ensures.value
     (asks_both c.tries-tries.result names (plan_file c.args.from.now)
-    (seen g.R.Source.asked g.R.Source.faults c.args.source.now)
-    (seen g.R.Source.asked g.R.Source.faults c.rows_of_inputs.new.source)
-    (seen g.R.Source.asked g.R.Source.faults c.plan_for.new.source)
+    (g.R.Source.seen c.args.source.now) (g.R.Source.seen c.rows_of_inputs.new.source)
+    (g.R.Source.seen c.plan_for.new.source)
     c.in_ok-inputs.ensures.asked c.in_ok-shown.ensures.asked))
 
 pub returns-clause-asked_hosts : goal.returns-clause-asked_hosts
 returns-clause-asked_hosts g c =
-    run_asks c.args.settings.now c.args.from.now (g.R.Source.files c.args.source.now)
-    (map (account g.H.Host.notes g.H.Host.losses) c.args.hosts.now)
-    (map (account g.H.Host.notes g.H.Host.losses) c.written_run.new.hosts)
+    run_asks c.args.settings.now c.args.from.now (g.R.Source.seen c.args.source.now).files
+    (map g.H.Host.account c.args.hosts.now) (map g.H.Host.account c.written_run.new.hosts)
     c.args.program.now.script c.in_ok-inputs.inputs c.in_ok-shown.shown.plan c.written_run.result
     c.in_ok-inputs.ensures.ok
     (subst (λ (t : Option (List File)). IsPlanFor t c.args.program.now.script c.args.from.now
@@ -173,5 +154,5 @@ returns-clause-asked_hosts g c =
     ∙ sym (as_many_inputs c.args.program.now.script c.in_ok-inputs.inputs
     c.in_ok-inputs.ensures.typed))
     c.written_run.ensures.stop c.written_run.ensures.asked
-    (others_as (account g.H.Host.notes g.H.Host.losses) c.args.settings.now.workers
+    (others_as g.H.Host.account c.args.settings.now.workers
     c.args.hosts.now c.written_run.new.hosts c.written_run.ensures.hosts)

@@ -1,10 +1,8 @@
 use Rattle.std.proofs.Common.{ℕ, inl, refl, List, [], ◌∷◌, Option, map, string_bytes, subst, sym, ap, ◌∙◌}
 use Rattle.std.specs.Option.{option_map}
 use Rattle.command_words.specs.Held.{asked_in}
-use Rattle.crew.specs.Hosts.{account}
 use Rattle.std.proofs.lemmas.Result.{IfErr-weaker, IfOk-weaker, err_from_is_err_and}
 use Rattle.outside.specs.Saves.{output_file}
-use Rattle.outside.specs.Seen.{seen}
 use Rattle.outside.specs.declared.file.File.{File}
 use Rattle.run_course.specs.Written.{Writes}
 use Rattle.script_loading.specs.Causes.{IsScriptCause}
@@ -22,45 +20,35 @@ returns-in_err-program-clause-err g c =
     let p = err_from_is_err_and c.from_residual-in_err-program.result
     c.from_residual-in_err-program.ensures.1 in
     rw (p.1, p.2)
-    (script_cause (map string_bytes c.args.words.now)
-    (seen g.R.Source.files g.R.Source.faults c.args.source.now)
-    (seen g.R.Source.files g.R.Source.faults c.script_of.new.source)
-    (map (account g.H.Host.notes g.H.Host.losses) c.args.hosts.now)
-    (map (account g.H.Host.notes g.H.Host.losses) c.args.hosts.now)
-    c.in-Some.asked.command c.in-Some.asked.script.now _
+    (script_cause (map string_bytes c.args.words.now) (g.R.Source.seen c.args.source.now)
+    (g.R.Source.seen c.script_of.new.source) (map g.H.Host.account c.args.hosts.now)
+    (map g.H.Host.account c.args.hosts.now) c.in-Some.asked.command c.in-Some.asked.script.now _
     (sym c.in_ok-asked.ensures ∙ ap (option_map asked_in) c.in-Some.is)
-    (subst (λ (n : ℕ). IsScriptCause n
-    (seen g.R.Source.files g.R.Source.faults c.args.source.now)
-    (seen g.R.Source.files g.R.Source.faults c.script_of.new.source)
+    (subst (λ (n : ℕ). IsScriptCause n (g.R.Source.seen c.args.source.now)
+    (g.R.Source.seen c.script_of.new.source)
     c.in-Some.asked.script.now c.in_err-program.field-0.0) c.tries_of.ensures.value
     c.in_err-program.ensures.err))
 
 pub returns-clause-ok : goal.returns-clause-ok
 returns-clause-ok g c =
     IfOk-weaker c.carried_out.result _ _ (λ it writes.
-    written (map string_bytes c.args.words.now) (g.R.Source.files c.args.source.now)
-    (map (account g.H.Host.notes g.H.Host.losses) c.args.hosts.now)
-    (map (account g.H.Host.notes g.H.Host.losses) c.carried_out.new.hosts)
+    written (map string_bytes c.args.words.now) (g.R.Source.seen c.args.source.now).files
+    (map g.H.Host.account c.args.hosts.now) (map g.H.Host.account c.carried_out.new.hosts)
     c.in-Some.asked.command c.in-Some.asked.script.now c.in_ok-program.program.script
     (map output_file it.outputs.items) it.screen.items
     (sym c.in_ok-asked.ensures ∙ ap (option_map asked_in) c.in-Some.is, c.in_ok-program.ensures.ok)
     (subst (λ (told : Option (List File)).
-    Writes c.in-Some.asked.command told
-    (map (account g.H.Host.notes g.H.Host.losses) c.args.hosts.now)
-    (map (account g.H.Host.notes g.H.Host.losses) c.carried_out.new.hosts)
-    c.in_ok-program.program.script
+    Writes c.in-Some.asked.command told (map g.H.Host.account c.args.hosts.now)
+    (map g.H.Host.account c.carried_out.new.hosts) c.in_ok-program.program.script
     (map output_file it.outputs.items) it.screen.items) c.in_ok-program.ensures.files writes))
     c.carried_out.ensures.written
 
 pub returns-clause-err : goal.returns-clause-err
 returns-clause-err g c =
     IfErr-weaker c.carried_out.result _ _ (λ why stops.
-    command_stop (map string_bytes c.args.words.now)
-    (seen g.R.Source.files g.R.Source.faults c.args.source.now)
-    (seen g.R.Source.files g.R.Source.faults c.script_of.new.source)
-    (seen g.R.Source.files g.R.Source.faults c.carried_out.new.source)
-    (map (account g.H.Host.notes g.H.Host.losses) c.args.hosts.now)
-    (map (account g.H.Host.notes g.H.Host.losses) c.carried_out.new.hosts)
+    command_stop (map string_bytes c.args.words.now) (g.R.Source.seen c.args.source.now)
+    (g.R.Source.seen c.script_of.new.source) (g.R.Source.seen c.carried_out.new.source)
+    (map g.H.Host.account c.args.hosts.now) (map g.H.Host.account c.carried_out.new.hosts)
     c.in-Some.asked.command
     c.in-Some.asked.script.now c.in_ok-program.program.script
     (sym c.in_ok-asked.ensures ∙ ap (option_map asked_in) c.in-Some.is, c.in_ok-program.ensures.ok)
@@ -74,58 +62,51 @@ carried_out-requires-clause-graph g c = λ κs within.
 
 pub returns-in_err-asked-clause-grew : goal.returns-in_err-asked-clause-grew
 returns-in_err-asked-clause-grew g c =
-    all_grew_not (map (account g.H.Host.notes g.H.Host.losses) c.args.hosts.now)
+    all_grew_not (map g.H.Host.account c.args.hosts.now)
 
 pub returns-in_default-clause-grew : goal.returns-in_default-clause-grew
 returns-in_default-clause-grew g c =
-    all_grew_not (map (account g.H.Host.notes g.H.Host.losses) c.args.hosts.now)
+    all_grew_not (map g.H.Host.account c.args.hosts.now)
 
 pub returns-in_err-program-clause-grew : goal.returns-in_err-program-clause-grew
 returns-in_err-program-clause-grew g c =
-    all_grew_not (map (account g.H.Host.notes g.H.Host.losses) c.args.hosts.now)
+    all_grew_not (map g.H.Host.account c.args.hosts.now)
 
 pub returns-in_err-asked-clause-asked : goal.returns-in_err-asked-clause-asked
 returns-in_err-asked-clause-asked g c =
     let p = err_from_is_err_and c.from_residual.result c.from_residual.ensures.1 in
-    rw (p.1, p.2) (inl (asks_none 0 (seen g.R.Source.asked g.R.Source.faults c.args.source.now)))
+    rw (p.1, p.2) (inl (asks_none 0 (g.R.Source.seen c.args.source.now)))
 
 pub returns-in_default-clause-asked : goal.returns-in_default-clause-asked
 returns-in_default-clause-asked g c =
-    asks_none 0 (seen g.R.Source.asked g.R.Source.faults c.args.source.now)
+    asks_none 0 (g.R.Source.seen c.args.source.now)
 
 pub returns-in_err-program-clause-asked : goal.returns-in_err-program-clause-asked
 returns-in_err-program-clause-asked g c =
     let p = err_from_is_err_and c.from_residual-in_err-program.result
     c.from_residual-in_err-program.ensures.1 in
     rw (p.1, p.2)
-    (script_for (map string_bytes c.args.words.now) (g.R.Source.files c.args.source.now)
-    c.in-Some.asked.command c.in-Some.asked.script.now
-    (seen g.R.Source.files g.R.Source.faults c.args.source.now)
-    (seen g.R.Source.files g.R.Source.faults c.script_of.new.source)
-    (seen g.R.Source.asked g.R.Source.faults c.args.source.now)
-    (seen g.R.Source.asked g.R.Source.faults c.script_of.new.source) _
+    (script_for (map string_bytes c.args.words.now) c.in-Some.asked.command
+    c.in-Some.asked.script.now (g.R.Source.seen c.args.source.now)
+    (g.R.Source.seen c.script_of.new.source) _
     (sym c.in_ok-asked.ensures ∙ ap (option_map asked_in) c.in-Some.is)
-    (subst (λ (n : ℕ). IsScriptCause n
-    (seen g.R.Source.files g.R.Source.faults c.args.source.now)
-    (seen g.R.Source.files g.R.Source.faults c.script_of.new.source)
+    (subst (λ (n : ℕ). IsScriptCause n (g.R.Source.seen c.args.source.now)
+    (g.R.Source.seen c.script_of.new.source)
     c.in-Some.asked.script.now c.in_err-program.field-0.0) c.tries_of.ensures.value
     c.in_err-program.ensures.err)
-    (subst (λ (n : ℕ). Asks n (c.in-Some.asked.script.now ∷ [])
-    (seen g.R.Source.asked g.R.Source.faults c.args.source.now)
-    (seen g.R.Source.asked g.R.Source.faults c.script_of.new.source))
+    (subst (λ (n : ℕ). Asks n (c.in-Some.asked.script.now ∷ []) (g.R.Source.seen c.args.source.now)
+    (g.R.Source.seen c.script_of.new.source))
     c.tries_of.ensures.value c.in_err-program.ensures.asked))
 
 pub returns-clause-asked : goal.returns-clause-asked
 returns-clause-asked g c =
-    command_for (map string_bytes c.args.words.now) (g.R.Source.files c.args.source.now)
-    c.in-Some.asked.command c.in-Some.asked.script.now c.in_ok-program.program.script
-    (seen g.R.Source.asked g.R.Source.faults c.args.source.now)
-    (seen g.R.Source.asked g.R.Source.faults c.script_of.new.source)
-    (seen g.R.Source.asked g.R.Source.faults c.carried_out.new.source)
+    command_for (map string_bytes c.args.words.now) c.in-Some.asked.command
+    c.in-Some.asked.script.now c.in_ok-program.program.script (g.R.Source.seen c.args.source.now)
+    (g.R.Source.seen c.script_of.new.source)
+    (g.R.Source.seen c.carried_out.new.source)
     (sym c.in_ok-asked.ensures ∙ ap (option_map asked_in) c.in-Some.is) c.in_ok-program.ensures.ok
-    (subst (λ (n : ℕ). Asks n (c.in-Some.asked.script.now ∷ [])
-    (seen g.R.Source.asked g.R.Source.faults c.args.source.now)
-    (seen g.R.Source.asked g.R.Source.faults c.script_of.new.source))
+    (subst (λ (n : ℕ). Asks n (c.in-Some.asked.script.now ∷ []) (g.R.Source.seen c.args.source.now)
+    (g.R.Source.seen c.script_of.new.source))
     c.tries_of.ensures.value c.in_ok-program.ensures.asked)
     c.carried_out.result c.carried_out.ensures.asked
 
@@ -140,10 +121,10 @@ returns-in_err-program-clause-asked_hosts g c = inl refl
 
 pub returns-clause-asked_hosts : goal.returns-clause-asked_hosts
 returns-clause-asked_hosts g c =
-    call_asks (map string_bytes c.args.words.now) (g.R.Source.files c.args.source.now)
-    (g.R.Source.files c.script_of.new.source) c.in-Some.asked.command c.in-Some.asked.script.now
-    c.in_ok-program.program.script
-    (map (account g.H.Host.notes g.H.Host.losses) c.args.hosts.now)
-    (map (account g.H.Host.notes g.H.Host.losses) c.carried_out.new.hosts)
+    call_asks (map string_bytes c.args.words.now) (g.R.Source.seen c.args.source.now).files
+    (g.R.Source.seen c.script_of.new.source).files c.in-Some.asked.command
+    c.in-Some.asked.script.now
+    c.in_ok-program.program.script (map g.H.Host.account c.args.hosts.now)
+    (map g.H.Host.account c.carried_out.new.hosts)
     (sym c.in_ok-asked.ensures ∙ ap (option_map asked_in) c.in-Some.is, c.in_ok-program.ensures.ok)
     c.in_ok-program.ensures.files c.carried_out.result c.carried_out.ensures.asked_hosts

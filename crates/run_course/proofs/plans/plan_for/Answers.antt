@@ -1,7 +1,6 @@
 use Rattle.std.proofs.Common.{refl}
 use Rattle.std.proofs.lemmas.Result.{err_from_is_err_and}
 use Rattle.outside.proofs.AskLemmas.{asks_none}
-use Rattle.outside.specs.Seen.{seen}
 use Rattle.run_course.proofs.plans.plan_for.Goals as goal
 
 pub returns-in-Some-clause-plan : goal.returns-in-Some-clause-plan
@@ -24,13 +23,13 @@ pub returns-in_ok-plan_shown-in-None-clause-asked :
     goal.returns-in_ok-plan_shown-in-None-clause-asked
 returns-in_ok-plan_shown-in-None-clause-asked g c =
     rw c.in-None.is
-    (asks_none c.args.tries (seen g.R.Source.asked g.R.Source.faults c.args.source.now))
+    (asks_none c.args.tries (g.R.Source.seen c.args.source.now))
 
 pub returns-in_err-plan_shown-in-None-clause-asked :
     goal.returns-in_err-plan_shown-in-None-clause-asked
 returns-in_err-plan_shown-in-None-clause-asked g c =
     rw c.in-None.is
-    (asks_none c.args.tries (seen g.R.Source.asked g.R.Source.faults c.args.source.now))
+    (asks_none c.args.tries (g.R.Source.seen c.args.source.now))
 
 pub returns-in_err-plan_shown-in-None-clause-stop :
     goal.returns-in_err-plan_shown-in-None-clause-stop

@@ -1,7 +1,6 @@
 use Rattle.std.proofs.Common.{ℕ, List, subst}
 use Rattle.std.proofs.lemmas.Result.{IfErr-weaker, IfOk-weaker, err_from_is_err_and}
 use Rattle.outer_plans.specs.Plans.{IsTaken}
-use Rattle.outside.specs.Seen.{seen}
 use Rattle.run_course.specs.inner.Course.{IsTakingStop}
 use Rattle.run_course.proofs.PlanLemmas.{file_load, file_taken}
 use Rattle.run_course.proofs.plans.plan_in_file.Goals as goal
@@ -10,8 +9,8 @@ pub returns-in_err-bytes-clause-stop : goal.returns-in_err-bytes-clause-stop
 returns-in_err-bytes-clause-stop g c =
     let p = err_from_is_err_and c.from_residual.result c.from_residual.ensures.1 in
     rw (p.1, p.2)
-    (file_load c.args.tries (seen g.R.Source.files g.R.Source.faults c.args.source.now)
-    (seen g.R.Source.files g.R.Source.faults c.plan_bytes.new.source) c.args.program.now.script
+    (file_load c.args.tries (g.R.Source.seen c.args.source.now)
+    (g.R.Source.seen c.plan_bytes.new.source) c.args.program.now.script
     c.args.name.now c.in_err-bytes.field-0.0 c.in_err-bytes.ensures.err)
 
 pub returns-clause-plan : goal.returns-clause-plan
@@ -26,8 +25,8 @@ returns-clause-plan g c =
 pub returns-clause-stop : goal.returns-clause-stop
 returns-clause-stop g c =
     IfErr-weaker c.taken_shown.result _ _ (λ status stops.
-    file_taken c.args.tries (seen g.R.Source.files g.R.Source.faults c.args.source.now)
-    (seen g.R.Source.files g.R.Source.faults c.plan_bytes.new.source) c.args.program.now.script
+    file_taken c.args.tries (g.R.Source.seen c.args.source.now)
+    (g.R.Source.seen c.plan_bytes.new.source) c.args.program.now.script
     c.args.name.now c.in_ok-bytes.bytes.items status c.in_ok-bytes.ensures.ok
     (subst (λ (l : List ℕ). IsTakingStop c.args.program.now.script l status)
     c.as_slice.ensures.value stops)) c.taken_shown.ensures.stop

@@ -1,7 +1,8 @@
 use Rattle.std.proofs.Common.{◌≡◌, ◌++◌, ◌∙◌, List, arith, ap, length, map, subst, sym}
 use Rattle.std.specs.Prelude.{IfErr}
 use Rattle.std.proofs.lemmas.List.{map-append}
-use Rattle.crew.specs.Hosts.{Account, Grew, account}
+use Rattle.outside.specs.Accounts.{Account}
+use Rattle.crew.specs.Hosts.{Grew}
 use Rattle.crew.proofs.Accounts.{all_grew-append, all_grew_not}
 use Rattle.script_run.specs.Runs.{IsRunFault}
 use Rattle.run_course.specs.Lent.{lent}
@@ -11,7 +12,7 @@ use Rattle.run_course.proofs.running.ran_on.Goals as goal
 
 pub returns-clause-grew : goal.returns-clause-grew
 returns-clause-grew g c =
-    let f : g.row.H.Denot → Account = account g.H.Host.notes g.H.Host.losses in
+    let f : g.row.H.Denot → Account = g.H.Host.account in
     let cut = c.split_at_mut-lent in
     let first = c.run_script.new.hosts in
     rw (
@@ -22,7 +23,7 @@ returns-clause-grew g c =
 
 pub returns-clause-fault : goal.returns-clause-fault
 returns-clause-fault g c =
-    let f : g.row.H.Denot → Account = account g.H.Host.notes g.H.Host.losses in
+    let f : g.row.H.Denot → Account = g.H.Host.account in
     let s = c.args.settings.now in
     let script = c.args.program.now.script in
     let r = c.run_script.result in

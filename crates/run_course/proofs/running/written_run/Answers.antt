@@ -1,5 +1,5 @@
 use Rattle.std.proofs.Common.{List, map, subst}
-use Rattle.crew.specs.Hosts.{Account, account}
+use Rattle.outside.specs.Accounts.{Account}
 use Rattle.outside.specs.Saves.{output_file}
 use Rattle.script_run.specs.Runs.{IsRunFault}
 use Rattle.plan_phases.specs.declared.fault.RunFault.{RunFault}
@@ -15,8 +15,8 @@ returns-in-Ok-clause-written g c =
     let s = c.args.settings.now in
     let out = c.in_ok-write_out-in-Ok.field-0 in
     given s c.args.program.now.script c.args.inputs c.args.shown.plan
-    (lent s (map (account g.H.Host.notes g.H.Host.losses) c.args.hosts.now))
-    (lent s (map (account g.H.Host.notes g.H.Host.losses) c.ran_on.new.hosts)) c.in-Ok.ran
+    (lent s (map g.H.Host.account c.args.hosts.now))
+    (lent s (map g.H.Host.account c.ran_on.new.hosts)) c.in-Ok.ran
     c.args.shown.text.items out.screen.items (map output_file out.outputs.items)
     c.in-Ok.ensures.ran c.in_ok-write_out-in-Ok.ensures.files c.in_ok-write_out-in-Ok.ensures.text
 
@@ -25,9 +25,9 @@ trapped-requires g c =
     let s = c.args.settings.now in
     let script = c.args.program.now.script in
     let olds : List Account
-    = lent s (map (account g.H.Host.notes g.H.Host.losses) c.args.hosts.now) in
+    = lent s (map g.H.Host.account c.args.hosts.now) in
     let news : List Account
-    = lent s (map (account g.H.Host.notes g.H.Host.losses) c.ran_on.new.hosts) in
+    = lent s (map g.H.Host.account c.ran_on.new.hosts) in
     record {
       within = within s script c.args.inputs c.args.shown.plan olds news c.in-Err-Trap.trap
           (subst (λ (f : RunFault). IsRunFault s script c.args.inputs c.args.shown.plan olds news f)

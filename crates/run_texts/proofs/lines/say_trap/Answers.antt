@@ -2,7 +2,6 @@ use Rattle.std.proofs.Common.{◌≡◌, ℕ, List, [], ◌++◌, codes, append_
 use Rattle.outside.proofs.SaidLemmas.{says_both, says_cut}
 use Rattle.printing.specs.Printed.{printed}
 use Rattle.outside.specs.Says.{Says}
-use Rattle.outside.specs.Seen.{seen}
 use Rattle.run_texts.specs.Lines.{trap_kind_name}
 use Rattle.run_texts.proofs.lines.say_trap.Goals as goal
 
@@ -28,8 +27,8 @@ returns-in_err-say_all g c =
     let kind = trap_kind_name c.args.kind in
     says_both (codes "trap at ") _ _ _ _ _ r c.in_ok-say.ensures
     (says_both c.args.name.now _ _ _ _ _ r c.in_ok-say-2.ensures
-    (subst (λ (text : List ℕ). Says text (seen g.P.Screen.text g.P.Screen.faults
-    c.say-2.new.screen) (seen g.P.Screen.text g.P.Screen.faults c.say_all.new.screen) r) (between
+    (subst (λ (text : List ℕ). Says text (g.P.Screen.seen
+    c.say-2.new.screen) (g.P.Screen.seen c.say_all.new.screen) r) (between
     kind (printed c.args.element.now ++ codes "\n"))
     (says_cut (codes ": " ++ (kind ++ (codes " on " ++ []))) (printed c.args.element.now ++ codes
     "\n") _ _ _ r c.from_residual-in_err-say_all.ensures.0 (rw c.trap_kind.ensures at
@@ -41,8 +40,8 @@ returns-in_err-say_value g c =
     let kind = trap_kind_name c.args.kind in
     says_both (codes "trap at ") _ _ _ _ _ r c.in_ok-say.ensures
     (says_both c.args.name.now _ _ _ _ _ r c.in_ok-say-2.ensures
-    (subst (λ (text : List ℕ). Says text (seen g.P.Screen.text g.P.Screen.faults
-    c.say-2.new.screen) (seen g.P.Screen.text g.P.Screen.faults c.say_value.new.screen) r) (between
+    (subst (λ (text : List ℕ). Says text (g.P.Screen.seen
+    c.say-2.new.screen) (g.P.Screen.seen c.say_value.new.screen) r) (between
     kind (printed c.args.element.now ++ codes "\n"))
     (says_both (codes ": " ++ (kind ++ (codes " on " ++ []))) _ _ _ _ _ r (rw c.trap_kind.ensures
     at c.in_ok-say_all.ensures)
@@ -55,8 +54,8 @@ returns g c =
     let kind = trap_kind_name c.args.kind in
     says_both (codes "trap at ") _ _ _ _ _ r c.in_ok-say.ensures
     (says_both c.args.name.now _ _ _ _ _ r c.in_ok-say-2.ensures
-    (subst (λ (text : List ℕ). Says text (seen g.P.Screen.text g.P.Screen.faults
-    c.say-2.new.screen) (seen g.P.Screen.text g.P.Screen.faults c.say-3.new.screen) r) (between
+    (subst (λ (text : List ℕ). Says text (g.P.Screen.seen
+    c.say-2.new.screen) (g.P.Screen.seen c.say-3.new.screen) r) (between
     kind (printed c.args.element.now ++ codes "\n"))
     (says_both (codes ": " ++ (kind ++ (codes " on " ++ []))) _ _ _ _ _ r (rw c.trap_kind.ensures
     at c.in_ok-say_all.ensures)

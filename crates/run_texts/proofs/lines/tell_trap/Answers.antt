@@ -1,11 +1,9 @@
 use Rattle.outside.proofs.SaidLemmas.{has_line}
-use Rattle.outside.specs.Seen.{seen}
 use Rattle.run_texts.specs.Lines.{trap_line}
 use Rattle.run_texts.proofs.lines.tell_trap.Goals as goal
 
 pub returns-clause-line : goal.returns-clause-line
 returns-clause-line g c =
-    has_line (trap_line c.args.name.now c.args.kind c.args.element.now) (seen g.P.Screen.text
-    g.P.Screen.faults c.args.screen.now)
-    (seen g.P.Screen.text g.P.Screen.faults c.say_trap.new.screen) c.say_trap.result
-    c.say_trap.ensures
+    has_line (trap_line c.args.name.now c.args.kind c.args.element.now)
+    (g.P.Screen.seen c.args.screen.now)
+    (g.P.Screen.seen c.say_trap.new.screen) c.say_trap.result c.say_trap.ensures

@@ -1,7 +1,6 @@
 use Rattle.std.proofs.Common.{◌∙◌, ◌++◌, List, ap, length, map, subst, sym}
 use Rattle.std.proofs.lemmas.Result.{err_from_is_err_and}
 use Rattle.crew.proofs.Accounts.{all_grew_not}
-use Rattle.crew.specs.Hosts.{account}
 use Rattle.flume_value.specs.Bag.{bag_of}
 use Rattle.stage_results.specs.of_map_shard.Tables.{table}
 use Rattle.stage_results.specs.of_stage_phases.Stages.{run_world}
@@ -55,8 +54,7 @@ returns-in_err-results-clause-complete g c can =
     c.from_residual-in_err-results.ensures.1 in
     rw (e.1, e.2)
     (finishes s.tries s.drill w (phases w (split_of s) c.args.plan.now)
-    (map (account g.H.Host.notes g.H.Host.losses) c.args.hosts.now)
-    (map (account g.H.Host.notes g.H.Host.losses) c.run_stages.new.hosts)
+    (map g.H.Host.account c.args.hosts.now) (map g.H.Host.account c.run_stages.new.hosts)
     c.in_err-results.field-0.0 can
     (rw (← c.as_slice-stages.ensures) c.in_err-results.ensures.stopped))
 
@@ -120,7 +118,6 @@ returns-clause-done g c =
       asked = subst
           (λ (l : List PhaseWinners).
           AskedInTurn s.tries s.drill (with_tasks (phases w (split_of s) p)) (attempts_of l)
-          (map (account g.H.Host.notes g.H.Host.losses) c.args.hosts.now)
-          (map (account g.H.Host.notes g.H.Host.losses) c.run_stages.new.hosts))
+          (map g.H.Host.account c.args.hosts.now) (map g.H.Host.account c.run_stages.new.hosts))
           (sym told) ran.asked;
     }

@@ -1,6 +1,5 @@
 use Rattle.std.proofs.Common.{◌+◌, ◌++◌, ◌∷◌, [], arith, map, refl}
 use Rattle.std.proofs.lemmas.Result.{err_from_is_err_and}
-use Rattle.crew.specs.Hosts.{account}
 use Rattle.plan_phases.proofs.Lasting.{all_grew_on}
 use Rattle.stage_exec.proofs.Pushing.{agree_pushed, long_pushed, typed_pushed}
 use Rattle.stage_exec.proofs.Running.{along_fewer, along_more, along_none, end_lists, end_run, object_ready, run_stops, stage_asked, stage_ready}
@@ -14,7 +13,7 @@ loop-k-init g c =
     (g.F.Functions.can_call inputs.functions.now) c.args.sources.now.items c.args.stages.now
     c.args.outputs.now
     c.new-results.result.items c.args.sizes.now
-    (map (account g.H.Host.notes g.H.Host.losses) c.args.hosts.now) c.args.winners.now.items
+    (map g.H.Host.account c.args.hosts.now) c.args.winners.now.items
     c.new-results.ensures.items (λ i. let fit = c.type_inv.sizes i in omega (arith, fit))
     c.requires.ready
 

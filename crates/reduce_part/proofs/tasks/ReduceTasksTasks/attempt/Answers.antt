@@ -1,6 +1,5 @@
 use Rattle.std.proofs.Common.{subst}
 use Rattle.crew.specs.Drills.{attempt_at}
-use Rattle.crew.specs.Hosts.{account}
 use Rattle.forest_run.specs.Asked.{Asked}
 use Rattle.forest_run.proofs.Ending.{asked_early, asked_ran}
 use Rattle.reduce_part.specs.Reducing.{reducing_places}
@@ -44,8 +43,8 @@ returns-clause-ran g c =
     c.as_slice.ensures c.index-as_slice-channel.result c.index-as_slice-channel.is
     c.in-Group.grouping c.in-Group.is in
     let e = attempt_at c.args.at.now c.args.task in
-    let a = account g.H.Host.notes g.H.Host.losses c.args.host.now in
-    let b = account g.H.Host.notes g.H.Host.losses c.reduce_partition.new.host in
+    let a = g.H.Host.account c.args.host.now in
+    let b = g.H.Host.account c.reduce_partition.new.host in
     asked_ran e (reducing_places c.args.self.now c.args.task) a b c.reduce_partition.result
     (subst (λ n. Asked e n a b c.reduce_partition.result) places
     (c.reduce_partition.ensures.asked ready.pairs ready.gathered))
@@ -60,8 +59,8 @@ returns-clause-early g c =
     c.as_slice.ensures c.index-as_slice-channel.result c.index-as_slice-channel.is
     c.in-Group.grouping c.in-Group.is in
     let e = attempt_at c.args.at.now c.args.task in
-    let a = account g.H.Host.notes g.H.Host.losses c.args.host.now in
-    let b = account g.H.Host.notes g.H.Host.losses c.reduce_partition.new.host in
+    let a = g.H.Host.account c.args.host.now in
+    let b = g.H.Host.account c.reduce_partition.new.host in
     asked_early e (reducing_places c.args.self.now c.args.task) a b c.reduce_partition.result
     (subst (λ n. Asked e n a b c.reduce_partition.result) places
     (c.reduce_partition.ensures.asked ready.pairs ready.gathered))
