@@ -13,8 +13,7 @@ returns-then-not-is_needed-clause-read g c =
     let unneeded : is_needed script c.args.number ≡ false = search rules in
     let at = there script.nodes c.args.number c.requires.within in
     behind_unneeded (g.R.Source.seen c.args.source.now).files script c.args.number c.args.rows.now
-    at.0
-    at.1 unneeded c.requires.read
+    at.0 at.1 unneeded c.requires.read
 
 pub returns-then-not-is_needed-clause-loaded : goal.returns-then-not-is_needed-clause-loaded
 returns-then-not-is_needed-clause-loaded g c =
@@ -22,8 +21,7 @@ returns-then-not-is_needed-clause-loaded g c =
     let unneeded : is_needed script c.args.number ≡ false = search rules in
     let at = there script.nodes c.args.number c.requires.within in
     loaded_unneeded (g.R.Source.seen c.args.source.now).files script c.args.number c.args.files.now
-    at.0
-    at.1 c.requires.loaded unneeded
+    at.0 at.1 c.requires.loaded unneeded
 
 pub returns-then-not-is_needed-clause-asked : goal.returns-then-not-is_needed-clause-asked
 returns-then-not-is_needed-clause-asked g c =
@@ -119,8 +117,7 @@ returns-in-Ok-clause-loaded g c =
     let columns = c.in-Input.columns in
     let at = input_at script c.args.number _ file columns c.node.ensures.is c.in-Input.is in
     loaded_input (g.R.Source.seen c.args.source.now).files script c.args.number c.args.files.now
-    at.entry
-    at.found c.requires.loaded c.push_input.new.files
+    at.entry at.found c.requires.loaded c.push_input.new.files
     (its_wanted script c.args.number file columns at) c.in_ok-own-in-Input.own.1 needed
     (wants script c.args.number file columns at)
     (c.in_ok-own-in-Input.ensures.loaded at.entry.1.type) c.in-Ok.ensures.files

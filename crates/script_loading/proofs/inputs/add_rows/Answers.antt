@@ -12,8 +12,7 @@ returns-then-not-is_needed-clause-read g c =
     let unneeded : is_needed script c.args.number ≡ false = search rules in
     let at = there script.nodes c.args.number c.requires.within in
     behind_unneeded (g.R.Source.seen c.args.source.now).files script c.args.number c.args.rows.now
-    at.0
-    at.1 unneeded c.requires.read
+    at.0 at.1 unneeded c.requires.read
 
 pub returns-then-not-is_needed-clause-asked : goal.returns-then-not-is_needed-clause-asked
 returns-then-not-is_needed-clause-asked g c =
