@@ -8,6 +8,9 @@ use Rattle.flume_types.specs.declared.column.ColumnKind.{ColumnKind}
 use Rattle.flume_types.specs.declared.column.ColumnKind.TheVariants as cell
 use Rattle.int_text.specs.Ints.{int_of_text}
 use Rattle.csv_rows.specs.Rows.{bad, bool_of, cell_at, cells_from, header_fault, record_of, row_at, rows_from, rows_under, text_in, under_header, value_or}
+use Rattle.csv_rows.specs.declared.read.Head.{Head}
+use Rattle.csv_rows.specs.declared.read.Head.TheVariants as head
+use Rattle.csv_rows.specs.inner.Parts.{rows_behind}
 use Rattle.csv_rows.specs.inner.Readers.{Fields}
 use Rattle.csv_rows.specs.declared.fault.RowFault.{RowFault}
 use Rattle.csv_rows.specs.declared.fault.RowKind.{RowKind}
@@ -99,21 +102,20 @@ under_joined columns [] back xs ys e f = cc e
 under_joined columns (names ∷ front) back xs ys e f =
     header_joined columns (header_fault columns names) front back xs ys e f
 
--- the same of rows that were put together, where memory sufficed
-pub rows_appended : (columns : List Column) (front back : List Fields) (xs ys : List Value)
-    (all : Result (List Value) RowFault)
-    → rows_from 1 columns front ≡ Ok xs → rows_from 1 columns back ≡ Ok ys
-    → IfOk all (λ rows. rows ≡ xs ++ ys)
-    → IfOk all (λ rows. rows_from 1 columns (front ++ back) ≡ Ok rows)
-rows_appended columns front back xs ys (Ok all) e f is =
-    rw is (rows_joined 1 1 columns front back xs ys e f)
-rows_appended columns front back xs ys (Err why) e f is = tt
+behind_joined : (h : Head) (columns : List Column) (front back : List Fields)
+    (xs ys : List Value) → rows_behind h columns front ≡ Ok xs → rows_from 1 columns back ≡ Ok ys
+    → rows_behind h columns (front ++ back) ≡ Ok (xs ++ ys)
+behind_joined head.Names columns front back xs ys e f =
+    under_joined columns front back xs ys e f
+behind_joined head.NoNames columns front back xs ys e f =
+    rows_joined 1 1 columns front back xs ys e f
 
-pub under_appended : (columns : List Column) (front back : List Fields) (xs ys : List Value)
-    (all : Result (List Value) RowFault)
-    → rows_under columns front ≡ Ok xs → rows_from 1 columns back ≡ Ok ys
+-- the same of rows that were put together, where memory sufficed
+pub behind_appended : (h : Head) (columns : List Column) (front back : List Fields)
+    (xs ys : List Value) (all : Result (List Value) RowFault)
+    → rows_behind h columns front ≡ Ok xs → rows_from 1 columns back ≡ Ok ys
     → IfOk all (λ rows. rows ≡ xs ++ ys)
-    → IfOk all (λ rows. rows_under columns (front ++ back) ≡ Ok rows)
-under_appended columns front back xs ys (Ok all) e f is =
-    rw is (under_joined columns front back xs ys e f)
-under_appended columns front back xs ys (Err why) e f is = tt
+    → IfOk all (λ rows. rows_behind h columns (front ++ back) ≡ Ok rows)
+behind_appended h columns front back xs ys (Ok all) e f is =
+    rw is (behind_joined h columns front back xs ys e f)
+behind_appended h columns front back xs ys (Err why) e f is = tt

@@ -10,7 +10,7 @@ ghost use Rattle.csv_rows.specs.Records.{records_of};
 ghost use Rattle.csv_rows.specs.Rows.{rows_under};
 
 use crate::fault::RowFault;
-use crate::read::read_rows;
+use crate::read::{Head, read_rows};
 use flume_types::Column;
 use flume_value::Items;
 use outside::Pieces;
@@ -25,5 +25,5 @@ pub fn rows_of(alloc: Global, file: Pieces, columns: &[Column]) -> Result<Items,
     ensures fault { IfErr result (λ e. e ≢ RowFault.Memory →
         rows_under columns.now (records_of file) ≡ Err e) }
 {
-    read_rows(alloc, file.into_reader(alloc), columns)
+    read_rows(alloc, file.into_reader(alloc), columns, Head::Names)
 }

@@ -8,6 +8,7 @@ ghost use Rattle.flume_types.specs.Columns.{input_columns_of};
 ghost use Rattle.flume_types.specs.Typing.{has_type};
 ghost use Rattle.flume_types.specs.declared.types.Ty.{Ty};
 ghost use Rattle.csv_rows.specs.Records.{records_of};
+ghost use Rattle.csv_rows.specs.inner.Parts.{rows_behind};
 ghost use Rattle.csv_rows.specs.inner.Readers.{IsPlain, left_of};
 ghost use Rattle.csv_rows.specs.Rows.{cell_at, header_fault, row_at, rows_from, rows_of, rows_under};
 
@@ -57,19 +58,30 @@ pub fn rows_under_columns(
     ensures fault { IfErr result (λ e. e ≢ RowFault.Memory →
         rows_under columns.now (records_of bytes.now) ≡ Err e) }
 {
-    read_rows(alloc, bytes, columns)
+    read_rows(alloc, bytes, columns, Head::Names)
 }
 
-/// The rows of all that a source gives. A source that fails has no rows, as where memory runs out.
+/// What the records of a part of a file begin with.
+#[derive(Clone, Copy)]
+pub(crate) enum Head {
+    /// The header, which must name the columns.
+    Names,
+    /// The first row.
+    NoNames,
+}
+
+/// The rows of all that a source gives, behind such a head. A source that fails has no rows, as
+/// where memory runs out.
 pub(crate) fn read_rows<R: Read + Drop>(
     alloc: Global,
     source: R,
     columns: &[Column],
+    head: Head,
 ) -> Result<Items, RowFault>
     ensures rows { IfOk result (λ rows. IfSome (R.remaining source)
-        (λ bytes. rows_under columns.now (records_of bytes) ≡ Ok rows)) }
+        (λ bytes. rows_behind head columns.now (records_of bytes) ≡ Ok rows)) }
     ensures fault { IfErr result (λ e. e ≢ RowFault.Memory → IfSome (R.remaining source)
-        (λ bytes. rows_under columns.now (records_of bytes) ≡ Err e)) }
+        (λ bytes. rows_behind head columns.now (records_of bytes) ≡ Err e)) }
 {
     // a fault's column is told in 32 bits
     if columns.len() > u32::MAX as usize {
@@ -78,29 +90,10 @@ pub(crate) fn read_rows<R: Read + Drop>(
     let mut reader = ReaderBuilder::new()
         .has_headers(false)
         .from_reader(alloc, source);
-    read_table(alloc, &mut reader, columns)
-}
-
-/// The rows of all that a source gives, where no header stands before them. A source that fails has
-/// no rows, as where memory runs out.
-pub(crate) fn read_rows_alone<R: Read + Drop>(
-    alloc: Global,
-    source: R,
-    columns: &[Column],
-) -> Result<Items, RowFault>
-    ensures rows { IfOk result (λ rows. IfSome (R.remaining source)
-        (λ bytes. rows_from 1 columns.now (records_of bytes) ≡ Ok rows)) }
-    ensures fault { IfErr result (λ e. e ≢ RowFault.Memory → IfSome (R.remaining source)
-        (λ bytes. rows_from 1 columns.now (records_of bytes) ≡ Err e)) }
-{
-    // a fault's column is told in 32 bits
-    if columns.len() > u32::MAX as usize {
-        return Err(RowFault::Memory);
+    match head {
+        Head::Names => read_table(alloc, &mut reader, columns),
+        Head::NoNames => read_rest(alloc, &mut reader, columns),
     }
-    let mut reader = ReaderBuilder::new()
-        .has_headers(false)
-        .from_reader(alloc, source);
-    read_rest(alloc, &mut reader, columns)
 }
 
 /// The rows of a reader, or the first fault.

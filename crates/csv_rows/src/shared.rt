@@ -10,10 +10,11 @@ ghost use Rattle.flume_types.specs.Typing.{has_type};
 ghost use Rattle.flume_types.specs.declared.types.Ty.{Ty};
 ghost use Rattle.csv_rows.specs.Records.{records_of};
 ghost use Rattle.csv_rows.specs.Rows.{rows_from, rows_under};
+ghost use Rattle.csv_rows.specs.inner.Parts.{rows_behind};
 
 use crate::fault::RowFault;
 use crate::pieces::rows_of;
-use crate::read::{read_rows_alone, rows_under_columns};
+use crate::read::{Head, read_rows, rows_under_columns};
 use flume_types::Column;
 use flume_value::{Items, Pile};
 use outside::Pieces;
@@ -63,88 +64,60 @@ fn rows_of_bytes<R: Threads + Sync>(
     ensures fault { IfErr result (λ e. e ≢ RowFault.Memory →
         rows_under columns.now (records_of bytes.now) ≡ Err e) }
 {
-    let Some(at) = place_to_cut(bytes, parts) else {
-        return rows_under_columns(*alloc, bytes, columns);
-    };
-    let (front, back) = bytes.split_at(at);
-    match read_both(rt, alloc, parts - 1, front, back, columns) {
+    match rows_in_parts(rt, alloc, parts, bytes, columns, Head::Names) {
         Ok(rows) => Ok(rows),
         // the first fault of all bytes is told by one reader
         Err(_) => rows_under_columns(*alloc, bytes, columns),
     }
 }
 
-// The rows of a front that begins with the header, and of a back with none. A fault says only that
-// there is one, or that memory ran out.
-fn read_both<R: Threads + Sync>(
-    rt: &R,
-    alloc: &Global,
-    threads: usize,
-    front: &[u8],
-    back: &[u8],
-    columns: &[Column],
-) -> Result<Items, RowFault>
-    ensures { IfOk result (λ rows.
-        rows_under columns.now (records_of front.now ++ records_of back.now) ≡ Ok rows) }
-{
-    let (first, rest) = join(
-        rt,
-        || -> Result<Items, RowFault>
-            ensures { IfOk result (λ rows.
-                rows_under columns.entry.now (records_of front.entry.now) ≡ Ok rows) }
-        { rows_under_columns(*alloc, front, columns) },
-        || -> Result<Items, RowFault>
-            requires { IsSync R.row }
-            ensures { IfOk result (λ rows.
-                rows_from 1 columns.entry.now (records_of back.entry.now) ≡ Ok rows) }
-        { rows_alone(rt, alloc, threads, back, columns) },
-    );
-    appended(first?, rest?)
-}
-
-// The same with no header, by up to so many threads.
+// The rows behind such a head, by up to so many threads. A fault says only that there is one, or
+// that memory ran out.
 #[cycle(parts)]
-fn rows_alone<R: Threads + Sync>(
+fn rows_in_parts<R: Threads + Sync>(
     rt: &R,
     alloc: &Global,
-    threads: usize,
+    parts: usize,
     bytes: &[u8],
     columns: &[Column],
+    head: Head,
 ) -> Result<Items, RowFault>
-    ensures { IfOk result (λ rows. rows_from 1 columns.now (records_of bytes.now) ≡ Ok rows) }
+    ensures { IfOk result (λ rows.
+        rows_behind head columns.now (records_of bytes.now) ≡ Ok rows) }
 {
-    match place_to_cut(bytes, threads) {
+    match place_to_cut(bytes, parts) {
         Some(at) => {
             let (front, back) = bytes.split_at(at);
-            both_alone(rt, alloc, threads - 1, front, back, columns)
+            read_both(rt, alloc, parts - 1, front, back, columns, head)
         }
-        None => read_rows_alone(*alloc, bytes, columns),
+        None => read_rows(*alloc, bytes, columns, head),
     }
 }
 
 #[cycle(parts)]
-fn both_alone<R: Threads + Sync>(
+fn read_both<R: Threads + Sync>(
     rt: &R,
     alloc: &Global,
-    threads: usize,
+    parts: usize,
     front: &[u8],
     back: &[u8],
     columns: &[Column],
+    head: Head,
 ) -> Result<Items, RowFault>
-    ensures { IfOk result (λ rows.
-        rows_from 1 columns.now (records_of front.now ++ records_of back.now) ≡ Ok rows) }
+    ensures { IfOk result (λ rows. rows_behind head columns.now
+        (records_of front.now ++ records_of back.now) ≡ Ok rows) }
 {
     let (first, rest) = join(
         rt,
         || -> Result<Items, RowFault>
             ensures { IfOk result (λ rows.
-                rows_from 1 columns.entry.now (records_of front.entry.now) ≡ Ok rows) }
-        { read_rows_alone(*alloc, front, columns) },
+                rows_behind head columns.entry.now (records_of front.entry.now) ≡ Ok rows) }
+        { read_rows(*alloc, front, columns, head) },
         || -> Result<Items, RowFault>
             requires { IsSync R.row }
             ensures { IfOk result (λ rows.
                 rows_from 1 columns.entry.now (records_of back.entry.now) ≡ Ok rows) }
-        { rows_alone(rt, alloc, threads, back, columns) },
+        { rows_in_parts(rt, alloc, parts, back, columns, Head::NoNames) },
     );
     appended(first?, rest?)
 }
