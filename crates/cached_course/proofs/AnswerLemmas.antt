@@ -57,8 +57,8 @@ may_deliver files text kept shelf shelf' screen screen' cache later
 -- all files that the run reads were asked for
 pub delivered_for : (words : List (List ℕ)) (source source' : SeenSource)
     (files : List NamedBytes) (text : List ℕ) (kept : List CacheEntry)
-    (shelf shelf' : SeenShelf) (screen screen' : SeenScreen) (cache later : SeenCache) (status : Status)
-    → DeliversKept files text kept shelf shelf' screen screen' cache later status
+    (shelf shelf' : SeenShelf) (screen screen' : SeenScreen) (cache later : SeenCache)
+    (status : Status) → DeliversKept files text kept shelf shelf' screen screen' cache later status
     → AsksAll words source source' → AsksFor words source source' status
 delivered_for words source source' files text kept shelf shelf' screen screen' cache later
     Done is all = all

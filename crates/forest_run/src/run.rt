@@ -94,6 +94,6 @@ pub(crate) fn whole(alloc: Global, elements: Vec<Value>) -> Result<Outputs, Allo
     ensures counts { IfOk result (λ given. given.counts ≡ []) }
 {
     let mut outputs = Outputs::new(alloc, 1, 0)?;
-    outputs.keep(Some(0), Pile::from_vec(elements))?;
+    outputs.keep(alloc, Some(0), Pile::from_vec(elements))?;
     Ok(outputs)
 }

@@ -1,4 +1,5 @@
 pub mod Answers
+pub mod Forms
 pub mod Functions
 pub mod Safety
 pub mod Running

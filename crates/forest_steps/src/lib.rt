@@ -7,7 +7,9 @@
 //!
 //! `run` (specs/Running.antt) says what steps give, and `visit_steps` gives it; `visit_one` goes on
 //! with one emission that a step has answered. No list is made for one emission: it goes on as it
-//! is. Counts stand by the places of outputs in preorder, for which `sizes_of` makes a table once a
+//! is. Nor is a pair with the number 1 made that is only kept: its key is (`Emitted`).
+//!
+//! Counts stand by the places of outputs in preorder, for which `sizes_of` makes a table once a
 //! task.
 //!
 //! `Elements` is what a walk goes over: elements in their order, each with its steps. They stay
@@ -18,14 +20,17 @@ mod answer;
 mod derived;
 mod elements;
 mod emissions;
+mod emitted;
 mod fault;
 mod functions;
+mod once;
 mod outputs;
 mod sizes;
 mod visit;
 
 pub use elements::{Borrowed, Elements, Owned};
 pub use emissions::Answer;
+pub use emitted::{Emitted, Form};
 pub use fault::StepFault;
 pub use functions::Functions;
 pub use outputs::Outputs;

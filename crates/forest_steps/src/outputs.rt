@@ -1,9 +1,11 @@
 // What the outputs of steps are given.
-ghost use Rattle.std.specs.Prelude.{◌≡◌, ◌∷◌, ◌++◌, [], IfOk, OnOk};
+ghost use Rattle.std.specs.Prelude.{◌≡◌, ◌∷◌, [], IfOk, OnOk};
 ghost use Rattle.forest_steps.specs.Running.{counted, kept};
+ghost use Rattle.forest_steps.specs.Forms.{once};
 ghost use Rattle.forest_steps.specs.Fresh.{empties, zeros};
 
-use flume_value::{Items, Pile, Value};
+use crate::emitted::Emitted;
+use flume_value::{Items, Value};
 use std::alloc::{AllocError, Global};
 use std::marker::Model;
 
@@ -11,7 +13,7 @@ use std::marker::Model;
 /// step emits, by its place in preorder. A count stops at its last value.
 #[derive(Drop)]
 pub struct Outputs {
-    lists: Vec<Items>,
+    lists: Vec<Emitted>,
     counts: Vec<u64>,
 }
 
@@ -37,12 +39,21 @@ impl Outputs {
     }
 
     /// The lists, by the numbers of the outputs, and the counts. It takes no memory.
-    pub fn into_parts(self) -> (Vec<Items>, Vec<u64>)
+    pub fn into_parts(self) -> (Vec<Emitted>, Vec<u64>)
         ensures lists { result.0.items ≡ self.lists }
         ensures counts { result.1.items ≡ self.counts }
     {
         let Outputs { lists, counts } = self;
         (lists, counts)
+    }
+
+    /// The same, with each list as values.
+    pub fn into_lists(self, alloc: Global) -> Result<(Vec<Items>, Vec<u64>), AllocError>
+        ensures lists { IfOk result (λ parts. parts.0.items ≡ self.lists) }
+        ensures counts { IfOk result (λ parts. parts.1.items ≡ self.counts) }
+    {
+        let Outputs { lists, counts } = self;
+        Ok((all_items(alloc, lists)?, counts))
     }
 
     /// Counts so many elements more at a place.
@@ -55,52 +66,67 @@ impl Outputs {
     }
 
     /// Puts what was emitted behind the list of the output, where it is kept.
-    pub fn keep(&mut self, number: Option<u32>, emitted: Items) -> Result<(), AllocError>
+    pub fn keep(
+        &mut self,
+        alloc: Global,
+        number: Option<u32>,
+        emitted: Items,
+    ) -> Result<(), AllocError>
         ensures { OnOk result (self.new ≡ kept number emitted self.old) }
     {
         if let Some(number) = number {
             let at = number as usize;
             if at < self.lists.len() {
-                append(&mut self.lists[at], emitted)?;
+                self.lists[at].append(alloc, emitted)?;
             }
         }
         Ok(())
     }
 
     /// Puts one emission behind the list of the output, where it is kept.
-    pub(crate) fn keep_one(&mut self, number: Option<u32>, value: Value) -> Result<(), AllocError>
+    pub(crate) fn keep_one(
+        &mut self,
+        alloc: Global,
+        number: Option<u32>,
+        value: Value,
+    ) -> Result<(), AllocError>
         ensures { OnOk result (self.new ≡ kept number (value ∷ []) self.old) }
     {
         if let Some(number) = number {
             let at = number as usize;
             if at < self.lists.len() {
-                self.lists[at].push(value)?;
+                self.lists[at].push(alloc, value)?;
+            }
+        }
+        Ok(())
+    }
+
+    /// Puts the pair of a key and the number 1 behind the list of the output, where it is kept.
+    pub(crate) fn keep_once(
+        &mut self,
+        alloc: Global,
+        number: Option<u32>,
+        key: Value,
+    ) -> Result<(), AllocError>
+        ensures { OnOk result (self.new ≡ kept number (once key ∷ []) self.old) }
+    {
+        if let Some(number) = number {
+            let at = number as usize;
+            if at < self.lists.len() {
+                self.lists[at].push_once(alloc, key)?;
             }
         }
         Ok(())
     }
 }
 
-fn append(list: &mut Items, more: Items) -> Result<(), AllocError>
-    ensures { OnOk result (list.new ≡ list.old ++ more) }
-{
-    if list.is_empty() {
-        *list = more;
-        return Ok(());
-    }
-    for value in more.into_vec() {
-        list.push(value)?;
-    }
-    Ok(())
-}
-
 // So many empty lists.
-fn empty_lists(alloc: Global, count: usize) -> Result<Vec<Items>, AllocError>
+fn empty_lists(alloc: Global, count: usize) -> Result<Vec<Emitted>, AllocError>
     ensures { IfOk result (λ lists. lists.items ≡ empties count) }
 {
     let mut lists = Vec::with_capacity(alloc, count)?;
     for _i in 0..count {
-        lists.push(Pile::new(alloc))?;
+        lists.push(Emitted::new(alloc))?;
     }
     Ok(lists)
 }
@@ -113,4 +139,15 @@ fn no_counts(alloc: Global, count: usize) -> Result<Vec<u64>, AllocError>
         counts.push(0)?;
     }
     Ok(counts)
+}
+
+// Each list as values.
+fn all_items(alloc: Global, lists: Vec<Emitted>) -> Result<Vec<Items>, AllocError>
+    ensures { IfOk result (λ all. all.items ≡ lists.items) }
+{
+    let mut all = Vec::with_capacity(alloc, lists.len())?;
+    for list in lists {
+        all.push(list.into_items(alloc)?)?;
+    }
+    Ok(all)
 }

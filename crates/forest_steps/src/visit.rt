@@ -12,6 +12,7 @@ use crate::answer::{answer, answer_moved};
 use crate::emissions::{Answer, one_in_lists};
 use crate::fault::StepFault;
 use crate::functions::Functions;
+use crate::once::{keep_once, pairs_alone};
 use crate::outputs::Outputs;
 use exec_graph::{Output, Step};
 use flume_value::{Items, Pile, Value};
@@ -191,7 +192,7 @@ fn visit_output<F: Functions>(
     for y in emitted.as_slice() {
         visit_kids(alloc, functions, sizes, output, first, y, outputs)?;
     }
-    outputs.keep(output.number, emitted)?;
+    outputs.keep(alloc, output.number, emitted)?;
     Ok(())
 }
 
@@ -228,7 +229,7 @@ fn visit_emission<F: Functions>(
         return Ok(());
     }
     visit_kids(alloc, functions, sizes, output, first, &value, outputs)?;
-    outputs.keep_one(output.number, value)?;
+    outputs.keep_one(alloc, output.number, value)?;
     Ok(())
 }
 
@@ -272,6 +273,10 @@ fn visit_moved<F: Functions>(
     ensures { IsRun (run (world_of (F.called functions.now)) sizes.now at (limb step.now Bare)
         x outputs.old) outputs.new result }
 {
+    if pairs_alone(step) {
+        keep_once(alloc, step, at, x, outputs)?;
+        return Ok(at);
+    }
     let answered = answer_moved(alloc, functions, step.origin, step.does, x)?;
     visit_answer(alloc, functions, sizes, step, at, answered, outputs)
 }

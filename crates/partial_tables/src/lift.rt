@@ -1,8 +1,9 @@
 // Accumulators of pairs, made in a table of bounded room that is emptied when it is full.
 ghost use Rattle.std.specs.Prelude.{◌≡◌, ◌++◌, ◌∷◌, [], All, List, Some, IfOk, OnOk, map};
 ghost use Rattle.flume_value.specs.declared.value.Value.{Value as GhostValue};
-ghost use Rattle.bag_groups.specs.Pairs.{IsPair, pairs_of, parts_of};
+ghost use Rattle.bag_groups.specs.Pairs.{IsPair, pair as pair_of, pairs_of, parts_of};
 ghost use Rattle.combine_table.specs.Accumulators.{HasShape, accumulator};
+ghost use Rattle.combine_table.specs.Combinations.{Suits};
 ghost use Rattle.partial_tables.specs.Lifted.{IsLifted, accumulators_of};
 ghost use Rattle.partial_tables.specs.Merges.{StandFor, IsCombinable};
 ghost use Rattle.partial_tables.specs.Runs.{AreTabled, AreTables, most_keys};
@@ -45,6 +46,25 @@ impl Lifting {
         let (key, value) = parts(pair);
         let acc = lift(alloc, comb, value)?;
         put_copy(alloc, &mut self.table, &mut self.others, key, acc)?;
+        Ok(())
+    }
+
+    /// Puts the pair of a key and a value in, which is not made: the key goes into the table.
+    pub fn put_parts(
+        &mut self,
+        alloc: Global,
+        comb: Comb,
+        key: Value,
+        value: &Value,
+    ) -> Result<(), AllocError>
+        requires suits { Suits comb value.now }
+        requires comb { self.old.table.comb ≡ comb }
+        requires room { self.old.table.room ≡ most_keys }
+        ensures { (pairs : List GhostValue) → IsLifted comb self.old pairs →
+            OnOk result (IsLifted comb self.new (pairs ++ pair_of key value.now ∷ [])) }
+    {
+        let acc = lift(alloc, comb, value)?;
+        put(alloc, &mut self.table, &mut self.others, key, acc)?;
         Ok(())
     }
 

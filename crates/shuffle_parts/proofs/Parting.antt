@@ -79,6 +79,11 @@ pub taken_on : (done rest next whole : List Value) (pair : Value) → rest ≡ p
 taken_on done rest next whole pair is e =
     append_assoc done (pair ∷ []) next ∙ ap (λ l. done ++ l) (sym is) ∙ e
 
+pub some_left : (done rest next whole : List Value) (value : Value) → rest ≡ value ∷ next
+    → done ++ rest ≡ whole → 0 < length whole
+some_left [] rest next whole value is e = let same = ap length (sym is ∙ e) in omega arith
+some_left (d ∷ done) rest next whole value is e = let same = ap length e in omega arith
+
 -- ---- accumulators of a part
 
 abbrev pub Stands : Comb → Pairs → List Value → Type 0

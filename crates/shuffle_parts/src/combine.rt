@@ -1,8 +1,9 @@
 // Pairs combined within the partitions of their keys, one pair after another.
-ghost use Rattle.std.specs.Prelude.{◌≡◌, ◌<◌, ◌++◌, ◌∷◌, [], All, IfOk, List, OnOk, map};
+ghost use Rattle.std.specs.Prelude.{◌≡◌, ◌<◌, ◌++◌, ◌∷◌, [], All, IfOk, List, OnOk, length, map};
 ghost use Rattle.std.specs.List.{AllZip};
 ghost use Rattle.flume_value.specs.declared.value.Value.{Value as GhostValue};
-ghost use Rattle.bag_groups.specs.Pairs.{pairs_of};
+ghost use Rattle.bag_groups.specs.Pairs.{pair as pair_of, pairs_of};
+ghost use Rattle.combine_table.specs.Combinations.{Suits};
 ghost use Rattle.partial_tables.specs.Lifted.{IsLifted, accumulators_of};
 ghost use Rattle.partial_tables.specs.Merges.{StandFor, IsCombinable};
 ghost use Rattle.partial_tables.specs.Runs.{AreTabled};
@@ -69,6 +70,30 @@ pub fn lift_more(
     Ok(parts)
 }
 
+/// Puts the pair of each of these keys with the value in, none of which is made.
+pub fn lift_more_keys(
+    alloc: Global,
+    comb: Comb,
+    mut parts: Vec<Lifting>,
+    keys: Vec<Value>,
+    value: &Value,
+    partitions: u32,
+) -> Result<Vec<Lifting>, AllocError>
+    requires some { 0 < partitions }
+    requires stands { (done : List GhostValue)
+        × AllZip (IsLifted comb) parts.items (parted partitions done) }
+    requires suits { 0 < length keys.items → Suits comb value.now }
+    ensures { (done : List GhostValue) →
+        AllZip (IsLifted comb) parts.items (parted partitions done) →
+        IfOk result (λ all. AllZip (IsLifted comb) all.items
+        (parted partitions (done ++ map (λ key. pair_of key value.now) keys.items))) }
+{
+    for key in keys {
+        lift_key(alloc, comb, &mut parts, key, value, partitions)?;
+    }
+    Ok(parts)
+}
+
 /// For each partition its accumulators.
 pub fn finish_each(alloc: Global, parts: Vec<Lifting>) -> Result<Pile<Pile<Partial>>, AllocError>
     ensures { IfOk result (λ combined. combined ≡ map accumulators_of parts.items) }
@@ -118,5 +143,28 @@ fn lift_one(
 {
     let at = partition(key(pair), partitions);
     parts[at as usize].put(alloc, comb, pair)?;
+    Ok(())
+}
+
+// Puts the pair of a key and a value into the accumulators of the partition of the key.
+fn lift_key(
+    alloc: Global,
+    comb: Comb,
+    parts: &mut Vec<Lifting>,
+    key: Value,
+    value: &Value,
+    partitions: u32,
+) -> Result<(), AllocError>
+    requires some { 0 < partitions }
+    requires stands { (done : List GhostValue)
+        × AllZip (IsLifted comb) parts.old.items (parted partitions done) }
+    requires suits { Suits comb value.now }
+    ensures { (done : List GhostValue) →
+        AllZip (IsLifted comb) parts.old.items (parted partitions done) →
+        OnOk result (AllZip (IsLifted comb) parts.new.items
+        (parted partitions (done ++ pair_of key value.now ∷ []))) }
+{
+    let at = partition(&key, partitions);
+    parts[at as usize].put_parts(alloc, comb, key, value)?;
     Ok(())
 }

@@ -18,7 +18,7 @@ mod laws;
 mod out;
 mod parts;
 
-pub use combine::{combine_pairs, finish_each, lift_more, none_lifted};
+pub use combine::{combine_pairs, finish_each, lift_more, lift_more_keys, none_lifted};
 pub use gather::{gather_pairs, gather_partials};
 pub use laws::{gathered_law, parts_law};
 pub use out::{MapOut, Sent};

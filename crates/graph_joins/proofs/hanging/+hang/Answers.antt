@@ -6,7 +6,8 @@ use Rattle.graph_joins.specs.inner.Hangs.{Hangs}
 use Rattle.graph_joins.proofs.HangLemmas.{among_steps, among_twigs, on_first, on_kids, on_more, set_here, twigs_here}
 use Rattle.graph_joins.proofs.hanging.+hang.Goals as goal
 
-pub hang_step-returns-then-index-eq0-clause-hangs : goal.hang_step-returns-then-index-eq0-clause-hangs
+pub hang_step-returns-then-index-eq0-clause-hangs :
+    goal.hang_step-returns-then-index-eq0-clause-hangs
 hang_step-returns-then-index-eq0-clause-hangs t c = λ e f.
     let a = c.step.inside in
     let b : Branch = record {

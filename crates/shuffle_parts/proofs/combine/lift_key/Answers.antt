@@ -1,0 +1,40 @@
+use Rattle.std.proofs.Common.{[], get_or, arith}
+use Rattle.bag_groups.specs.Pairs.{pair}
+use Rattle.bag_groups.proofs.PairLemmas.{key_of-pair}
+use Rattle.shuffle_parts.specs.Partitions.{parted}
+use Rattle.shuffle_parts.proofs.Lifting.{here, lifted_at, put_at}
+use Rattle.shuffle_parts.proofs.combine.lift_key.Goals as goal
+
+pub index_mut-requires : goal.index_mut-requires
+index_mut-requires c =
+    omega (
+      arith,
+      here c.args.comb c.args.partitions c.partition-at.result c.requires.stands.0
+          c.args.parts.now.items c.requires.stands.1 c.partition-at.ensures.within,
+      c.args.parts.now.ok.0,
+    )
+
+pub put_parts-requires-clause-comb : goal.put_parts-requires-clause-comb
+put_parts-requires-clause-comb c =
+    (lifted_at c.args.comb c.args.partitions c.partition-at.result c.requires.stands.0
+    c.args.parts.now.items c.requires.stands.1 c.partition-at.ensures.within
+    c.index_mut.result.now c.index_mut.ensures.value).1
+
+pub put_parts-requires-clause-room : goal.put_parts-requires-clause-room
+put_parts-requires-clause-room c =
+    (lifted_at c.args.comb c.args.partitions c.partition-at.result c.requires.stands.0
+    c.args.parts.now.items c.requires.stands.1 c.partition-at.ensures.within
+    c.index_mut.result.now c.index_mut.ensures.value).2
+
+pub returns : goal.returns
+returns c done stands =
+    let n = c.args.partitions in
+    let at = c.partition-at.result in
+    let parts = c.args.parts.now.items in
+    let within = c.partition-at.ensures.within in
+    put_at c.args.comb n at done parts stands within c.put_parts.new.self
+    (pair c.args.key c.args.value.now) c.args.key (key_of-pair c.args.key c.args.value.now)
+    c.partition-at.ensures.part
+    (c.in_ok-put_parts.ensures (get_or (parted n done) at [])
+    (lifted_at c.args.comb n at done parts stands within c.index_mut.result.now
+    c.index_mut.ensures.value))
