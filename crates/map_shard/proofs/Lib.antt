@@ -1,4 +1,5 @@
 pub mod Attempting
+pub mod Counting
 pub mod CrossLemmas
 pub mod Filled
 pub mod Fitting

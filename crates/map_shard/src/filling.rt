@@ -1,6 +1,10 @@
 // What an output channel was given so far.
-ghost use Rattle.std.specs.Prelude.{◌≡◌, ◌<◌, ◌++◌, [], IfOk, List, None, Some};
+ghost use Rattle.std.specs.Prelude.{◌≡◌, ◌<◌, ◌++◌, [], All, IfOk, List, None, Some};
+ghost use Rattle.std.specs.List.{AllZip};
 ghost use Rattle.flume_value.specs.declared.value.Value.{Value as GhostValue};
+ghost use Rattle.partial_tables.specs.Lifted.{IsLifted};
+ghost use Rattle.partial_tables.specs.Merges.{IsCombinable};
+ghost use Rattle.shuffle_parts.specs.Partitions.{parted};
 ghost use Rattle.task_safety.specs.of_task_lists.Typing.{AreGroupable};
 ghost use Rattle.map_shard.specs.inner.Fillings.{AreFilled, AreLifted, AreParted, ArePassed, IsFilling, sent_of};
 ghost use Rattle.map_shard.specs.inner.Sending.{IsSendable};
@@ -8,9 +12,12 @@ ghost use Rattle.map_shard.specs.inner.Sending.{IsSendable};
 use combine_table::Comb;
 use exec_plan::OutChannel;
 use flume_value::{Items, Pile, Value};
+use forest_steps::{Emitted, Form};
 use key_order::Couple;
 use partial_tables::Lifting;
-use shuffle_parts::{Sent, finish_each, lift_more, no_pairs, none_lifted, part_more};
+use shuffle_parts::{
+    Sent, finish_each, lift_more, lift_more_keys, no_pairs, none_lifted, part_more,
+};
 use std::alloc::{AllocError, Global};
 
 /// What an output channel was given so far.
@@ -52,29 +59,29 @@ pub(crate) fn fill(
     alloc: Global,
     channel: &OutChannel,
     filling: Filling,
-    values: Vec<Value>,
+    values: Emitted,
     partitions: u32,
 ) -> Result<Filling, AllocError>
     requires some { 0 < partitions }
     requires stands { (done : List GhostValue) × IsFilling partitions channel.now filling done }
-    requires fit { IsSendable channel.now values.items }
+    requires fit { IsSendable channel.now values }
     ensures { (done : List GhostValue) → IsFilling partitions channel.now filling done →
-        IfOk result (λ more. IsFilling partitions channel.now more (done ++ values.items)) }
+        IfOk result (λ more. IsFilling partitions channel.now more (done ++ values)) }
 {
     match channel {
-        OutChannel::Pass(_, _) => fill_passed(filling, values),
+        OutChannel::Pass(_, _) => fill_passed(filling, values.into_items(alloc)?),
         OutChannel::Group(group) => fill_groups(alloc, group.lifted, filling, values, partitions),
     }
 }
 
-fn fill_passed(filling: Filling, values: Vec<Value>) -> Result<Filling, AllocError>
+fn fill_passed(filling: Filling, values: Items) -> Result<Filling, AllocError>
     requires { (done : List GhostValue) × ArePassed filling done }
     ensures { (done : List GhostValue) → ArePassed filling done →
-        IfOk result (λ more. ArePassed more (done ++ values.items)) }
+        IfOk result (λ more. ArePassed more (done ++ values)) }
 {
     match filling {
         Filling::Passed(all) => {
-            let all = with_more(all.into_vec(), Pile::from_vec(values))?;
+            let all = with_more(all.into_vec(), values)?;
             Ok(Filling::Passed(Pile::from_vec(all)))
         }
         Filling::Grouped(_) => unreachable!(),
@@ -86,17 +93,17 @@ fn fill_groups(
     alloc: Global,
     lifted: Option<Comb>,
     filling: Filling,
-    pairs: Vec<Value>,
+    pairs: Emitted,
     partitions: u32,
 ) -> Result<Filling, AllocError>
     requires some { 0 < partitions }
     requires stands { (done : List GhostValue) × AreFilled lifted partitions filling done }
-    requires fit { AreGroupable lifted pairs.items }
+    requires fit { AreGroupable lifted pairs }
     ensures { (done : List GhostValue) → AreFilled lifted partitions filling done →
-        IfOk result (λ more. AreFilled lifted partitions more (done ++ pairs.items)) }
+        IfOk result (λ more. AreFilled lifted partitions more (done ++ pairs)) }
 {
     match lifted {
-        None => fill_parts(filling, pairs, partitions),
+        None => fill_parts(filling, pairs.into_items(alloc)?.into_vec(), partitions),
         Some(comb) => fill_lifted(alloc, comb, filling, pairs, partitions),
     }
 }
@@ -122,22 +129,46 @@ fn fill_lifted(
     alloc: Global,
     comb: Comb,
     filling: Filling,
-    pairs: Vec<Value>,
+    pairs: Emitted,
     partitions: u32,
 ) -> Result<Filling, AllocError>
     requires some { 0 < partitions }
     requires stands { (done : List GhostValue) × AreLifted comb partitions filling done }
-    requires pairs { AreGroupable (Some comb) pairs.items }
+    requires pairs { AreGroupable (Some comb) pairs }
     ensures { (done : List GhostValue) → AreLifted comb partitions filling done →
-        IfOk result (λ more. AreLifted comb partitions more (done ++ pairs.items)) }
+        IfOk result (λ more. AreLifted comb partitions more (done ++ pairs)) }
 {
     match filling {
         Filling::Combined(parts) => {
-            let parts = lift_more(alloc, comb, parts, pairs, partitions)?;
+            let parts = lift_emitted(alloc, comb, parts, pairs, partitions)?;
             Ok(Filling::Combined(parts))
         }
         Filling::Passed(_) => unreachable!(),
         Filling::Grouped(_) => unreachable!(),
+    }
+}
+
+// Puts more pairs into the accumulators of a lifted channel. Pairs with the number 1 are not made.
+fn lift_emitted(
+    alloc: Global,
+    comb: Comb,
+    parts: Vec<Lifting>,
+    pairs: Emitted,
+    partitions: u32,
+) -> Result<Vec<Lifting>, AllocError>
+    requires some { 0 < partitions }
+    requires stands { (done : List GhostValue)
+        × AllZip (IsLifted comb) parts.items (parted partitions done) }
+    requires pairs { All (IsCombinable comb) pairs }
+    ensures { (done : List GhostValue) →
+        AllZip (IsLifted comb) parts.items (parted partitions done) →
+        IfOk result (λ all.
+        AllZip (IsLifted comb) all.items (parted partitions (done ++ pairs))) }
+{
+    let (form, values) = pairs.into_parts();
+    match form {
+        Form::Whole => lift_more(alloc, comb, parts, values, partitions),
+        Form::Keys => lift_more_keys(alloc, comb, parts, values, &Value::Int(1), partitions),
     }
 }
 
@@ -152,8 +183,8 @@ pub(crate) fn finish(alloc: Global, filling: Filling) -> Result<Sent, AllocError
     }
 }
 
-/// Values, and more behind them. Where there are none the others are taken as they are.
-pub(crate) fn with_more(values: Vec<Value>, more: Items) -> Result<Vec<Value>, AllocError>
+// Values, and more behind them. Where there are none the others are taken as they are.
+fn with_more(values: Vec<Value>, more: Items) -> Result<Vec<Value>, AllocError>
     ensures { IfOk result (λ all. all.items ≡ values.items ++ more) }
 {
     let mut more = more.into_vec();

@@ -279,7 +279,6 @@ fn send_given(
     ensures counts { IfOk result (λ legs. legs.counts.items ≡ given.counts) }
 {
     let (lists, counts) = given.into_parts();
-    let lists = Pile::from_vec(lists);
     let fillings = send_more(alloc, channels, takes, m, lists, partitions, fillings)?;
     Ok(Legs { fillings, counts })
 }

@@ -29,7 +29,7 @@ pub fn list_of<'a>(
 }
 
 // The list of that number, or none.
-pub(crate) fn list_at(lists: &[Items], number: u32) -> &[Value]
+fn list_at(lists: &[Items], number: u32) -> &[Value]
     ensures { result.now ≡ or_none (slice_get lists.now number) }
 {
     match lists.get(number as usize) {

@@ -6,10 +6,10 @@ ghost use Rattle.exec_plan.specs.declared.plan.Take.{Take as GhostTake};
 ghost use Rattle.map_shard.specs.inner.Sending.{taken_by};
 ghost use Rattle.map_shard.specs.inner.Takes.{AreLast, is_of};
 
-use crate::lists::list_at;
 use crate::takes::Takes;
 use exec_plan::Take;
-use flume_value::{Items, Pile, copy_all};
+use flume_value::{Items, Pile};
+use forest_steps::Emitted;
 use std::alloc::{AllocError, Global};
 use std::mem;
 
@@ -35,10 +35,10 @@ pub(crate) fn taken_lists(
     alloc: Global,
     takes: &Takes,
     m: u32,
-    lists: Pile<Items>,
-) -> Result<Vec<Items>, AllocError>
+    lists: Vec<Emitted>,
+) -> Result<Vec<Emitted>, AllocError>
     requires { AreLast m takes.now.all.items takes.now.last.items }
-    ensures { IfOk result (λ all. all.items ≡ map (taken_by m lists) takes.now.all.items) }
+    ensures { IfOk result (λ all. all.items ≡ map (taken_by m lists.items) takes.now.all.items) }
 {
     let mut lists = lists;
     let mut all = Vec::with_capacity(alloc, takes.all.len())?;
@@ -56,20 +56,43 @@ fn taken_list(
     alloc: Global,
     take: Take,
     m: u32,
-    lists: &mut Pile<Items>,
+    lists: &mut Vec<Emitted>,
     is_last: bool,
-) -> Result<Items, AllocError>
-    ensures list { IfOk result (λ list. list ≡ taken_by m lists.old take) }
+) -> Result<Emitted, AllocError>
+    ensures list { IfOk result (λ list. list ≡ taken_by m lists.old.items take) }
     ensures others { (other : GhostTake) → (is_last ≡ true → is_of m take.out other ≡ false) →
-        taken_by m lists.new other ≡ taken_by m lists.old other }
+        taken_by m lists.new.items other ≡ taken_by m lists.old.items other }
 {
     if take.channel != m {
-        return Ok(Pile::new(alloc));
+        return Ok(Emitted::new(alloc));
     }
     if is_last {
-        return Ok(take_list(alloc, lists, take.out as usize));
+        return Ok(take_at(alloc, lists, take.out as usize));
     }
-    copy_all(alloc, list_at(lists.as_slice(), take.out))
+    copy_at(alloc, lists, take.out as usize)
+}
+
+// Takes what the output of that number was given away, and leaves nothing. The others stay.
+fn take_at(alloc: Global, lists: &mut Vec<Emitted>, number: usize) -> Emitted
+    ensures list { result ≡ or_none (slice_get lists.old.items number) }
+    ensures others { (n : ℕ) → (n ≡ number → ⊥) →
+        or_none (slice_get lists.new.items n) ≡ or_none (slice_get lists.old.items n) }
+{
+    if number < lists.len() {
+        mem::replace(&mut lists[number], Emitted::new(alloc))
+    } else {
+        Emitted::new(alloc)
+    }
+}
+
+// A copy of what the output of that number was given.
+fn copy_at(alloc: Global, lists: &[Emitted], number: usize) -> Result<Emitted, AllocError>
+    ensures { IfOk result (λ copy. copy ≡ or_none (slice_get lists.now number)) }
+{
+    match lists.get(number) {
+        Some(list) => list.copy(alloc),
+        None => Ok(Emitted::new(alloc)),
+    }
 }
 
 // Whether that place stands at the number.

@@ -8,11 +8,12 @@ ghost use Rattle.map_shard.specs.inner.Fillings.{IsFilled, IsFilling, sent_of};
 ghost use Rattle.map_shard.specs.inner.Sending.{CanSend, IsSendable, takes_joined, left, taken, takes_of};
 ghost use Rattle.map_shard.specs.inner.Takes.{AreTakes};
 
-use crate::filling::{Filling, fill, finish, nothing, with_more};
+use crate::filling::{Filling, fill, finish, nothing};
 use crate::moving::taken_lists;
 use crate::takes::Takes;
 use exec_plan::{OutChannel, Take};
-use flume_value::{Items, Pile, Value};
+use flume_value::Pile;
+use forest_steps::Emitted;
 use shuffle_parts::Sent;
 use std::alloc::{AllocError, Global};
 use std::vec::IntoIter;
@@ -40,20 +41,20 @@ pub(crate) fn send_more(
     channels: &[OutChannel],
     takes: &Takes,
     m: u32,
-    lists: Pile<Items>,
+    lists: Vec<Emitted>,
     partitions: u32,
     fillings: Vec<Filling>,
 ) -> Result<Vec<Filling>, AllocError>
     requires some { 0 < partitions }
     requires taken { AreTakes m channels.now takes.now }
-    requires fit { AllByRecursion (CanSend m lists) channels.now }
+    requires fit { AllByRecursion (CanSend m lists.items) channels.now }
     requires stands { (before : List GhostTake → List GhostValue)
         × AllZip (IsFilled partitions before) channels.now fillings.items }
     ensures { (before : List GhostTake → List GhostValue) →
         AllZip (IsFilled partitions before) channels.now fillings.items →
         IfOk result (λ more.
-        AllZip (IsFilled partitions (λ takes. before takes ++ taken m lists takes)) channels.now
-        more.items) }
+        AllZip (IsFilled partitions (λ takes. before takes ++ taken m lists.items takes))
+        channels.now more.items) }
 {
     let mut given = taken_lists(alloc, takes, m, lists)?.into_iter();
     let mut old = fillings.into_iter();
@@ -81,7 +82,7 @@ fn fill_next(
     alloc: Global,
     channel: &OutChannel,
     filling: Option<Filling>,
-    given: &mut IntoIter<Items>,
+    given: &mut IntoIter<Emitted>,
     partitions: u32,
 ) -> Result<Filling, AllocError>
     requires some { 0 < partitions }
@@ -118,10 +119,10 @@ fn next_filling(fillings: &mut IntoIter<Filling>) -> Option<Filling>
 fn taken_values(
     alloc: Global,
     channel: &OutChannel,
-    given: &mut IntoIter<Items>,
-) -> Result<Vec<Value>, AllocError>
+    given: &mut IntoIter<Emitted>,
+) -> Result<Emitted, AllocError>
     ensures all { IfOk result (λ values.
-        values.items ≡ takes_joined (takes_of channel.now) given.old.rest.items) }
+        values ≡ takes_joined (takes_of channel.now) given.old.rest.items) }
     ensures left { OnOk result
         (given.new.rest.items ≡ left (takes_of channel.now) given.old.rest.items) }
 {
@@ -135,26 +136,25 @@ fn taken_values(
 fn joined(
     alloc: Global,
     takes: &[Take],
-    given: &mut IntoIter<Items>,
-) -> Result<Vec<Value>, AllocError>
-    ensures all { IfOk result
-        (λ values. values.items ≡ takes_joined takes.now given.old.rest.items) }
+    given: &mut IntoIter<Emitted>,
+) -> Result<Emitted, AllocError>
+    ensures all { IfOk result (λ values. values ≡ takes_joined takes.now given.old.rest.items) }
     ensures left { OnOk result (given.new.rest.items ≡ left takes.now given.old.rest.items) }
 {
-    let mut values = Vec::new(alloc);
+    let mut values = Emitted::new(alloc);
     for _take in takes {
-        values = with_more(values, next_list(alloc, given))?;
+        values = values.with_more(alloc, next_list(alloc, given))?;
     }
     Ok(values)
 }
 
 // The next list, or an empty one.
-fn next_list(alloc: Global, given: &mut IntoIter<Items>) -> Items
+fn next_list(alloc: Global, given: &mut IntoIter<Emitted>) -> Emitted
     ensures next { result ≡ or_none (slice_get given.old.rest.items 0) }
     ensures rest { given.new.rest.items ≡ drop 1 given.old.rest.items }
 {
     match given.next() {
         Some(list) => list,
-        None => Pile::new(alloc),
+        None => Emitted::new(alloc),
     }
 }

@@ -50,7 +50,7 @@ pub(crate) fn reduce_merged<F: Functions, H: Host>(
 {
     let groups = merged.len();
     match run_merged(alloc, functions, roots, comb, merged, host, spot, task)? {
-        Attempt::Made(course) => Ok(Attempt::Made(reduced(course, groups))),
+        Attempt::Made(course) => Ok(Attempt::Made(reduced(alloc, course, groups)?)),
         Attempt::Down => Ok(Attempt::Down),
     }
 }

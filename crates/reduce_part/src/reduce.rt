@@ -24,7 +24,7 @@ use exec_graph::Roots;
 use exec_plan::Grouping;
 use flume_value::{Pile, Value};
 use forest_run::{Course, run_owned};
-use forest_steps::Functions;
+use forest_steps::{Functions, Outputs};
 use key_order::group_numbered;
 use outside::Host;
 use shuffle_parts::{MapOut, gather_pairs};
@@ -100,18 +100,30 @@ fn reduce_groups<F: Functions, H: Host>(
 {
     let count = groups.len();
     match run_owned(alloc, functions, does, groups, host, spot, task)? {
-        Attempt::Made(course) => Ok(Attempt::Made(reduced(course, count))),
+        Attempt::Made(course) => Ok(Attempt::Made(reduced(alloc, course, count)?)),
         Attempt::Down => Ok(Attempt::Down),
     }
 }
 
 /// What the groups come to, of which there are so many.
-pub(crate) fn reduced(course: Course, groups: usize) -> Reduced
+pub(crate) fn reduced(alloc: Global, course: Course, groups: usize) -> Result<Reduced, AllocError>
     ensures { (w : World) (does : Option Forest) (xs : List GhostValue) → groups ≡ length xs →
-        IsCourse w does xs course →
-        IsReduceValue w (record { elements = xs; beside = None; does = does }) result }
+        IsCourse w does xs course → IfOk result
+        (IsReduceValue w (record { elements = xs; beside = None; does = does })) }
 {
-    let (outputs, counts) = course?.into_parts();
+    match course {
+        Ok(outputs) => Ok(Ok(reduce_out(alloc, outputs, groups)?)),
+        Err(trap) => Ok(Err(trap)),
+    }
+}
+
+// What the steps on so many groups gave.
+fn reduce_out(alloc: Global, outputs: Outputs, groups: usize) -> Result<ReduceOut, AllocError>
+    ensures outputs { IfOk result (λ out. out.outputs ≡ outputs.lists) }
+    ensures counts { IfOk result (λ out. out.counts ≡ outputs.counts) }
+    ensures groups { IfOk result (λ out. out.groups ≡ groups) }
+{
+    let (outputs, counts) = outputs.into_lists(alloc)?;
     Ok(ReduceOut {
         outputs: Pile::from_vec(outputs),
         counts: Pile::from_vec(counts),

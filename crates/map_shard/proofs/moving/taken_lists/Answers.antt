@@ -11,8 +11,8 @@ loop-k-preserved c =
     let takes = c.args.takes.now in
     let items = c.deref-take-items.result.now in
     let at = c.loop-k in
-    taken_on c.args.m takes.all.items takes.last.items c.requires c.args.lists at.lists
-    c.taken_list.new.lists at.k items no_take c.is_at-is_last.result at.all.items
+    taken_on c.args.m takes.all.items takes.last.items c.requires c.args.lists.items at.lists.items
+    c.taken_list.new.lists.items at.k items no_take c.is_at-is_last.result at.all.items
     c.push.new.self.items c.in_ok-list.list c.deref-take-items.ensures.value
     c.loop-k-test.true
     (λ t. subst (λ (l : List ℕ). slice_get l (get_or items at.k no_take).out ≡ Some at.k)

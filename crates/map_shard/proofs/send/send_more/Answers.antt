@@ -10,10 +10,10 @@ taken_lists-requires c = c.requires.taken.last
 
 pub fill_next-requires-clause-fit : goal.fill_next-requires-clause-fit
 fill_next-requires-clause-fit c =
-    sendable c.args.m c.args.lists c.args.channels.now c.loop-channel.channel-index
+    sendable c.args.m c.args.lists.items c.args.channels.now c.loop-channel.channel-index
     c.channel-item.result c.loop-channel.given.rest.items c.loop-channel-test.true
     c.channel-item.is c.loop-channel.invariant.given
-    (member (CanSend c.args.m c.args.lists) c.args.channels.now c.loop-channel.channel-index
+    (member (CanSend c.args.m c.args.lists.items) c.args.channels.now c.loop-channel.channel-index
     c.channel-item.result c.requires.fit c.loop-channel-test.true c.channel-item.is)
 
 pub fill_next-requires-clause-stands : goal.fill_next-requires-clause-stands
@@ -29,7 +29,7 @@ fill_next-requires-clause-stands c =
 
 pub loop-channel-preserved : goal.loop-channel-preserved
 loop-channel-preserved c = record {
-  given = given_on c.args.m c.args.lists c.args.channels.now c.loop-channel.channel-index
+  given = given_on c.args.m c.args.lists.items c.args.channels.now c.loop-channel.channel-index
       c.channel-item.result c.loop-channel.given.rest.items c.loop-channel-test.true
       c.channel-item.is c.loop-channel.invariant.given c.fill_next.new.given.rest.items
       c.in_ok-fill_next.ensures.left;
@@ -43,10 +43,10 @@ loop-channel-preserved c = record {
       c.next_filling-filling.ensures.next in
       let m = c.args.m in (
         zip_further
-            (IsFilled c.args.partitions (λ takes. before takes ++ taken m c.args.lists takes))
+            (IsFilled c.args.partitions (λ takes. before takes ++ taken m c.args.lists.items takes))
             c.args.channels.now i c.loop-channel.more.items c.push.new.self.items channel
             c.in_ok-fill_next.field-0 was.0 c.loop-channel-test.true c.channel-item.is
-            (filled_here c.args.m c.args.lists c.args.channels.now i channel
+            (filled_here c.args.m c.args.lists.items c.args.channels.now i channel
             c.loop-channel.given.rest.items c.loop-channel-test.true c.channel-item.is
             c.loop-channel.invariant.given c.args.partitions before c.in_ok-fill_next.field-0
             (c.in_ok-fill_next.ensures.more (before (takes_of channel)) next))

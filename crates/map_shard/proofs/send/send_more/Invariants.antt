@@ -9,10 +9,10 @@ use Rattle.map_shard.proofs.send.send_more.Given as goal
 abbrev pub invariant-loop-channel : goal.invariant-loop-channel
 invariant-loop-channel l = record {
   given : l.given.rest.items
-      ≡ map (taken_by l.m l.fn.lists) (flat_map takes_of (drop l.channel-index l.channels));
+      ≡ map (taken_by l.m l.fn.lists.items) (flat_map takes_of (drop l.channel-index l.channels));
   filled : (before : List Take → List Value)
       → AllZip (IsFilled l.partitions before) l.channels l.fn.fillings.items
-      → AllZip (IsFilled l.partitions (λ takes. before takes ++ taken l.m l.fn.lists takes))
+      → AllZip (IsFilled l.partitions (λ takes. before takes ++ taken l.m l.fn.lists.items takes))
       (take l.channel-index l.channels) l.more.items
       × AllZip (IsFilled l.partitions before) (drop l.channel-index l.channels) l.old.rest.items;
 }

@@ -7,8 +7,8 @@ use Rattle.lifted_root.proofs.Groups.{same_length}
 use Rattle.reduce_part.proofs.Values.{value_anywhere}
 use Rattle.reduce_part.proofs.lifted.reduce_merged.Goals as goal
 
-pub returns-in-Made-clause-value : goal.returns-in-Made-clause-value
-returns-in-Made-clause-value g c groups answers =
+pub returns-in_ok-reduced-in-Made-clause-value : goal.returns-in_ok-reduced-in-Made-clause-value
+returns-in_ok-reduced-in-Made-clause-value g c groups answers =
     let w = world_of (g.F.Functions.called c.args.functions.now) in
     let comb = c.args.comb in
     let merged = c.args.merged.items in
@@ -20,5 +20,5 @@ returns-in-Made-clause-value g c groups answers =
     ) in
     let course = rw c.in-Made.is at c.in_ok-course.ensures.value in
     value_anywhere (g.F.Functions.called c.args.functions.now) (Some c.args.roots.now) groups
-    c.reduced.result
-    (c.reduced.ensures w (Some c.args.roots.now) groups many (course groups answers))
+    c.in_ok-reduced-in-Made.field-0
+    (c.in_ok-reduced-in-Made.ensures w (Some c.args.roots.now) groups many (course groups answers))

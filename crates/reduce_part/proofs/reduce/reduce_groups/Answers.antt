@@ -3,8 +3,8 @@ use Rattle.forest_steps.specs.Functions.{world_of}
 use Rattle.reduce_part.proofs.Values.{value_anywhere}
 use Rattle.reduce_part.proofs.reduce.reduce_groups.Goals as goal
 
-pub returns-in-Made-clause-value : goal.returns-in-Made-clause-value
-returns-in-Made-clause-value g c =
+pub returns-in_ok-reduced-in-Made-clause-value : goal.returns-in_ok-reduced-in-Made-clause-value
+returns-in_ok-reduced-in-Made-clause-value g c =
     let w = world_of (g.F.Functions.called c.args.functions.now) in
     let does = c.args.does.now in
     let groups = c.args.groups.items in
@@ -14,5 +14,6 @@ returns-in-Made-clause-value g c =
       c.args.groups.ok.0,
     ) in
     let course = rw c.in-Made.is at c.in_ok-course.ensures.value in
-    value_anywhere (g.F.Functions.called c.args.functions.now) does groups c.reduced.result
-    (c.reduced.ensures w does groups many course)
+    value_anywhere (g.F.Functions.called c.args.functions.now) does groups
+    c.in_ok-reduced-in-Made.field-0
+    (c.in_ok-reduced-in-Made.ensures w does groups many course)
