@@ -2,9 +2,11 @@
 ghost use Rattle.std.specs.Prelude.{◌≡◌, Some, IfOk};
 ghost use Rattle.bag_groups.specs.Pairs.{IsPair, key_of, pair as pair_of, parts_of, value_of};
 ghost use Rattle.flume_value.specs.Order.{value_cmp};
+ghost use Rattle.flume_value.specs.declared.value.Value.TheVariants as values;
 ghost use Rattle.key_order.specs.inner.Numbered.{key_in};
 
-use crate::sides::{Sided, unboxed};
+use crate::sides::{Side, Sided, on_side, unboxed};
+use bag_groups::pair;
 use flume_value::{Value, compare};
 use std::alloc::{AllocError, Global};
 use std::cmp::Ordering;
@@ -43,8 +45,38 @@ impl Couple {
         ensures { result ≡ pair }
     {
         match into_parts(pair) {
-            Some((key, value)) => of_parts(key, value),
+            Some((key, value)) => Couple::of(key, value),
             None => unreachable!(),
+        }
+    }
+
+    /// The pair of these, of which a side of an either is taken out of its box. It takes no memory.
+    pub fn of(key: Value, value: Value) -> Couple
+        ensures { result ≡ pair_of key value }
+    {
+        Couple {
+            key,
+            value: unboxed(value),
+        }
+    }
+
+    /// The pair of the key and the left of the value. It takes no memory.
+    pub fn of_left(key: Value, value: Value) -> Couple
+        ensures { result ≡ pair_of key (values.Left value) }
+    {
+        Couple {
+            key,
+            value: on_side(Side::Left, value),
+        }
+    }
+
+    /// The pair of the key and the right of the value. It takes no memory.
+    pub fn of_right(key: Value, value: Value) -> Couple
+        ensures { result ≡ pair_of key (values.Right value) }
+    {
+        Couple {
+            key,
+            value: on_side(Side::Right, value),
         }
     }
 
@@ -60,6 +92,32 @@ impl Couple {
         ensures { IfOk result (λ value. value_of self.now ≡ Some value) }
     {
         self.value.copy(alloc)
+    }
+
+    /// A copy of the pair.
+    pub fn copy(&self, alloc: Global) -> Result<Couple, AllocError>
+        ensures { IfOk result (λ copy. copy ≡ self.now) }
+    {
+        let key = self.key.copy(alloc)?;
+        let value = self.value.copy(alloc)?;
+        Ok(Couple::of(key, value))
+    }
+
+    /// Its key and its value.
+    pub fn into_parts(self, alloc: Global) -> Result<(Value, Value), AllocError>
+        ensures { IfOk result (λ parts. pair_of parts.0 parts.1 ≡ self) }
+    {
+        let Couple { key, value } = self;
+        let value = value.into_value(alloc)?;
+        Ok((key, value))
+    }
+
+    /// The pair as a record.
+    pub fn into_value(self, alloc: Global) -> Result<Value, AllocError>
+        ensures { IfOk result (λ value. value ≡ self) }
+    {
+        let (key, value) = self.into_parts(alloc)?;
+        pair(alloc, key, value)
     }
 
     /// How its key stands to that of the other.
@@ -84,14 +142,4 @@ fn into_parts(pair: Value) -> Option<(Value, Value)>
     let value = fields.pop()?;
     let key = fields.pop()?;
     Some((key, value))
-}
-
-// The pair of these, of which a side of an either is taken out of its box.
-fn of_parts(key: Value, value: Value) -> Couple
-    ensures { result ≡ pair_of key value }
-{
-    Couple {
-        key,
-        value: unboxed(value),
-    }
 }

@@ -43,8 +43,8 @@ pub(crate) fn unboxed(value: Value) -> Sided
     }
 }
 
-/// The value on its side.
-fn on_side(side: Side, value: Value) -> Sided
+/// The value on its side. It takes no memory.
+pub(crate) fn on_side(side: Side, value: Value) -> Sided
     ensures { boxed result ≡ sided side value }
 {
     match value {
@@ -67,6 +67,22 @@ impl Sided {
         let side = self.side();
         let value = self.copy_held(alloc)?;
         put_on(alloc, side, value)
+    }
+
+    /// The value, in the box of its side.
+    pub(crate) fn into_value(self, alloc: Global) -> Result<Value, AllocError>
+        ensures { IfOk result (λ value. value ≡ boxed self) }
+    {
+        match self {
+            Sided::Int(side, n) => put_on(alloc, side, Value::Int(n)),
+            Sided::Bool(side, b) => put_on(alloc, side, Value::Bool(b)),
+            Sided::Text(side, text) => put_on(alloc, side, Value::Text(text)),
+            Sided::List(side, items) => put_on(alloc, side, Value::List(items)),
+            Sided::Rec(side, fields) => put_on(alloc, side, Value::Rec(fields)),
+            Sided::Left(side, part) => put_on(alloc, side, Value::Left(part)),
+            Sided::Right(side, part) => put_on(alloc, side, Value::Right(part)),
+            Sided::Wide(side, n) => put_on(alloc, side, Value::Wide(n)),
+        }
     }
 
     /// Its side.
