@@ -6,4 +6,5 @@ use Rattle.forest_steps.specs.declared.emissions.Answer.{Answer}
 -- one list of emissions for each output
 abbrev pub lists_of : Answer → Lists
 lists_of (Answer.One value) = (value ∷ []) ∷ []
+lists_of (Answer.Pair couple) = (couple ∷ []) ∷ []
 lists_of (Answer.Lists lists) = lists.items

@@ -1,5 +1,4 @@
 pub mod Answers
-pub mod Forms
 pub mod Functions
 pub mod Safety
 pub mod Running

@@ -1,3 +1,2 @@
 pub mod Deriving
-pub mod Once
 pub mod Sizes

@@ -110,11 +110,11 @@ fn derive(alloc: Global, does: Does, x: Value) -> Result<Answer, AllocError>
     ensures { (w : World) → IfOk result (λ answer. called w does x ≡ Ok (lists_of answer)) }
 {
     match does {
-        Does::Pair => with_one(alloc, x),
+        Does::Pair => Ok(with_one(x)),
         Does::TagLeft => left_tagged(alloc, x),
         Does::TagRight => right_tagged(alloc, x),
         Does::Split => split(alloc, x),
-        Does::Solo => under_zero(alloc, x),
+        Does::Solo => Ok(under_zero(x)),
         Does::Spread => spread(alloc, x),
         Does::Call(_) | Does::Combine(_) => unreachable!(),
     }

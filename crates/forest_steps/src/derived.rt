@@ -9,21 +9,22 @@ ghost use Rattle.forest_steps.specs.Answers.{lists_of};
 
 use crate::emissions::{Answer, only};
 use bag_groups::pair;
-use flume_value::{Held, Items, Pile, Value};
+use flume_value::{Items, Pile, Value};
+use key_order::Couple;
 use std::alloc::{AllocError, Global};
 
 /// The element with the number 1.
-pub(crate) fn with_one(alloc: Global, x: Value) -> Result<Answer, AllocError>
-    ensures { IfOk result (λ answer. lists_of answer ≡ with_one x ∷ []) }
+pub(crate) fn with_one(x: Value) -> Answer
+    ensures { lists_of result ≡ with_one x ∷ [] }
 {
-    Ok(Answer::One(pair(alloc, x, Value::Int(1))?))
+    Answer::Pair(Couple::of(x, Value::Int(1)))
 }
 
 /// The number 0 with the element.
-pub(crate) fn under_zero(alloc: Global, x: Value) -> Result<Answer, AllocError>
-    ensures { IfOk result (λ answer. lists_of answer ≡ under_zero x ∷ []) }
+pub(crate) fn under_zero(x: Value) -> Answer
+    ensures { lists_of result ≡ under_zero x ∷ [] }
 {
-    Ok(Answer::One(pair(alloc, Value::Int(0), x)?))
+    Answer::Pair(Couple::of(Value::Int(0), x))
 }
 
 /// A pair with its value made a left side.
@@ -31,10 +32,7 @@ pub(crate) fn left_tagged(alloc: Global, x: Value) -> Result<Answer, AllocError>
     ensures { IfOk result (λ answer. lists_of answer ≡ left_tagged x ∷ []) }
 {
     match into_parts(x) {
-        Some((key, value)) => {
-            let side = Value::Left(Held::new(alloc, value)?);
-            Ok(Answer::One(pair(alloc, key, side)?))
-        }
+        Some((key, value)) => Ok(Answer::Pair(Couple::of_left(key, value))),
         None => only(alloc, Pile::new(alloc)),
     }
 }
@@ -44,10 +42,7 @@ pub(crate) fn right_tagged(alloc: Global, x: Value) -> Result<Answer, AllocError
     ensures { IfOk result (λ answer. lists_of answer ≡ right_tagged x ∷ []) }
 {
     match into_parts(x) {
-        Some((key, value)) => {
-            let side = Value::Right(Held::new(alloc, value)?);
-            Ok(Answer::One(pair(alloc, key, side)?))
-        }
+        Some((key, value)) => Ok(Answer::Pair(Couple::of_right(key, value))),
         None => only(alloc, Pile::new(alloc)),
     }
 }
@@ -59,7 +54,7 @@ pub(crate) fn split(alloc: Global, x: Value) -> Result<Answer, AllocError>
     match into_group(x) {
         Some((key, eithers)) => {
             let sides = sides_of(alloc, eithers)?;
-            Ok(Answer::One(pair(alloc, key, sides)?))
+            Ok(Answer::Pair(Couple::of(key, sides)))
         }
         None => only(alloc, Pile::new(alloc)),
     }

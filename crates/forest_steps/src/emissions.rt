@@ -3,6 +3,7 @@ ghost use Rattle.std.specs.Prelude.{◌≡◌, ◌∷◌, [], IfOk};
 ghost use Rattle.forest_steps.specs.Answers.{lists_of};
 
 use flume_value::{Items, Pile, Value};
+use key_order::Couple;
 use std::alloc::{AllocError, Global};
 
 /// What a step answered. Mostly that is one emission to one output, for which no list is made.
@@ -10,6 +11,8 @@ use std::alloc::{AllocError, Global};
 pub enum Answer {
     /// One emission to the first output.
     One(Value),
+    /// One pair to the first output, for which no record was made.
+    Pair(Couple),
     /// One list of emissions for each output.
     Lists(Vec<Items>),
 }

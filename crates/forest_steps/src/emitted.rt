@@ -1,45 +1,34 @@
-// What an output is given: values, or only the keys of pairs with the number 1.
-ghost use Rattle.std.specs.Prelude.{◌≡◌, ◌∷◌, ◌++◌, [], IfOk, OnOk, map};
-ghost use Rattle.forest_steps.specs.Forms.{in_form, once};
+// What an output is given: values, and behind them pairs that have no record.
+ghost use Rattle.std.specs.Prelude.{◌≡◌, ◌∷◌, ◌++◌, [], IfOk, OnOk};
 
-use bag_groups::pair;
 use flume_value::{Items, Pile, Value, copy_all};
+use key_order::Couple;
 use std::alloc::{AllocError, Global};
 use std::marker::Model;
 use std::mem::replace;
 
-/// What the values that stand for what was emitted are.
-#[derive(Clone, Copy)]
-pub enum Form {
-    /// Each is what was emitted.
-    Whole,
-    /// Each is the key of a pair that was emitted, whose value is the number 1.
-    Keys,
-}
-
 /// What was emitted to an output, in order, which contracts see as a list.
 ///
-/// Most pairs with the number 1 are made to be counted, and each takes an allocation. Where an
-/// output is given nothing else, their keys stand here alone, and a pair is made of a key only
-/// where it is needed as a value.
+/// Most pairs are made to be grouped or counted, and a record of each takes an allocation. Where an
+/// output is given pairs that no step reads, they stand here as couples, and a record is made only
+/// where a pair is needed as a value.
 #[derive(Drop)]
 pub struct Emitted {
-    form: Form,
     values: Vec<Value>,
+    couples: Vec<Couple>,
 }
 
 impl Model for Emitted {
-    ghost use Rattle.std.specs.Prelude.{List};
+    ghost use Rattle.std.specs.Prelude.{List, ◌++◌};
     ghost use Rattle.std.specs.Coded.{coded_list};
     ghost use Rattle.flume_value.specs.contracts.value.Value as coded_values;
     ghost use Rattle.flume_value.specs.declared.value.Value.{Value as Plain};
-    ghost use Rattle.forest_steps.specs.Forms.{in_form};
 
     ghost Value = { List Plain };
 
     ghost coded = { coded_list coded_values.the_row.coded };
 
-    ghost view = { λ e. in_form e.form e.values.items };
+    ghost view = { λ e. e.values.items ++ e.couples.items };
 }
 
 impl Emitted {
@@ -48,25 +37,28 @@ impl Emitted {
         ensures { result ≡ [] }
     {
         Emitted {
-            form: Form::Whole,
             values: Vec::new(alloc),
+            couples: Vec::new(alloc),
         }
     }
 
-    /// The values that stand for what was emitted, and what they are. It takes no memory.
-    pub fn into_parts(self) -> (Form, Vec<Value>)
-        ensures { in_form result.0 result.1.items ≡ self }
+    /// The values, and the pairs behind them. It takes no memory.
+    pub fn into_parts(self) -> (Vec<Value>, Vec<Couple>)
+        ensures { result.0.items ++ result.1.items ≡ self }
     {
-        let Emitted { form, values } = self;
-        (form, values)
+        let Emitted { values, couples } = self;
+        (values, couples)
     }
 
-    /// What was emitted. Pairs of which the keys alone stand here are made.
+    /// What was emitted, as values.
     pub fn into_items(self, alloc: Global) -> Result<Items, AllocError>
         ensures { IfOk result (λ items. items ≡ self) }
     {
-        let Emitted { form, values } = self;
-        let values = whole(alloc, form, values)?;
+        let Emitted {
+            mut values,
+            couples,
+        } = self;
+        append_pairs(alloc, couples, &mut values)?;
         Ok(Pile::from_vec(values))
     }
 
@@ -75,56 +67,38 @@ impl Emitted {
         ensures { IfOk result (λ copy. copy ≡ self.now) }
     {
         let values = copy_all(alloc, self.values.as_slice())?.into_vec();
-        Ok(Emitted {
-            form: self.form,
-            values,
-        })
+        let couples = copy_couples(alloc, self.couples.as_slice())?;
+        Ok(Emitted { values, couples })
     }
 
     /// This, and more behind it. Where there is none of this the other is taken as it is.
     pub fn with_more(self, alloc: Global, more: Emitted) -> Result<Emitted, AllocError>
         ensures { IfOk result (λ all. all ≡ self ++ more) }
     {
-        if self.values.is_empty() {
-            return Ok(more);
-        }
-        let Emitted { form, values } = self;
-        let mut values = whole(alloc, form, values)?;
-        let mut more = more.into_items(alloc)?.into_vec();
-        values.append(&mut more)?;
-        Ok(Emitted {
-            form: Form::Whole,
-            values,
-        })
+        let mut all = self;
+        let (values, couples) = more.into_parts();
+        all.append(alloc, Pile::from_vec(values))?;
+        all.append_couples(couples)?;
+        Ok(all)
     }
 
     /// Puts a value behind the others.
     pub(crate) fn push(&mut self, alloc: Global, value: Value) -> Result<(), AllocError>
         ensures { OnOk result (self.new ≡ self.old ++ value ∷ []) }
     {
-        match self.form {
-            Form::Whole => {}
-            Form::Keys => {
-                let keys = replace(&mut self.values, Vec::new(alloc));
-                self.values = pairs(alloc, keys)?;
-                self.form = Form::Whole;
-            }
+        if !self.couples.is_empty() {
+            let couples = replace(&mut self.couples, Vec::new(alloc));
+            append_pairs(alloc, couples, &mut self.values)?;
         }
         self.values.push(value)?;
         Ok(())
     }
 
-    /// Puts the pair of a key and the number 1 behind the others.
-    pub(crate) fn push_once(&mut self, alloc: Global, key: Value) -> Result<(), AllocError>
-        ensures { OnOk result (self.new ≡ self.old ++ once key ∷ []) }
+    /// Puts a pair behind the others.
+    pub(crate) fn push_couple(&mut self, couple: Couple) -> Result<(), AllocError>
+        ensures { OnOk result (self.new ≡ self.old ++ couple ∷ []) }
     {
-        if self.values.is_empty() {
-            self.form = Form::Keys;
-        }
-        match self.form {
-            Form::Whole => self.values.push(pair(alloc, key, Value::Int(1))?)?,
-            Form::Keys => self.values.push(key)?,
-        }
+        self.couples.push(couple)?;
         Ok(())
     }
 
@@ -132,8 +106,7 @@ impl Emitted {
     pub(crate) fn append(&mut self, alloc: Global, more: Items) -> Result<(), AllocError>
         ensures { OnOk result (self.new ≡ self.old ++ more) }
     {
-        if self.values.is_empty() {
-            self.form = Form::Whole;
+        if self.values.is_empty() && self.couples.is_empty() {
             self.values = more.into_vec();
             return Ok(());
         }
@@ -142,25 +115,42 @@ impl Emitted {
         }
         Ok(())
     }
-}
 
-// What these values stand for.
-fn whole(alloc: Global, form: Form, values: Vec<Value>) -> Result<Vec<Value>, AllocError>
-    ensures { IfOk result (λ all. all.items ≡ in_form form values.items) }
-{
-    match form {
-        Form::Whole => Ok(values),
-        Form::Keys => pairs(alloc, values),
+    /// Puts pairs behind the others.
+    fn append_couples(&mut self, more: Vec<Couple>) -> Result<(), AllocError>
+        ensures { OnOk result (self.new ≡ self.old ++ more.items) }
+    {
+        if self.couples.is_empty() {
+            self.couples = more;
+            return Ok(());
+        }
+        let mut more = more;
+        self.couples.append(&mut more)?;
+        Ok(())
     }
 }
 
-// The pair of each key and the number 1.
-fn pairs(alloc: Global, keys: Vec<Value>) -> Result<Vec<Value>, AllocError>
-    ensures { IfOk result (λ pairs. pairs.items ≡ map once keys.items) }
+// Puts pairs behind values, as records.
+fn append_pairs(
+    alloc: Global,
+    couples: Vec<Couple>,
+    values: &mut Vec<Value>,
+) -> Result<(), AllocError>
+    ensures { OnOk result (values.new.items ≡ values.old.items ++ couples.items) }
 {
-    let mut pairs = Vec::with_capacity(alloc, keys.len())?;
-    for key in keys {
-        pairs.push(pair(alloc, key, Value::Int(1))?)?;
+    for couple in couples {
+        values.push(couple.into_value(alloc)?)?;
     }
-    Ok(pairs)
+    Ok(())
+}
+
+// Copies of pairs.
+fn copy_couples(alloc: Global, couples: &[Couple]) -> Result<Vec<Couple>, AllocError>
+    ensures { IfOk result (λ copies. copies.items ≡ couples.now) }
+{
+    let mut copies = Vec::with_capacity(alloc, couples.len())?;
+    for couple in couples {
+        copies.push(couple.copy(alloc)?)?;
+    }
+    Ok(copies)
 }

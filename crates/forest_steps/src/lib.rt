@@ -7,7 +7,8 @@
 //!
 //! `run` (specs/Running.antt) says what steps give, and `visit_steps` gives it; `visit_one` goes on
 //! with one emission that a step has answered. No list is made for one emission: it goes on as it
-//! is. Nor is a pair with the number 1 made that is only kept: its key is (`Emitted`).
+//! is. Nor is a record made of a pair that no step reads: its key and its value stand side by side
+//! (`Emitted`).
 //!
 //! Counts stand by the places of outputs in preorder, for which `sizes_of` makes a table once a
 //! task.
@@ -23,14 +24,13 @@ mod emissions;
 mod emitted;
 mod fault;
 mod functions;
-mod once;
 mod outputs;
 mod sizes;
 mod visit;
 
 pub use elements::{Borrowed, Elements, Owned};
 pub use emissions::Answer;
-pub use emitted::{Emitted, Form};
+pub use emitted::Emitted;
 pub use fault::StepFault;
 pub use functions::Functions;
 pub use outputs::Outputs;

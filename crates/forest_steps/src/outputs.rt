@@ -1,11 +1,11 @@
 // What the outputs of steps are given.
 ghost use Rattle.std.specs.Prelude.{◌≡◌, ◌∷◌, [], IfOk, OnOk};
 ghost use Rattle.forest_steps.specs.Running.{counted, kept};
-ghost use Rattle.forest_steps.specs.Forms.{once};
 ghost use Rattle.forest_steps.specs.Fresh.{empties, zeros};
 
 use crate::emitted::Emitted;
 use flume_value::{Items, Value};
+use key_order::Couple;
 use std::alloc::{AllocError, Global};
 use std::marker::Model;
 
@@ -101,19 +101,18 @@ impl Outputs {
         Ok(())
     }
 
-    /// Puts the pair of a key and the number 1 behind the list of the output, where it is kept.
-    pub(crate) fn keep_once(
+    /// Puts a pair behind the list of the output, where it is kept.
+    pub(crate) fn keep_couple(
         &mut self,
-        alloc: Global,
         number: Option<u32>,
-        key: Value,
+        couple: Couple,
     ) -> Result<(), AllocError>
-        ensures { OnOk result (self.new ≡ kept number (once key ∷ []) self.old) }
+        ensures { OnOk result (self.new ≡ kept number (couple ∷ []) self.old) }
     {
         if let Some(number) = number {
             let at = number as usize;
             if at < self.lists.len() {
-                self.lists[at].push_once(alloc, key)?;
+                self.lists[at].push_couple(couple)?;
             }
         }
         Ok(())

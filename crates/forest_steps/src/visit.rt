@@ -12,10 +12,10 @@ use crate::answer::{answer, answer_moved};
 use crate::emissions::{Answer, one_in_lists};
 use crate::fault::StepFault;
 use crate::functions::Functions;
-use crate::once::{keep_once, pairs_alone};
 use crate::outputs::Outputs;
 use exec_graph::{Output, Step};
 use flume_value::{Items, Pile, Value};
+use key_order::Couple;
 use std::alloc::Global;
 use std::vec::IntoIter;
 
@@ -164,8 +164,37 @@ fn visit_answer<F: Functions>(
 {
     match answered {
         Answer::One(value) => visit_one(alloc, functions, sizes, step, at, value, outputs),
+        Answer::Pair(couple) => visit_couple(alloc, functions, sizes, step, at, couple, outputs),
         Answer::Lists(lists) => visit_outputs(alloc, functions, sizes, step, at, lists, outputs),
     }
+}
+
+/// One pair that a step has answered, to its first output. Where no step reads it, it is kept as it
+/// is, and else a record is made of it.
+#[cycle(visit)]
+fn visit_couple<F: Functions>(
+    alloc: Global,
+    functions: &F,
+    sizes: &[usize],
+    step: &Step,
+    at: usize,
+    couple: Couple,
+    outputs: &mut Outputs,
+) -> Result<usize, StepFault>
+    requires { SafeTwigs (world_of (F.called functions.now)) (F.can_call functions.now)
+        ((couple ∷ []) ∷ []) (step.now.first ∷ step.now.more) }
+    ensures ran { IsRun (run_twigs (world_of (F.called functions.now)) sizes.now at
+        ((couple ∷ []) ∷ []) (step.now.first ∷ step.now.more) outputs.old) outputs.new result }
+    ensures place { IfOk result (λ next.
+        next ≡ behind_all sizes.now at (step.now.first ∷ step.now.more)) }
+{
+    if step.more.is_empty() && step.first.kids.is_empty() {
+        outputs.count(at, 1);
+        outputs.keep_couple(step.first.number, couple)?;
+        return Ok(behind(sizes, at));
+    }
+    let pair = couple.into_value(alloc)?;
+    visit_one(alloc, functions, sizes, step, at, pair, outputs)
 }
 
 #[cycle(visit)]
@@ -273,10 +302,6 @@ fn visit_moved<F: Functions>(
     ensures { IsRun (run (world_of (F.called functions.now)) sizes.now at (limb step.now Bare)
         x outputs.old) outputs.new result }
 {
-    if pairs_alone(step) {
-        keep_once(alloc, step, at, x, outputs)?;
-        return Ok(at);
-    }
     let answered = answer_moved(alloc, functions, step.origin, step.does, x)?;
     visit_answer(alloc, functions, sizes, step, at, answered, outputs)
 }

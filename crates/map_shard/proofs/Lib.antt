@@ -1,6 +1,6 @@
 pub mod Attempting
-pub mod Counting
 pub mod CrossLemmas
+pub mod Emitting
 pub mod Filled
 pub mod Fitting
 pub mod Handing

@@ -2,6 +2,7 @@
 ghost use Rattle.std.specs.Prelude.{◌≡◌, ◌<◌, ◌++◌, [], All, IfOk, List, None, Some};
 ghost use Rattle.std.specs.List.{AllZip};
 ghost use Rattle.flume_value.specs.declared.value.Value.{Value as GhostValue};
+ghost use Rattle.bag_groups.specs.Pairs.{IsPair};
 ghost use Rattle.partial_tables.specs.Lifted.{IsLifted};
 ghost use Rattle.partial_tables.specs.Merges.{IsCombinable};
 ghost use Rattle.shuffle_parts.specs.Partitions.{parted};
@@ -12,11 +13,11 @@ ghost use Rattle.map_shard.specs.inner.Sending.{IsSendable};
 use combine_table::Comb;
 use exec_plan::OutChannel;
 use flume_value::{Items, Pile, Value};
-use forest_steps::{Emitted, Form};
+use forest_steps::Emitted;
 use key_order::Couple;
 use partial_tables::Lifting;
 use shuffle_parts::{
-    Sent, finish_each, lift_more, lift_more_keys, no_pairs, none_lifted, part_more,
+    Sent, finish_each, lift_couples, lift_more, no_pairs, none_lifted, part_couples, part_more,
 };
 use std::alloc::{AllocError, Global};
 
@@ -103,21 +104,21 @@ fn fill_groups(
         IfOk result (λ more. AreFilled lifted partitions more (done ++ pairs)) }
 {
     match lifted {
-        None => fill_parts(filling, pairs.into_items(alloc)?.into_vec(), partitions),
+        None => fill_parts(filling, pairs, partitions),
         Some(comb) => fill_lifted(alloc, comb, filling, pairs, partitions),
     }
 }
 
-fn fill_parts(filling: Filling, pairs: Vec<Value>, partitions: u32) -> Result<Filling, AllocError>
+fn fill_parts(filling: Filling, pairs: Emitted, partitions: u32) -> Result<Filling, AllocError>
     requires some { 0 < partitions }
     requires stands { (done : List GhostValue) × AreParted partitions filling done }
-    requires pairs { AreGroupable None pairs.items }
+    requires pairs { AreGroupable None pairs }
     ensures { (done : List GhostValue) → AreParted partitions filling done →
-        IfOk result (λ more. AreParted partitions more (done ++ pairs.items)) }
+        IfOk result (λ more. AreParted partitions more (done ++ pairs)) }
 {
     match filling {
         Filling::Grouped(parts) => {
-            let parts = part_more(parts, pairs, partitions)?;
+            let parts = part_emitted(parts, pairs, partitions)?;
             Ok(Filling::Grouped(parts))
         }
         Filling::Passed(_) => unreachable!(),
@@ -148,7 +149,24 @@ fn fill_lifted(
     }
 }
 
-// Puts more pairs into the accumulators of a lifted channel. Pairs with the number 1 are not made.
+// Puts more pairs behind those of a channel that groups.
+fn part_emitted(
+    parts: Vec<Pile<Couple>>,
+    pairs: Emitted,
+    partitions: u32,
+) -> Result<Vec<Pile<Couple>>, AllocError>
+    requires some { 0 < partitions }
+    requires stands { (done : List GhostValue) × (parts.items ≡ parted partitions done) }
+    requires pairs { All IsPair pairs }
+    ensures { (done : List GhostValue) → parts.items ≡ parted partitions done →
+        IfOk result (λ all. all.items ≡ parted partitions (done ++ pairs)) }
+{
+    let (values, couples) = pairs.into_parts();
+    let parts = part_more(parts, values, partitions)?;
+    part_couples(parts, couples, partitions)
+}
+
+// Puts more pairs into the accumulators of a lifted channel.
 fn lift_emitted(
     alloc: Global,
     comb: Comb,
@@ -165,11 +183,9 @@ fn lift_emitted(
         IfOk result (λ all.
         AllZip (IsLifted comb) all.items (parted partitions (done ++ pairs))) }
 {
-    let (form, values) = pairs.into_parts();
-    match form {
-        Form::Whole => lift_more(alloc, comb, parts, values, partitions),
-        Form::Keys => lift_more_keys(alloc, comb, parts, values, &Value::Int(1), partitions),
-    }
+    let (values, couples) = pairs.into_parts();
+    let parts = lift_more(alloc, comb, parts, values, partitions)?;
+    lift_couples(alloc, comb, parts, couples, partitions)
 }
 
 /// What a channel gets that was given this.

@@ -67,7 +67,7 @@ fn call_on<F: Functions>(
         one_answer origin x (F.called functions.now function x) ≡ object_of made) }
 {
     match functions.call(alloc, function, &x) {
-        Ok(answer) => Ok(answered(origin, x, answer)),
+        Ok(answer) => answered(alloc, origin, x, answer),
         Err(CallFault::Trap(kind)) => Ok(Err(trap(origin, x, kind))),
         Err(CallFault::Memory) => Err(AllocError),
     }
@@ -84,22 +84,28 @@ fn trap(origin: u32, element: Value, kind: Kind) -> Trap
 }
 
 // What a call has emitted that did not trap.
-fn answered(origin: u32, x: Value, answer: Answer) -> Result<Value, Trap>
-    ensures { one_answer origin x (Ok (lists_of answer)) ≡ object_of result }
+fn answered(
+    alloc: Global,
+    origin: u32,
+    x: Value,
+    answer: Answer,
+) -> Result<Result<Value, Trap>, AllocError>
+    ensures { IfOk result (λ made. one_answer origin x (Ok (lists_of answer)) ≡ object_of made) }
 {
-    match only_emission(answer) {
-        Some(value) => Ok(value),
-        None => Err(trap(origin, x, Kind::NotOne)),
+    match only_emission(alloc, answer)? {
+        Some(value) => Ok(Ok(value)),
+        None => Ok(Err(trap(origin, x, Kind::NotOne))),
     }
 }
 
 // The one emission to the first output.
-fn only_emission(answer: Answer) -> Option<Value>
-    ensures { result ≡ only (or_none (slice_get (lists_of answer) 0)) }
+fn only_emission(alloc: Global, answer: Answer) -> Result<Option<Value>, AllocError>
+    ensures { IfOk result (λ one. one ≡ only (or_none (slice_get (lists_of answer) 0))) }
 {
     match answer {
-        Answer::One(value) => Some(value),
-        Answer::Lists(lists) => first_emission(lists),
+        Answer::One(value) => Ok(Some(value)),
+        Answer::Pair(couple) => Ok(Some(couple.into_value(alloc)?)),
+        Answer::Lists(lists) => Ok(first_emission(lists)),
     }
 }
 

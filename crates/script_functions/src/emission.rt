@@ -2,15 +2,20 @@
 // read off the body, with no scope and no list.
 #![tactic(auto, using(dofn_eval::proofs::MeaningLemmas::value_rules))]
 
-ghost use Rattle.std.specs.Prelude.{◌≡◌, ◌∷◌, [], IfOk, IfSome};
+ghost use Rattle.std.specs.Prelude.{◌≡◌, ◌×◌, ◌∷◌, [], IfOk, IfSome};
+ghost use Rattle.flume_value.specs.declared.value.Value.{Value as GhostValue};
+ghost use Rattle.bag_groups.specs.Pairs.{pair as pair_of};
 ghost use Rattle.dofn_eval.specs.Meaning.{value_of, values_of};
 ghost use Rattle.dofn_eval.specs.Operations.{field_in};
 ghost use Rattle.dofn_eval.specs.Outcome.{Gives};
 ghost use Rattle.dofn_eval.specs.Run.{means};
+ghost use Rattle.forest_steps.specs.Answers.{lists_of};
 ghost use Rattle.dofn_eval.specs.declared.stmt.Stmt.TheVariants as stmts;
 
 use dofn_eval::{Block, Expr, Fun, Stmt};
 use flume_value::{Pile, Value};
+use forest_steps::Answer;
+use key_order::Couple;
 use std::alloc::{AllocError, Global};
 
 /// What a function emits to its one output, where its body is one emission, of a part of the
@@ -19,9 +24,9 @@ pub(crate) fn one_emission(
     alloc: Global,
     fun: &Fun,
     element: &Value,
-) -> Result<Option<Value>, AllocError>
-    ensures { IfOk result (λ emission. IfSome emission (λ v.
-        means fun.now.outputs fun.now.body element.now ≡ Gives ((v ∷ []) ∷ []))) }
+) -> Result<Option<Answer>, AllocError>
+    ensures { IfOk result (λ emission. IfSome emission (λ answer.
+        means fun.now.outputs fun.now.body element.now ≡ Gives (lists_of answer))) }
 {
     if fun.outputs() != 1 {
         return Ok(None);
@@ -51,22 +56,49 @@ fn emitted_by(stmt: &Stmt) -> Option<&Expr>
     }
 }
 
-/// What an expression gives with the element in scope, where it is a part of that, a literal or a
-/// record of such.
-fn put_together(alloc: Global, e: &Expr, element: &Value) -> Result<Option<Value>, AllocError>
-    ensures { IfOk result (λ made. IfSome made (λ v.
-        value_of e.now (element.now ∷ []) ≡ Gives v)) }
+/// The emission of what an expression gives with the element in scope, where it is a part of that,
+/// a literal or a record of such. No record is made of two fields, which are a pair.
+fn put_together(alloc: Global, e: &Expr, element: &Value) -> Result<Option<Answer>, AllocError>
+    ensures { IfOk result (λ made. IfSome made (λ answer. (v : GhostValue)
+        × (value_of e.now (element.now ∷ []) ≡ Gives v)
+        × (lists_of answer ≡ (v ∷ []) ∷ []))) }
 {
     match e {
-        Expr::Record(parts) => match fields(alloc, parts.as_slice(), element)? {
-            Some(fields) => Ok(Some(Value::Rec(fields))),
-            None => Ok(None),
+        Expr::Record(parts) => match parts.as_slice() {
+            [key, value] => couple(alloc, key, value, element),
+            parts => match fields(alloc, parts, element)? {
+                Some(fields) => Ok(Some(Answer::One(Value::Rec(fields)))),
+                None => Ok(None),
+            },
         },
         _ => match part(e, element) {
-            Some(part) => Ok(Some(part.copy(alloc)?)),
+            Some(part) => Ok(Some(Answer::One(part.copy(alloc)?))),
             None => Ok(None),
         },
     }
+}
+
+/// The pair of two such parts, for which no record is made.
+fn couple(
+    alloc: Global,
+    key: &Expr,
+    value: &Expr,
+    element: &Value,
+) -> Result<Option<Answer>, AllocError>
+    ensures { IfOk result (λ made. IfSome made (λ answer. (k v : GhostValue)
+        × (value_of key.now (element.now ∷ []) ≡ Gives k)
+        × (value_of value.now (element.now ∷ []) ≡ Gives v)
+        × (lists_of answer ≡ (pair_of k v ∷ []) ∷ []))) }
+{
+    let Some(key) = part(key, element) else {
+        return Ok(None);
+    };
+    let Some(value) = part(value, element) else {
+        return Ok(None);
+    };
+    let key = key.copy(alloc)?;
+    let value = value.copy(alloc)?;
+    Ok(Some(Answer::Pair(Couple::of(key, value))))
 }
 
 /// What expressions give with the element in scope, where all are parts of that or literals.

@@ -78,7 +78,7 @@ fn call_function(alloc: Global, fun: &Fun, element: &Value) -> Result<Answer, Ca
     ensures trap { IfErr result (IsFaultIn (means fun.now.outputs fun.now.body element.now)) }
 {
     match one_emission(alloc, fun, element)? {
-        Some(value) => Ok(Answer::One(value)),
+        Some(answer) => Ok(answer),
         None => run_body(alloc, fun, element),
     }
 }

@@ -3,7 +3,6 @@ use Rattle.std.proofs.Common.{◌≡◌, ◌<◌, ◌+◌, ℕ, true, false, con
 use Rattle.std.specs.Prelude.{slice_set, ◌==◌}
 use Rattle.std.specs.List.{AllZip}
 use Rattle.std.specs.Option.{option_map_or}
-use Rattle.std.proofs.Math.ListN.{length-set}
 use Rattle.std.proofs.lemmas.List.Elements.{filter-append}
 use Rattle.std.proofs.lemmas.List.FromFn.{length-map-range_with_len, get_or-map-range_with_len, map-range_with_len_more}
 use Rattle.flume_value.specs.declared.value.Value.{Value}
@@ -63,10 +62,6 @@ parted_more n at pairs parts key pair old new e k is within read push =
     sym (part_more n p at pairs pair key k is
     ∙ ap (λ b. f p ++ cond b (pair ∷ []) []) other ∙ append-nil (f p)))
 
-pub length-set_is : (parts : List (List Value)) (at n : ℕ) (new : List Value) → length parts ≡ n
-    → length (slice_set parts at new) ≡ n
-length-set_is parts at n new e = length-set parts at new ∙ e
-
 -- ---- where none is left
 
 pub all_taken : (done rest whole : List Value) → done ++ rest ≡ whole → length rest ≡ 0
@@ -78,11 +73,6 @@ pub taken_on : (done rest next whole : List Value) (pair : Value) → rest ≡ p
     → done ++ rest ≡ whole → (done ++ pair ∷ []) ++ next ≡ whole
 taken_on done rest next whole pair is e =
     append_assoc done (pair ∷ []) next ∙ ap (λ l. done ++ l) (sym is) ∙ e
-
-pub some_left : (done rest next whole : List Value) (value : Value) → rest ≡ value ∷ next
-    → done ++ rest ≡ whole → 0 < length whole
-some_left [] rest next whole value is e = let same = ap length (sym is ∙ e) in omega arith
-some_left (d ∷ done) rest next whole value is e = let same = ap length e in omega arith
 
 -- ---- accumulators of a part
 

@@ -1,9 +1,8 @@
 // Pairs combined within the partitions of their keys, one pair after another.
-ghost use Rattle.std.specs.Prelude.{◌≡◌, ◌<◌, ◌++◌, ◌∷◌, [], All, IfOk, List, OnOk, length, map};
+ghost use Rattle.std.specs.Prelude.{◌≡◌, ◌<◌, ◌++◌, ◌∷◌, [], All, IfOk, List, OnOk, map};
 ghost use Rattle.std.specs.List.{AllZip};
 ghost use Rattle.flume_value.specs.declared.value.Value.{Value as GhostValue};
-ghost use Rattle.bag_groups.specs.Pairs.{pair as pair_of, pairs_of};
-ghost use Rattle.combine_table.specs.Combinations.{Suits};
+ghost use Rattle.bag_groups.specs.Pairs.{pairs_of};
 ghost use Rattle.partial_tables.specs.Lifted.{IsLifted, accumulators_of};
 ghost use Rattle.partial_tables.specs.Merges.{StandFor, IsCombinable};
 ghost use Rattle.partial_tables.specs.Runs.{AreTabled};
@@ -12,6 +11,7 @@ ghost use Rattle.shuffle_parts.specs.Partitions.{parted};
 use bag_groups::key;
 use combine_table::Comb;
 use flume_value::{Pile, Value, partition};
+use key_order::Couple;
 use partial_tables::{Lifting, Partial};
 use std::alloc::{AllocError, Global};
 
@@ -70,26 +70,25 @@ pub fn lift_more(
     Ok(parts)
 }
 
-/// Puts the pair of each of these keys with the value in, none of which is made.
-pub fn lift_more_keys(
+/// The same of pairs that have no record.
+pub fn lift_couples(
     alloc: Global,
     comb: Comb,
     mut parts: Vec<Lifting>,
-    keys: Vec<Value>,
-    value: &Value,
+    couples: Vec<Couple>,
     partitions: u32,
 ) -> Result<Vec<Lifting>, AllocError>
     requires some { 0 < partitions }
     requires stands { (done : List GhostValue)
         × AllZip (IsLifted comb) parts.items (parted partitions done) }
-    requires suits { 0 < length keys.items → Suits comb value.now }
+    requires pairs { All (IsCombinable comb) couples.items }
     ensures { (done : List GhostValue) →
         AllZip (IsLifted comb) parts.items (parted partitions done) →
-        IfOk result (λ all. AllZip (IsLifted comb) all.items
-        (parted partitions (done ++ map (λ key. pair_of key value.now) keys.items))) }
+        IfOk result (λ all.
+        AllZip (IsLifted comb) all.items (parted partitions (done ++ couples.items))) }
 {
-    for key in keys {
-        lift_key(alloc, comb, &mut parts, key, value, partitions)?;
+    for couple in couples {
+        lift_couple(alloc, comb, &mut parts, couple, partitions)?;
     }
     Ok(parts)
 }
@@ -146,25 +145,25 @@ fn lift_one(
     Ok(())
 }
 
-// Puts the pair of a key and a value into the accumulators of the partition of the key.
-fn lift_key(
+// The same of a pair that has no record.
+fn lift_couple(
     alloc: Global,
     comb: Comb,
     parts: &mut Vec<Lifting>,
-    key: Value,
-    value: &Value,
+    couple: Couple,
     partitions: u32,
 ) -> Result<(), AllocError>
     requires some { 0 < partitions }
     requires stands { (done : List GhostValue)
         × AllZip (IsLifted comb) parts.old.items (parted partitions done) }
-    requires suits { Suits comb value.now }
+    requires pair { IsCombinable comb couple }
     ensures { (done : List GhostValue) →
         AllZip (IsLifted comb) parts.old.items (parted partitions done) →
         OnOk result (AllZip (IsLifted comb) parts.new.items
-        (parted partitions (done ++ pair_of key value.now ∷ []))) }
+        (parted partitions (done ++ couple ∷ []))) }
 {
+    let (key, value) = couple.into_parts(alloc)?;
     let at = partition(&key, partitions);
-    parts[at as usize].put_parts(alloc, comb, key, value)?;
+    parts[at as usize].put_parts(alloc, comb, key, &value)?;
     Ok(())
 }

@@ -1,10 +1,9 @@
 // Pairs parted by their keys.
-ghost use Rattle.std.specs.Prelude.{◌≡◌, ◌<◌, ◌++◌, [], All, IfOk, List};
+ghost use Rattle.std.specs.Prelude.{◌≡◌, ◌<◌, ◌++◌, ◌∷◌, [], All, IfOk, List, OnOk};
 ghost use Rattle.flume_value.specs.declared.value.Value.{Value as GhostValue};
 ghost use Rattle.bag_groups.specs.Pairs.{IsPair};
 ghost use Rattle.shuffle_parts.specs.Partitions.{parted};
 
-use bag_groups::key;
 use flume_value::{Pile, Value, partition};
 use key_order::Couple;
 use std::alloc::{AllocError, Global};
@@ -50,8 +49,38 @@ pub fn part_more(
         IfOk result (λ all. all.items ≡ parted partitions (done ++ pairs.items)) }
 {
     for pair in pairs {
-        let at = partition(key(&pair), partitions);
-        parts[at as usize].push(Couple::new(pair))?;
+        put_in(&mut parts, Couple::new(pair), partitions)?;
     }
     Ok(parts)
+}
+
+/// The same of pairs that have no record.
+pub fn part_couples(
+    mut parts: Vec<Pile<Couple>>,
+    couples: Vec<Couple>,
+    partitions: u32,
+) -> Result<Vec<Pile<Couple>>, AllocError>
+    requires some { 0 < partitions }
+    requires stands { (done : List GhostValue) × (parts.items ≡ parted partitions done) }
+    requires pairs { All IsPair couples.items }
+    ensures { (done : List GhostValue) → parts.items ≡ parted partitions done →
+        IfOk result (λ all. all.items ≡ parted partitions (done ++ couples.items)) }
+{
+    for couple in couples {
+        put_in(&mut parts, couple, partitions)?;
+    }
+    Ok(parts)
+}
+
+// Puts a pair behind the others of the partition of its key.
+fn put_in(parts: &mut Vec<Pile<Couple>>, couple: Couple, partitions: u32) -> Result<(), AllocError>
+    requires some { 0 < partitions }
+    requires stands { (done : List GhostValue) × (parts.old.items ≡ parted partitions done) }
+    requires pair { IsPair couple }
+    ensures { (done : List GhostValue) → parts.old.items ≡ parted partitions done →
+        OnOk result (parts.new.items ≡ parted partitions (done ++ couple ∷ [])) }
+{
+    let at = partition(couple.key(), partitions);
+    parts[at as usize].push(couple)?;
+    Ok(())
 }

@@ -5,8 +5,7 @@ use Rattle.forest_steps.proofs.answer.derive.Goals as goal
 
 pub returns-in-Pair : goal.returns-in-Pair
 returns-in-Pair c w =
-    rw c.in-Pair.is (IfOk-weaker c.with_one.result _ _
-    (λ lists e. pair_answers w c.args.x ∙ ap Ok (sym e)) c.with_one.ensures)
+    rw c.in-Pair.is (pair_answers w c.args.x ∙ ap Ok (sym c.with_one.ensures))
 
 pub returns-in-TagLeft : goal.returns-in-TagLeft
 returns-in-TagLeft c w =
@@ -25,8 +24,7 @@ returns-in-Split c w =
 
 pub returns-in-Solo : goal.returns-in-Solo
 returns-in-Solo c w =
-    rw c.in-Solo.is (IfOk-weaker c.under_zero.result _ _
-    (λ lists e. solo_answers w c.args.x ∙ ap Ok (sym e)) c.under_zero.ensures)
+    rw c.in-Solo.is (solo_answers w c.args.x ∙ ap Ok (sym c.under_zero.ensures))
 
 pub returns-in-Spread : goal.returns-in-Spread
 returns-in-Spread c w =

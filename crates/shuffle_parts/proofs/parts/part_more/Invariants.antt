@@ -1,4 +1,4 @@
-use Rattle.std.proofs.Common.{◌≡◌, ◌++◌, List, length}
+use Rattle.std.proofs.Common.{◌≡◌, ◌++◌, List}
 use Rattle.flume_value.specs.declared.value.Value.{Value}
 use Rattle.shuffle_parts.specs.Partitions.{parted}
 use Rattle.shuffle_parts.proofs.parts.part_more.Given as goal
@@ -7,6 +7,5 @@ abbrev pub invariant-loop-pair : goal.invariant-loop-pair
 invariant-loop-pair l = record {
   stands : (done : List Value) → l.fn.parts.items ≡ parted l.partitions done
       → l.parts.items ≡ parted l.partitions (done ++ l.yielded);
-  count : length l.parts.items ≡ l.partitions;
   all : l.yielded ++ l.pair-iterator.rest.items ≡ l.fn.pairs.items;
 }

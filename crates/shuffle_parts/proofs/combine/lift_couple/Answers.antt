@@ -1,9 +1,11 @@
-use Rattle.std.proofs.Common.{[], get_or, arith}
-use Rattle.bag_groups.specs.Pairs.{pair}
+use Rattle.std.proofs.Common.{◌≡◌, ◌++◌, ◌∷◌, [], Some, arith, get_or, subst}
+use Rattle.flume_value.specs.declared.value.Value.{Value}
+use Rattle.bag_groups.specs.Pairs.{key_of}
 use Rattle.bag_groups.proofs.PairLemmas.{key_of-pair}
+use Rattle.partial_tables.specs.Lifted.{IsLifted}
 use Rattle.shuffle_parts.specs.Partitions.{parted}
 use Rattle.shuffle_parts.proofs.Lifting.{here, lifted_at, put_at}
-use Rattle.shuffle_parts.proofs.combine.lift_key.Goals as goal
+use Rattle.shuffle_parts.proofs.combine.lift_couple.Goals as goal
 
 pub index_mut-requires : goal.index_mut-requires
 index_mut-requires c =
@@ -32,9 +34,13 @@ returns c done stands =
     let at = c.partition-at.result in
     let parts = c.args.parts.now.items in
     let within = c.partition-at.ensures.within in
-    put_at c.args.comb n at done parts stands within c.put_parts.new.self
-    (pair c.args.key c.args.value.now) c.args.key (key_of-pair c.args.key c.args.value.now)
+    let key = c.in_ok-key.key in
+    let whole = c.in_ok-key.ensures in
+    let old = get_or (parted n done) at [] in
+    put_at c.args.comb n at done parts stands within c.put_parts.new.self c.args.couple key
+    (subst (λ (p : Value). key_of p ≡ Some key) whole (key_of-pair key c.in_ok-key.value))
     c.partition-at.ensures.part
-    (c.in_ok-put_parts.ensures (get_or (parted n done) at [])
+    (subst (λ (p : Value). IsLifted c.args.comb c.put_parts.new.self (old ++ p ∷ [])) whole
+    (c.in_ok-put_parts.ensures old
     (lifted_at c.args.comb n at done parts stands within c.index_mut.result.now
-    c.index_mut.ensures.value))
+    c.index_mut.ensures.value)))
