@@ -1,5 +1,5 @@
 -- Parts of a list of which all members are of a kind.
-use Rattle.std.proofs.Common.{◌≡◌, ◌×◌, List, [], ◌∷◌, ◌++◌, subst, sym}
+use Rattle.std.proofs.Common.{◌≡◌, List, [], ◌∷◌, ◌++◌, subst, sym}
 use Rattle.std.specs.Prelude.{All}
 use Rattle.std.proofs.lemmas.List.Elements.{All-cons, All-head, All-nil, All-tail}
 use Rattle.flume_value.specs.declared.value.Value.{Value}

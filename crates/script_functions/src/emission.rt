@@ -2,7 +2,7 @@
 // read off the body, with no scope and no list.
 #![tactic(auto, using(dofn_eval::proofs::MeaningLemmas::value_rules))]
 
-ghost use Rattle.std.specs.Prelude.{◌≡◌, ◌×◌, ◌∷◌, [], IfOk, IfSome};
+ghost use Rattle.std.specs.Prelude.{◌≡◌, ◌∷◌, [], IfOk, IfSome};
 ghost use Rattle.flume_value.specs.declared.value.Value.{Value as GhostValue};
 ghost use Rattle.bag_groups.specs.Pairs.{pair as pair_of};
 ghost use Rattle.dofn_eval.specs.Meaning.{value_of, values_of};
