@@ -1,2 +1,3 @@
 pub mod Deriving
+pub mod Once
 pub mod Sizes

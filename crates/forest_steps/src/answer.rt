@@ -42,6 +42,7 @@ pub(crate) fn answer<F: Functions>(
 }
 
 /// What a step answers of an element that no other step reads: a derived function takes it apart.
+#[inline(always)]
 pub(crate) fn answer_moved<F: Functions>(
     alloc: Global,
     functions: &F,
@@ -105,6 +106,7 @@ fn combine(alloc: Global, origin: u32, comb: Comb, x: &Value) -> Result<Answer, 
 }
 
 /// What a derived function answers.
+#[inline(always)]
 fn derive(alloc: Global, does: Does, x: Value) -> Result<Answer, AllocError>
     requires { IsDerived does }
     ensures { (w : World) → IfOk result (λ answer. called w does x ≡ Ok (lists_of answer)) }

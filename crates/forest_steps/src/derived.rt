@@ -14,13 +14,15 @@ use key_order::Couple;
 use std::alloc::{AllocError, Global};
 
 /// The element with the number 1.
+#[inline(always)]
 pub(crate) fn with_one(x: Value) -> Answer
     ensures { lists_of result ≡ with_one x ∷ [] }
 {
-    Answer::Pair(Couple::of(x, Value::Int(1)))
+    Answer::Pair(Couple::of_int(x, 1))
 }
 
 /// The number 0 with the element.
+#[inline(always)]
 pub(crate) fn under_zero(x: Value) -> Answer
     ensures { lists_of result ≡ under_zero x ∷ [] }
 {

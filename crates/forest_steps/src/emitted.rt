@@ -95,6 +95,7 @@ impl Emitted {
     }
 
     /// Puts a pair behind the others.
+    #[inline(always)]
     pub(crate) fn push_couple(&mut self, couple: Couple) -> Result<(), AllocError>
         ensures { OnOk result (self.new ≡ self.old ++ couple ∷ []) }
     {

@@ -24,6 +24,7 @@ mod emissions;
 mod emitted;
 mod fault;
 mod functions;
+mod once;
 mod outputs;
 mod sizes;
 mod visit;

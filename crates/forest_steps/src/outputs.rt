@@ -57,6 +57,7 @@ impl Outputs {
     }
 
     /// Counts so many elements more at a place.
+    #[inline(always)]
     pub(crate) fn count(&mut self, at: usize, more: usize)
         ensures { self.new ≡ counted at more self.old }
     {
@@ -102,6 +103,7 @@ impl Outputs {
     }
 
     /// Puts a pair behind the list of the output, where it is kept.
+    #[inline(always)]
     pub(crate) fn keep_couple(
         &mut self,
         number: Option<u32>,

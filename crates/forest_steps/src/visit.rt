@@ -12,6 +12,7 @@ use crate::answer::{answer, answer_moved};
 use crate::emissions::{Answer, one_in_lists};
 use crate::fault::StepFault;
 use crate::functions::Functions;
+use crate::once::{keep_once, pairs_alone};
 use crate::outputs::Outputs;
 use exec_graph::{Output, Step};
 use flume_value::{Items, Pile, Value};
@@ -146,6 +147,7 @@ fn visit_step<F: Functions>(
 
 /// What a step answered, to its outputs. It gives the place behind them.
 #[cycle(visit)]
+#[inline(always)]
 fn visit_answer<F: Functions>(
     alloc: Global,
     functions: &F,
@@ -172,6 +174,7 @@ fn visit_answer<F: Functions>(
 /// One pair that a step has answered, to its first output. Where no step reads it, it is kept as it
 /// is, and else a record is made of it.
 #[cycle(visit)]
+#[inline(always)]
 fn visit_couple<F: Functions>(
     alloc: Global,
     functions: &F,
@@ -302,6 +305,10 @@ fn visit_moved<F: Functions>(
     ensures { IsRun (run (world_of (F.called functions.now)) sizes.now at (limb step.now Bare)
         x outputs.old) outputs.new result }
 {
+    if pairs_alone(step) {
+        keep_once(step, at, x, outputs)?;
+        return Ok(at);
+    }
     let answered = answer_moved(alloc, functions, step.origin, step.does, x)?;
     visit_answer(alloc, functions, sizes, step, at, answered, outputs)
 }

@@ -51,6 +51,7 @@ impl Couple {
     }
 
     /// The pair of these, of which a side of an either is taken out of its box. It takes no memory.
+    #[inline(always)]
     pub fn of(key: Value, value: Value) -> Couple
         ensures { result ≡ pair_of key value }
     {
@@ -60,7 +61,19 @@ impl Couple {
         }
     }
 
+    /// The pair of the key and an int. It takes no memory.
+    #[inline(always)]
+    pub fn of_int(key: Value, value: i64) -> Couple
+        ensures { result ≡ pair_of key (values.Int value) }
+    {
+        Couple {
+            key,
+            value: Sided::Int(Side::Plain, value),
+        }
+    }
+
     /// The pair of the key and the left of the value. It takes no memory.
+    #[inline(always)]
     pub fn of_left(key: Value, value: Value) -> Couple
         ensures { result ≡ pair_of key (values.Left value) }
     {
@@ -71,6 +84,7 @@ impl Couple {
     }
 
     /// The pair of the key and the right of the value. It takes no memory.
+    #[inline(always)]
     pub fn of_right(key: Value, value: Value) -> Couple
         ensures { result ≡ pair_of key (values.Right value) }
     {
@@ -81,6 +95,7 @@ impl Couple {
     }
 
     /// The key.
+    #[inline(always)]
     pub fn key(&self) -> &Value
         ensures { key_of self.now ≡ Some result.now }
     {
@@ -104,6 +119,7 @@ impl Couple {
     }
 
     /// Its key and its value.
+    #[inline(always)]
     pub fn into_parts(self, alloc: Global) -> Result<(Value, Value), AllocError>
         ensures { IfOk result (λ parts. pair_of parts.0 parts.1 ≡ self) }
     {

@@ -33,6 +33,7 @@ pub(crate) enum Sided {
 const _: () = prove!(size_of::<Sided>() == size_of::<Value>());
 
 /// The value without the box of its side. It takes no memory.
+#[inline(always)]
 pub(crate) fn unboxed(value: Value) -> Sided
     ensures { boxed result ≡ value }
 {
@@ -44,6 +45,7 @@ pub(crate) fn unboxed(value: Value) -> Sided
 }
 
 /// The value on its side. It takes no memory.
+#[inline(always)]
 pub(crate) fn on_side(side: Side, value: Value) -> Sided
     ensures { boxed result ≡ sided side value }
 {
@@ -70,10 +72,12 @@ impl Sided {
     }
 
     /// The value, in the box of its side.
+    #[inline(always)]
     pub(crate) fn into_value(self, alloc: Global) -> Result<Value, AllocError>
         ensures { IfOk result (λ value. value ≡ boxed self) }
     {
         match self {
+            Sided::Int(Side::Plain, n) => Ok(Value::Int(n)),
             Sided::Int(side, n) => put_on(alloc, side, Value::Int(n)),
             Sided::Bool(side, b) => put_on(alloc, side, Value::Bool(b)),
             Sided::Text(side, text) => put_on(alloc, side, Value::Text(text)),
@@ -119,6 +123,7 @@ impl Sided {
 }
 
 /// The value, put on its side.
+#[inline(always)]
 fn put_on(alloc: Global, side: Side, value: Value) -> Result<Value, AllocError>
     ensures { IfOk result (λ v. v ≡ sided side value) }
 {

@@ -50,6 +50,7 @@ impl Lifting {
     }
 
     /// Puts the pair of a key and a value in, which is not made: the key goes into the table.
+    #[inline(always)]
     pub fn put_parts(
         &mut self,
         alloc: Global,
@@ -151,6 +152,7 @@ fn put_copy(
 }
 
 // Adds an accumulator to the table. If that is full, what it has goes behind the others first.
+#[inline(always)]
 fn put(
     alloc: Global,
     table: &mut Partials,

@@ -69,6 +69,7 @@ impl Partials {
 
     /// Adds an accumulator. It is merged with that of its key, or stands last where the key is
     /// new; a new key is refused exactly where there is no room.
+    #[inline(always)]
     pub fn add(&mut self, alloc: Global, key: Value, acc: Value) -> Result<(), AddFault>
         requires shape { HasShape self.old.comb acc }
         ensures added { OnOk result
@@ -234,6 +235,7 @@ fn put_last(table: &mut IndexMap<Value, Value>, key: Value, acc: Value) -> Resul
 }
 
 // Puts an accumulator in, merged with that of its key where there is one: one look-up serves both.
+#[inline(always)]
 fn put_or_merge(
     alloc: Global,
     comb: Comb,
@@ -258,6 +260,7 @@ fn put_or_merge(
 }
 
 // Merges the accumulator of a slot with the one that stood there before it.
+#[inline(always)]
 fn merge_behind(
     alloc: Global,
     comb: Comb,
@@ -282,6 +285,7 @@ fn merge_behind(
 }
 
 // Merges the accumulator of a slot with another. Numbers are added where they stand.
+#[inline(always)]
 fn merge_into(alloc: Global, comb: Comb, slot: &mut Value, acc: Value) -> Result<(), AllocError>
     requires slot { HasShape comb slot.old }
     requires acc { HasShape comb acc }

@@ -146,6 +146,7 @@ fn lift_one(
 }
 
 // The same of a pair that has no record.
+#[inline(always)]
 fn lift_couple(
     alloc: Global,
     comb: Comb,

@@ -73,6 +73,7 @@ pub fn part_couples(
 }
 
 // Puts a pair behind the others of the partition of its key.
+#[inline(always)]
 fn put_in(parts: &mut Vec<Pile<Couple>>, couple: Couple, partitions: u32) -> Result<(), AllocError>
     requires some { 0 < partitions }
     requires stands { (done : List GhostValue) × (parts.old.items ≡ parted partitions done) }
