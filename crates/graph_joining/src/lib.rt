@@ -14,7 +14,6 @@ mod joining;
 mod moves;
 mod nodes;
 mod refits;
-mod rereading;
 
 pub use joining::{join_kid, join_sibling, kid_under};
 pub use nodes::{find_node, input_at};

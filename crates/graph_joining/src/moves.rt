@@ -1,11 +1,11 @@
 // Where what is read is read then.
 ghost use Rattle.std.specs.Prelude.{◌≡◌, IfOk};
 ghost use Rattle.exec_graph.specs.Meaning.{place};
-ghost use Rattle.graph_joining.specs.inner.Apart.{place_by, rule_of};
+ghost use Rattle.graph_joining.specs.inner.Apart.{place_by};
 ghost use Rattle.graph_walks.specs.Halves.{half_of};
 
 use exec_graph::Place;
-use graph_walks::{Half, half_number};
+use graph_walks::{Half, Moves, half_number};
 use std::alloc::AllocError;
 
 /// The outputs of two nodes are those of one, under even numbers and under odd ones.
@@ -49,12 +49,13 @@ fn half_place(node: u32, half: Half, out: u32) -> Result<Place, AllocError>
     Ok(Place { node, out: number })
 }
 
-impl Placed {
-    /// Where the collection is.
+impl Moves for Placed {
+    ghost use Rattle.graph_joining.specs.inner.Apart.{rule_of};
+
+    ghost moved = { rule_of };
+
     #[inline(always)]
-    pub(crate) fn place_of(&self, c: Place) -> Result<Place, AllocError>
-        ensures { IfOk result (λ d. d ≡ rule_of self.now c) }
-    {
+    fn place_of(&self, c: Place) -> Result<Place, AllocError> {
         let d = self.apart.place_of(c)?;
         if d.node != self.apart.number {
             return Ok(d);

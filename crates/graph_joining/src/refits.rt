@@ -13,10 +13,9 @@ ghost use Rattle.graph_joining.specs.inner.Refits.{parted, refitted_by};
 use crate::flags::read_flags;
 use crate::moves::{Apart, Placed};
 use crate::nodes::{emptied, input_at, taken_out, with_node};
-use crate::rereading::{reread_nodes, reread_places};
 use exec_graph::{Graph, Node, Place, Roots, Step};
 use flume_value::Pile;
-use graph_walks::{number_table, renumber};
+use graph_walks::{number_table, renumber, reread_nodes, reread_places};
 use std::alloc::{AllocError, Global};
 
 /// A graph in which one Pdo is to stand for two, and the steps of both.

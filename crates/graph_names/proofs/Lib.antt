@@ -1,4 +1,3 @@
-mod Unchanged
 mod KindLemmas
 pub mod SpotLemmas
 mod GraphLemmas

@@ -2,5 +2,4 @@ pub mod Kinds
 pub mod Moves
 pub mod Naming
 pub mod Nodes
-pub mod Numbers
 pub mod Spots

@@ -15,12 +15,11 @@ ghost use Rattle.graph_names.specs.inner.Spots.{first_spot, spot_in};
 
 use crate::kinds::pdos_of;
 use crate::moves::Move;
-use crate::naming::{Naming, name_steps};
-use crate::numbering::number_forest;
-use crate::rereading::{reread_nodes, reread_places};
+use crate::naming::Naming;
 use crate::spots::note_outs;
 use exec_graph::{Entry, Graph, Node, Place, Roots};
 use flume_value::Pile;
+use graph_walks::{number_forest, relabel, reread_nodes, reread_places};
 use std::alloc::{AllocError, Global};
 use std::collections::HashMap;
 
@@ -88,10 +87,12 @@ fn name_node(by: Naming, node: &mut Node) -> Result<(), AllocError>
     }
 }
 
+#[tactic(auto, using(graph_walks::proofs::Relabeling::grown_named))]
 fn name_roots(by: Naming, roots: &mut Roots) -> Result<(), AllocError>
     ensures { OnOk result (roots.new ≡ named_by (name_of by) roots.old) }
 {
-    name_steps(by, &mut roots.steps)
+    relabel(&by, &mut roots.steps)?;
+    Ok(())
 }
 
 /// The graph without names. It takes time in proportion to the graph's size.

@@ -9,8 +9,6 @@ mod graphs;
 mod kinds;
 mod moves;
 mod naming;
-mod numbering;
-mod rereading;
 mod spots;
 
 pub use graphs::{named, unnamed};

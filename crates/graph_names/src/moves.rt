@@ -4,6 +4,7 @@ ghost use Rattle.graph_names.specs.inner.Moves as spec;
 
 use crate::naming::{Naming, name_number};
 use exec_graph::Place;
+use graph_walks::Moves;
 use std::alloc::AllocError;
 use std::collections::HashMap;
 
@@ -17,11 +18,12 @@ pub(crate) enum Move {
     ToPlaces(HashMap<u32, Place>),
 }
 
-impl Move {
-    /// Where the collection is by the rule.
-    pub(crate) fn place_of(&self, c: Place) -> Result<Place, AllocError>
-        ensures { IfOk result (λ d. d ≡ spec.move_of self.now c) }
-    {
+impl Moves for Move {
+    ghost use Rattle.graph_names.specs.inner.Moves.{move_of};
+
+    ghost moved = { move_of };
+
+    fn place_of(&self, c: Place) -> Result<Place, AllocError> {
         match self {
             Move::ToNames(pdos, next) => named_place(pdos, *next, c),
             Move::ToPlaces(places) => Ok(found_place(places, c)),

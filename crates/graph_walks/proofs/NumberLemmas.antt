@@ -1,11 +1,8 @@
 -- Outputs numbered one behind the other, as the steps are held.
-use Rattle.std.proofs.Common.{◌≡◌, ℕ, suc, ◌+◌, Bool, List, [], ◌∷◌, ◌++◌, map, length, Option, Some, None, refl, sym, ap, ap₂, ◌∙◌, arith, append_assoc, length-append}
+use Rattle.std.proofs.Common.{◌≡◌, ℕ, suc, ◌+◌, List, [], ◌∷◌, ◌++◌, length, Option, Some, None, refl, sym, ap, ap₂, ◌∙◌, arith, append_assoc, length-append}
 use Rattle.graph_laws.specs.of_exec_graph.Forests.{Branch, Forest, Bare, Grow, Twig, after, after_out, grown, label_at, limb, new_label, numbered, twigs}
-use Rattle.graph_laws.specs.Kids.{kept_by, out_kept}
 use Rattle.graph_walks.specs.Outs.{out_list, outs}
 use Rattle.graph_walks.specs.inner.Numbering.{after_branch, after_twig, after_twigs, branch_outs, branches_outs, numbered_branch, numbered_branches, numbered_twig, numbered_twigs, twig_outs, twigs_outs}
-use Rattle.graph_walks.specs.inner.Relabels.{relabelled_branch}
-use Rattle.graph_walks.proofs.Relabeling.{grown_kept}
 
 -- ---- the forest
 
@@ -25,13 +22,6 @@ grown_numbered n (b ∷ bs) =
     ap (λ (f : Forest). limb (numbered_branch n b) f) (grown_numbered (after_branch n b) bs)
     ∙ sym (twigs_numbered b n 0 n (b.first ∷ b.more) (grown bs))
 
-pub grown_renumbered : (keep : ℕ → Bool) (n : ℕ) (bs : List Branch)
-    → grown (numbered_branches n (map (relabelled_branch (out_kept keep)) bs))
-    ≡ numbered n (kept_by keep (grown bs))
-grown_renumbered keep n bs =
-    grown_numbered n (map (relabelled_branch (out_kept keep)) bs)
-    ∙ ap (numbered n) (grown_kept keep bs)
-
 -- ---- its outputs
 
 outs_twigs : (b : Branch) (k : ℕ) (ts : List Twig) (rest : Forest)
@@ -47,11 +37,6 @@ outs_grown [] = refl
 outs_grown (b ∷ bs) =
     ap (λ ns. branch_outs b ++ ns) (outs_grown bs)
     ∙ sym (outs_twigs b 0 (b.first ∷ b.more) (grown bs))
-
-pub outs_kept : (keep : ℕ → Bool) (bs : List Branch)
-    → branches_outs (map (relabelled_branch (out_kept keep)) bs) ≡ outs (kept_by keep (grown bs))
-outs_kept keep bs =
-    outs_grown (map (relabelled_branch (out_kept keep)) bs) ∙ ap outs (grown_kept keep bs)
 
 -- ---- how many they are
 

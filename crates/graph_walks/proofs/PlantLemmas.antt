@@ -1,10 +1,10 @@
 -- Roots on an output, as the steps are held.
-use Rattle.std.proofs.Common.{◌≡◌, ℕ, suc, Bool, true, false, cond, ◌||◌, List, [], ◌∷◌, refl, sym, ap, ap₂, ◌∙◌}
-use Rattle.graph_laws.specs.of_exec_graph.Forests.{Branch, Forest, Bare, Grow, Twig, grown, label_at, limb, twigs}
+use Rattle.std.proofs.Common.{◌≡◌, ℕ, suc, Bool, true, false, cond, ◌||◌, List, [], ◌∷◌, Option, refl, sym, ap, ap₂, ◌∙◌}
+use Rattle.graph_laws.specs.of_exec_graph.Forests.{Branch, Forest, Bare, Grow, Twig, grown, label_at, limb, twigs, with_out}
 use Rattle.graph_laws.specs.of_exec_graph.Meaning.{OutsDiffer, has_out, is_out}
 use Rattle.graph_laws.proofs.of_exec_graph.Bools.{or_false}
 use Rattle.graph_laws.specs.Joining.{beside, grafted}
-use Rattle.graph_walks.specs.inner.Plants.{on_branch, on_branches, on_twig, on_twigs, planted, planted_branch, planted_branches, planted_twigs}
+use Rattle.graph_walks.specs.inner.Plants.{on_branch, on_branches, on_twig, on_twigs, put_branch, put_branches, put_in, put_out, put_twigs}
 
 -- ---- whether an output is there
 
@@ -29,47 +29,47 @@ has_grown j (b ∷ bs) =
 -- ---- the forest of the steps
 
 -- the outputs of a step that differs in its outputs alone
-twigs_stay : (j : ℕ) (g : Forest) (b : Branch) (n : ℕ) (ts : List Twig) (rest : Forest)
-    → twigs b n ts rest ≡ twigs (planted_branch j g b) n ts rest
-twigs_stay j g b n [] rest = refl
-twigs_stay j g b n (t ∷ ts) rest =
-    ap (λ (f : Forest). Grow (label_at b n t) t.kids f) (twigs_stay j g b (suc n) ts rest)
+twigs_stay : (j : ℕ) (k : Bool) (g : Forest) (b : Branch) (n : ℕ) (ts : List Twig)
+    (rest : Forest) → twigs b n ts rest ≡ twigs (put_branch j k g b) n ts rest
+twigs_stay j k g b n [] rest = refl
+twigs_stay j k g b n (t ∷ ts) rest =
+    ap (λ (f : Forest). Grow (label_at b n t) t.kids f) (twigs_stay j k g b (suc n) ts rest)
 
-twigs_planted : (j : ℕ) (g : Forest) (b : Branch) (n : ℕ) (ts : List Twig) (rest : Forest)
-    → planted j g (twigs b n ts rest)
-    ≡ twigs (planted_branch j g b) n (planted_twigs j g ts)
-    (cond (on_twigs j ts) rest (planted j g rest))
-twigs_planted j g b n [] rest = refl
-twigs_planted j g b n (t ∷ ts) rest =
-    ap (λ (f : Forest). Grow (label_at b n t)
-    (cond (is_out t.out j) (beside t.kids g) (planted j g t.kids)) f)
-    (by (on_twig j t) (twigs_planted j g b (suc n) ts rest))
+twigs_put : (j : ℕ) (k : Bool) (g : Forest) (b : Branch) (n : ℕ) (ts : List Twig)
+    (rest : Forest) → put_in j k g (twigs b n ts rest)
+    ≡ twigs (put_branch j k g b) n (put_twigs j k g ts)
+    (cond (on_twigs j ts) rest (put_in j k g rest))
+twigs_put j k g b n [] rest = refl
+twigs_put j k g b n (t ∷ ts) rest =
+    ap (λ (f : Forest). Grow (with_out (put_out j k t.out) (label_at b n t))
+    (cond (is_out t.out j) (beside t.kids g) (put_in j k g t.kids)) f)
+    (by (on_twig j t) (twigs_put j k g b (suc n) ts rest))
   where
-    by : (x : Bool) → planted j g (twigs b (suc n) ts rest)
-        ≡ twigs (planted_branch j g b) (suc n) (planted_twigs j g ts)
-        (cond (on_twigs j ts) rest (planted j g rest))
-        → cond x (twigs b (suc n) ts rest) (planted j g (twigs b (suc n) ts rest))
-        ≡ twigs (planted_branch j g b) (suc n) (cond x ts (planted_twigs j g ts))
-        (cond (x || on_twigs j ts) rest (planted j g rest))
-    by true h = twigs_stay j g b (suc n) ts rest
+    by : (x : Bool) → put_in j k g (twigs b (suc n) ts rest)
+        ≡ twigs (put_branch j k g b) (suc n) (put_twigs j k g ts)
+        (cond (on_twigs j ts) rest (put_in j k g rest))
+        → cond x (twigs b (suc n) ts rest) (put_in j k g (twigs b (suc n) ts rest))
+        ≡ twigs (put_branch j k g b) (suc n) (cond x ts (put_twigs j k g ts))
+        (cond (x || on_twigs j ts) rest (put_in j k g rest))
+    by true h = twigs_stay j k g b (suc n) ts rest
     by false h = h
 
-pub grown_planted : (j : ℕ) (g : Forest) (bs : List Branch)
-    → grown (planted_branches j g bs) ≡ planted j g (grown bs)
-grown_planted j g [] = refl
-grown_planted j g (b ∷ bs) =
-    ap (λ (f : Forest). limb (planted_branch j g b) f) (by (on_branch j b) (grown_planted j g bs))
-    ∙ sym (twigs_planted j g b 0 (b.first ∷ b.more) (grown bs))
+pub grown_put : (j : ℕ) (k : Bool) (g : Forest) (bs : List Branch)
+    → grown (put_branches j k g bs) ≡ put_in j k g (grown bs)
+grown_put j k g [] = refl
+grown_put j k g (b ∷ bs) =
+    ap (λ (f : Forest). limb (put_branch j k g b) f)
+    (by (on_branch j b) (grown_put j k g bs))
+    ∙ sym (twigs_put j k g b 0 (b.first ∷ b.more) (grown bs))
   where
-    by : (x : Bool) → grown (planted_branches j g bs) ≡ planted j g (grown bs)
-        → grown (cond x bs (planted_branches j g bs))
-        ≡ cond x (grown bs) (planted j g (grown bs))
+    by : (x : Bool) → grown (put_branches j k g bs) ≡ put_in j k g (grown bs)
+        → grown (cond x bs (put_branches j k g bs)) ≡ cond x (grown bs) (put_in j k g (grown bs))
     by true h = refl
     by false h = h
 
 -- ---- on one output at most
 
-grafted_none : (j : ℕ) (g f : Forest) → has_out j f ≡ false → f ≡ grafted j g f
+pub grafted_none : (j : ℕ) (g f : Forest) → has_out j f ≡ false → f ≡ grafted j g f
 grafted_none j g Bare h = refl
 grafted_none j g (Grow l kids rest) h =
     let a = or_false (is_out l.out j) (has_out j kids || has_out j rest) h in
@@ -78,15 +78,27 @@ grafted_none j g (Grow l kids rest) h =
     ∙ ap (λ (c : Bool). cond c (Grow l (beside kids g) rest)
     (Grow l (grafted j g kids) (grafted j g rest))) (sym a.0)
 
-planted_grafted : (j : ℕ) (g f : Forest) → OutsDiffer f → planted j g f ≡ grafted j g f
-planted_grafted j g Bare d = refl
-planted_grafted j g (Grow l kids rest) d =
-    by (is_out l.out j) (has_out j kids) refl (planted_grafted j g kids d.2)
-    (planted_grafted j g rest d.3)
+-- the output stays where it is kept
+out_stays : (j : ℕ) (o : Option ℕ) → put_out j true o ≡ o
+out_stays j o = by (is_out o j)
   where
-    by : (a b : Bool) → has_out j kids ≡ b → planted j g kids ≡ grafted j g kids
-        → planted j g rest ≡ grafted j g rest
-        → Grow l (cond a (beside kids g) (planted j g kids)) (cond (a || b) rest (planted j g rest))
+    by : (b : Bool) → cond b o o ≡ o
+    by true = refl
+    by false = refl
+
+put_grafted : (j : ℕ) (g f : Forest) → OutsDiffer f → put_in j true g f ≡ grafted j g f
+put_grafted j g Bare d = refl
+put_grafted j g (Grow l kids rest) d =
+    ap (λ (o : Option ℕ). Grow (with_out o l)
+    (cond (is_out l.out j) (beside kids g) (put_in j true g kids))
+    (cond (is_out l.out j || has_out j kids) rest (put_in j true g rest))) (out_stays j l.out)
+    ∙ by (is_out l.out j) (has_out j kids) refl (put_grafted j g kids d.2)
+    (put_grafted j g rest d.3)
+  where
+    by : (a b : Bool) → has_out j kids ≡ b → put_in j true g kids ≡ grafted j g kids
+        → put_in j true g rest ≡ grafted j g rest
+        → Grow l (cond a (beside kids g) (put_in j true g kids))
+        (cond (a || b) rest (put_in j true g rest))
         ≡ cond a (Grow l (beside kids g) rest) (Grow l (grafted j g kids) (grafted j g rest))
     by true b e k r = refl
     by false true e k r =
@@ -94,5 +106,5 @@ planted_grafted j g (Grow l kids rest) d =
     by false false e k r = ap₂ (λ (m o : Forest). Grow l m o) k r
 
 pub grown_grafted : (j : ℕ) (g : Forest) (bs : List Branch) → OutsDiffer (grown bs)
-    → grown (planted_branches j g bs) ≡ grafted j g (grown bs)
-grown_grafted j g bs d = grown_planted j g bs ∙ planted_grafted j g (grown bs) d
+    → grown (put_branches j true g bs) ≡ grafted j g (grown bs)
+grown_grafted j g bs d = grown_put j true g bs ∙ put_grafted j g (grown bs) d

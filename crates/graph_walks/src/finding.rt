@@ -58,7 +58,8 @@ fn on_output(one: &Output, output: u32) -> bool
     false
 }
 
-pub(crate) fn is_out(number: Option<u32>, output: u32) -> bool
+/// Whether an output is kept, under that number.
+pub fn is_out(number: Option<u32>, output: u32) -> bool
     ensures { result ≡ is_out number output }
 {
     match number {

@@ -1,12 +1,12 @@
-// Some outputs alone, under numbers from 0 on.
+// Outputs under numbers from 0 on, all or some alone.
 ghost use Rattle.std.specs.Prelude.{◌≡◌, ◌++◌, IfOk, OnOk, length, map};
 ghost use Rattle.graph_laws.specs.of_exec_graph.Forests.{grown, new_out, numbered};
 ghost use Rattle.graph_laws.specs.of_exec_graph.Twigs.{twig};
 ghost use Rattle.graph_laws.specs.Kids.{kept_by, out_kept};
 ghost use Rattle.graph_walks.specs.Outs.{flag, out_list, outs};
 ghost use Rattle.graph_walks.specs.inner.Numbering as spec;
-ghost use Rattle.graph_walks.specs.inner.Relabels.{relabelled_branch, relabelled_twig};
 
+use crate::labels::{Labels, relabel};
 use graph_laws::exec_graph::{Output, Step};
 use std::alloc::{AllocError, Global};
 
@@ -18,75 +18,36 @@ pub fn renumber(alloc: Global, keep: &[bool], steps: &mut Vec<Step>) -> Result<V
     ensures outs { IfOk result (λ v.
         v.items ≡ outs (kept_by (flag keep.now) (grown steps.old.items))) }
 {
-    let mut outs = Vec::new(alloc);
-    number_steps(keep, steps, &mut outs)?;
+    let kept = Kept { flags: keep };
+    relabel(&kept, steps)?;
+    let outs = number_forest(alloc, steps)?;
     Ok(outs)
 }
 
-fn number_steps(keep: &[bool], steps: &mut Vec<Step>, outs: &mut Vec<u32>) -> Result<(), AllocError>
-    ensures steps { OnOk result (steps.new.items ≡ spec.numbered_branches (length outs.old.items)
-        (map (relabelled_branch (out_kept (flag keep.now))) steps.old.items)) }
-    ensures outs { OnOk result (outs.new.items ≡ outs.old.items ++ spec.branches_outs
-        (map (relabelled_branch (out_kept (flag keep.now))) steps.old.items)) }
-{
-    for i in 0..steps.len() {
-        number_step(keep, &mut steps[i], outs)?;
-    }
-    Ok(())
+/// The outputs alone whose flag stands.
+#[derive(Clone, Copy, Drop)]
+struct Kept<'a> {
+    flags: &'a [bool],
 }
 
-#[cycle(number)]
-fn number_step(keep: &[bool], step: &mut Step, outs: &mut Vec<u32>) -> Result<(), AllocError>
-    ensures step { OnOk result (step.new ≡ spec.numbered_branch (length outs.old.items)
-        (relabelled_branch (out_kept (flag keep.now)) step.old)) }
-    ensures outs { OnOk result (outs.new.items ≡ outs.old.items ++ spec.branch_outs
-        (relabelled_branch (out_kept (flag keep.now)) step.old)) }
-{
-    number_output(keep, &mut step.first, outs)?;
-    number_outputs(keep, &mut step.more, outs)?;
-    Ok(())
-}
+impl<'a> Labels for Kept<'a> {
+    ghost use Rattle.graph_laws.specs.Kids.{out_kept};
+    ghost use Rattle.graph_walks.specs.Outs.{flag};
 
-#[cycle(number)]
-fn number_outputs(
-    keep: &[bool],
-    outputs: &mut Vec<Output>,
-    outs: &mut Vec<u32>,
-) -> Result<(), AllocError>
-    ensures outputs { OnOk result (map twig outputs.new.items
-        ≡ spec.numbered_twigs (length outs.old.items)
-        (map (relabelled_twig (out_kept (flag keep.now))) (map twig outputs.old.items))) }
-    ensures outs { OnOk result (outs.new.items ≡ outs.old.items ++ spec.twigs_outs
-        (map (relabelled_twig (out_kept (flag keep.now))) (map twig outputs.old.items))) }
-{
-    for i in 0..outputs.len() {
-        number_output(keep, &mut outputs[i], outs)?;
-    }
-    Ok(())
-}
+    ghost label_of = { λ kept. out_kept (flag kept.flags.now) };
 
-#[cycle(number)]
-fn number_output(keep: &[bool], output: &mut Output, outs: &mut Vec<u32>) -> Result<(), AllocError>
-    ensures output { OnOk result (twig output.new ≡ spec.numbered_twig (length outs.old.items)
-        (relabelled_twig (out_kept (flag keep.now)) (twig output.old))) }
-    ensures outs { OnOk result (outs.new.items ≡ outs.old.items ++ spec.twig_outs
-        (relabelled_twig (out_kept (flag keep.now)) (twig output.old))) }
-{
-    output.number = next_number(kept_out(keep, output.number), outs)?;
-    let kids = &mut output.kids;
-    for i in 0..kids.len() {
-        number_step(keep, &mut kids[i], outs)?;
+    fn label(&self, former: Option<u32>) -> Result<Option<u32>, AllocError> {
+        Ok(kept_out(self.flags, former))
     }
-    Ok(())
 }
 
 /// The number, if its flag stands.
-fn kept_out(keep: &[bool], number: Option<u32>) -> Option<u32>
-    ensures { result ≡ out_kept (flag keep.now) number }
+fn kept_out(flags: &[bool], number: Option<u32>) -> Option<u32>
+    ensures { result ≡ out_kept (flag flags.now) number }
 {
     match number {
         Some(number) => {
-            if is_kept(keep, number) {
+            if is_kept(flags, number) {
                 Some(number)
             } else {
                 None
@@ -96,13 +57,75 @@ fn kept_out(keep: &[bool], number: Option<u32>) -> Option<u32>
     }
 }
 
-fn is_kept(keep: &[bool], number: u32) -> bool
-    ensures { result ≡ flag keep.now number }
+fn is_kept(flags: &[bool], number: u32) -> bool
+    ensures { result ≡ flag flags.now number }
 {
-    match keep.get(number as usize) {
+    match flags.get(number as usize) {
         Some(kept) => *kept,
         None => false,
     }
+}
+
+/// Gives the outputs numbers from 0 on, in preorder. Gives the numbers that they had, in their
+/// order.
+pub fn number_forest(alloc: Global, steps: &mut Vec<Step>) -> Result<Vec<u32>, AllocError>
+    ensures steps { OnOk result (grown steps.new.items ≡ numbered 0 (grown steps.old.items)) }
+    ensures outs { IfOk result (λ v. v.items ≡ outs (grown steps.old.items)) }
+{
+    let mut outs = Vec::new(alloc);
+    number_steps(steps, &mut outs)?;
+    Ok(outs)
+}
+
+fn number_steps(steps: &mut Vec<Step>, outs: &mut Vec<u32>) -> Result<(), AllocError>
+    ensures steps { OnOk result (steps.new.items
+        ≡ spec.numbered_branches (length outs.old.items) steps.old.items) }
+    ensures outs { OnOk result
+        (outs.new.items ≡ outs.old.items ++ spec.branches_outs steps.old.items) }
+{
+    for i in 0..steps.len() {
+        number_step(&mut steps[i], outs)?;
+    }
+    Ok(())
+}
+
+#[cycle(number)]
+fn number_step(step: &mut Step, outs: &mut Vec<u32>) -> Result<(), AllocError>
+    ensures step { OnOk result
+        (step.new ≡ spec.numbered_branch (length outs.old.items) step.old) }
+    ensures outs { OnOk result (outs.new.items ≡ outs.old.items ++ spec.branch_outs step.old) }
+{
+    number_output(&mut step.first, outs)?;
+    number_outputs(&mut step.more, outs)?;
+    Ok(())
+}
+
+#[cycle(number)]
+fn number_outputs(outputs: &mut Vec<Output>, outs: &mut Vec<u32>) -> Result<(), AllocError>
+    ensures outputs { OnOk result (map twig outputs.new.items
+        ≡ spec.numbered_twigs (length outs.old.items) (map twig outputs.old.items)) }
+    ensures outs { OnOk result
+        (outs.new.items ≡ outs.old.items ++ spec.twigs_outs (map twig outputs.old.items)) }
+{
+    for i in 0..outputs.len() {
+        number_output(&mut outputs[i], outs)?;
+    }
+    Ok(())
+}
+
+#[cycle(number)]
+fn number_output(output: &mut Output, outs: &mut Vec<u32>) -> Result<(), AllocError>
+    ensures output { OnOk result
+        (twig output.new ≡ spec.numbered_twig (length outs.old.items) (twig output.old)) }
+    ensures outs { OnOk result
+        (outs.new.items ≡ outs.old.items ++ spec.twig_outs (twig output.old)) }
+{
+    output.number = next_number(output.number, outs)?;
+    let kids = &mut output.kids;
+    for i in 0..kids.len() {
+        number_step(&mut kids[i], outs)?;
+    }
+    Ok(())
 }
 
 /// The next number for an output that is kept, which is noted; more than 32 bits count are more

@@ -1,5 +1,5 @@
-// Steps on an output of a step.
-ghost use Rattle.std.specs.Prelude.{◌≡◌, IfOk, OnOk, false, map};
+// Steps on an output of a step, which is dropped then or not.
+ghost use Rattle.std.specs.Prelude.{◌≡◌, cond, IfOk, None, OnOk, false, map};
 ghost use Rattle.graph_laws.specs.of_exec_graph.Forests.{grown};
 ghost use Rattle.graph_laws.specs.of_exec_graph.Meaning.{OutsDiffer};
 ghost use Rattle.graph_laws.specs.of_exec_graph.Twigs.{twig};
@@ -18,56 +18,80 @@ pub fn plant(steps: &mut Vec<Step>, output: u32, others: Vec<Step>) -> Result<()
         ≡ grafted output (grown others.items) (grown steps.old.items)) }
 {
     let mut others = others;
-    let _ = plant_steps(steps, output, &mut others)?;
+    let _ = put_steps(steps, output, true, &mut others)?;
+    Ok(())
+}
+
+/// Puts the others behind the steps on the first output of that number, if there is one, and then
+/// keeps the output or not.
+#[tactic(auto, using(crate::proofs::PlantLemmas::grown_put))]
+pub fn put_on(
+    steps: &mut Vec<Step>,
+    output: u32,
+    keep: bool,
+    others: Vec<Step>,
+) -> Result<(), AllocError>
+    ensures { OnOk result (grown steps.new.items
+        ≡ spec.put_in output keep (grown others.items) (grown steps.old.items)) }
+{
+    let mut others = others;
+    let _ = put_steps(steps, output, keep, &mut others)?;
     Ok(())
 }
 
 /// Puts the others there, and tells whether there is one.
-fn plant_steps(
+fn put_steps(
     steps: &mut Vec<Step>,
     output: u32,
+    keep: bool,
     others: &mut Vec<Step>,
 ) -> Result<bool, AllocError>
     ensures found { IfOk result (λ b. b ≡ spec.on_branches output steps.old.items) }
     ensures steps { OnOk result (steps.new.items
-        ≡ spec.planted_branches output (grown others.old.items) steps.old.items) }
+        ≡ spec.put_branches output keep (grown others.old.items) steps.old.items) }
     ensures others { IfOk result (λ b. b ≡ false → others.new.items ≡ others.old.items) }
 {
     for i in 0..steps.len() {
-        if plant_step(&mut steps[i], output, others)? {
+        if put_step(&mut steps[i], output, keep, others)? {
             return Ok(true);
         }
     }
     Ok(false)
 }
 
-#[cycle(plant)]
-fn plant_step(step: &mut Step, output: u32, others: &mut Vec<Step>) -> Result<bool, AllocError>
+#[cycle(put)]
+fn put_step(
+    step: &mut Step,
+    output: u32,
+    keep: bool,
+    others: &mut Vec<Step>,
+) -> Result<bool, AllocError>
     ensures found { IfOk result (λ b. b ≡ spec.on_branch output step.old) }
     ensures step { OnOk result
-        (step.new ≡ spec.planted_branch output (grown others.old.items) step.old) }
+        (step.new ≡ spec.put_branch output keep (grown others.old.items) step.old) }
     ensures others { IfOk result (λ b. b ≡ false → others.new.items ≡ others.old.items) }
 {
-    if plant_output(&mut step.first, output, others)? {
+    if put_output(&mut step.first, output, keep, others)? {
         return Ok(true);
     }
-    let found = plant_outputs(&mut step.more, output, others)?;
+    let found = put_outputs(&mut step.more, output, keep, others)?;
     Ok(found)
 }
 
-#[cycle(plant)]
-fn plant_outputs(
+#[cycle(put)]
+fn put_outputs(
     outputs: &mut Vec<Output>,
     output: u32,
+    keep: bool,
     others: &mut Vec<Step>,
 ) -> Result<bool, AllocError>
     ensures found { IfOk result (λ b. b ≡ spec.on_twigs output (map twig outputs.old.items)) }
     ensures outputs { OnOk result (map twig outputs.new.items
-        ≡ spec.planted_twigs output (grown others.old.items) (map twig outputs.old.items)) }
+        ≡ spec.put_twigs output keep (grown others.old.items) (map twig outputs.old.items)) }
     ensures others { IfOk result (λ b. b ≡ false → others.new.items ≡ others.old.items) }
 {
     for i in 0..outputs.len() {
-        if plant_output(&mut outputs[i], output, others)? {
+        if put_output(&mut outputs[i], output, keep, others)? {
             return Ok(true);
         }
     }
@@ -75,22 +99,35 @@ fn plant_outputs(
 }
 
 #[tactic(auto, using(crate::proofs::Relabeling::grown_append))]
-#[cycle(plant)]
-fn plant_output(one: &mut Output, output: u32, others: &mut Vec<Step>) -> Result<bool, AllocError>
+#[cycle(put)]
+fn put_output(
+    one: &mut Output,
+    output: u32,
+    keep: bool,
+    others: &mut Vec<Step>,
+) -> Result<bool, AllocError>
     ensures found { IfOk result (λ b. b ≡ spec.on_twig output (twig one.old)) }
     ensures output { OnOk result
-        (twig one.new ≡ spec.planted_twig output (grown others.old.items) (twig one.old)) }
+        (twig one.new ≡ spec.put_twig output keep (grown others.old.items) (twig one.old)) }
     ensures others { IfOk result (λ b. b ≡ false → others.new.items ≡ others.old.items) }
 {
     if is_out(one.number, output) {
+        one.number = kept_out(one.number, keep);
         one.kids.append(others)?;
         return Ok(true);
     }
     let kids = &mut one.kids;
     for i in 0..kids.len() {
-        if plant_step(&mut kids[i], output, others)? {
+        if put_step(&mut kids[i], output, keep, others)? {
             return Ok(true);
         }
     }
     Ok(false)
+}
+
+/// The label, if it is to be kept.
+pub fn kept_out(number: Option<u32>, keep: bool) -> Option<u32>
+    ensures { result ≡ cond keep number None }
+{
+    if keep { number } else { None }
 }

@@ -1,6 +1,6 @@
 use Rattle.std.proofs.Common.{false, true, refl, sym, ap, ◌∙◌, arith}
 use Rattle.graph_laws.specs.of_exec_graph.Forests.{Bare}
-use Rattle.graph_walks.specs.inner.Plants.{on_branches, planted_branch}
+use Rattle.graph_walks.specs.inner.Plants.{on_branches, put_branch}
 use Rattle.graph_walks.proofs.PlantTurns.{none_all, one_found, twig_on}
 use Rattle.graph_walks.proofs.finding.+find.Goals as goal
 
@@ -11,7 +11,7 @@ on_output-returns-then-on_step t c =
     let o = c.args.one.now in
     let b = c.kid-item.result in
     twig_on j o.number o.kids.items true (sym c.is_out.ensures ∙ c.if-is_out.false)
-    (one_found j Bare c.deref-kid-items.result.now l.kid-index b (planted_branch j Bare b)
+    (one_found j true Bare c.deref-kid-items.result.now l.kid-index b (put_branch j true Bare b)
     (omega arith) c.kid-item.is refl (sym c.on_step.ensures ∙ c.if-on_step.true)
     ∙ l.invariant ∙ ap (on_branches j) c.deref-kid-items.ensures.value)
 
@@ -21,5 +21,5 @@ on_output-returns t c =
     let j = c.args.output in
     let o = c.args.one.now in
     twig_on j o.number o.kids.items false (sym c.is_out.ensures ∙ c.if-is_out.false)
-    (sym (none_all j Bare c.deref-kid-items.result.now l.kid-index (omega arith))
+    (sym (none_all j true Bare c.deref-kid-items.result.now l.kid-index (omega arith))
     ∙ l.invariant ∙ ap (on_branches j) c.deref-kid-items.ensures.value)

@@ -1,13 +1,11 @@
 use Rattle.std.proofs.Common.{◌≡◌, length, map}
-use Rattle.graph_laws.specs.Kids.{out_named}
-use Rattle.graph_names.specs.inner.Naming.{name_of}
 use Rattle.graph_walks.specs.inner.Relabels.{relabelled_branch}
 use Rattle.graph_walks.proofs.InPlace.{so_far}
-use Rattle.graph_names.proofs.naming.name_steps.Given as goal
+use Rattle.graph_walks.proofs.labels.relabel.Given as goal
 
 abbrev pub invariant-loop-i : goal.invariant-loop-i
-invariant-loop-i l =
-    let k = relabelled_branch (out_named (name_of l.by)) in record {
+invariant-loop-i g l =
+    let k = relabelled_branch (g.L.Labels.label_of l.by) in record {
       same : length l.steps.items ≡ length l.fn.steps.items;
       done : so_far k l.steps.items l.i ≡ map k l.fn.steps.items;
     }

@@ -1,8 +1,0 @@
-use Rattle.std.proofs.Common.{◌≡◌, ◌++◌, map, take, drop}
-use Rattle.graph_joining.specs.inner.Apart.{rule_of}
-use Rattle.graph_joining.proofs.rereading.reread_places.Given as goal
-
-abbrev pub invariant-loop-c : goal.invariant-loop-c
-invariant-loop-c l =
-    take l.c-index l.c-items ++ map (rule_of l.by) (drop l.c-index l.c-items)
-    ≡ map (rule_of l.by) l.initial.c-items

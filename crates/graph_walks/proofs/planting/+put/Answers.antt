@@ -1,0 +1,209 @@
+use Rattle.std.proofs.Common.{◌≡◌, true, false, List, map, rules, refl, sym, ap, ◌∙◌, arith, length-set}
+use Rattle.graph_laws.specs.of_exec_graph.Forests.{Branch, grown}
+use Rattle.graph_laws.specs.of_exec_graph.Twigs.{twig}
+use Rattle.graph_walks.specs.inner.Plants.{on_branch, on_twig, put_branch, put_twig, put_twigs}
+use Rattle.graph_walks.proofs.PlantTurns.{no_all, no_next, none_all, none_next, on_found, one_found, step_found, step_next, step_off, step_on, steps_all, steps_found, steps_next, twig_on, twig_put, twigs_all, twigs_found, twigs_next}
+use Rattle.graph_walks.proofs.planting.+put.Goals as goal
+
+pub put_output-loop-i-preserved : goal.put_output-loop-i-preserved
+put_output-loop-i-preserved t c =
+    let l = c.loop-i in
+    let j = c.args.output in
+    let k = c.args.keep in
+    let g = grown c.args.others.now.items in
+    let bs = l.kids.items in
+    let b = c.index_mut.result.now in
+    let y = c.put_step.new.step in
+    let no : on_branch j b ≡ false = sym c.in_ok-put_step.ensures.found ∙ c.if-branch.false in
+    let e : y ≡ put_branch j k g b = c.in_ok-put_step.ensures.step
+    ∙ ap (λ (os : List Branch). put_branch j k (grown os) b) l.invariant.others in record {
+      same = length-set _ _ _ ∙ l.invariant.same;
+      others = c.in_ok-put_step.ensures.others c.if-branch.false ∙ l.invariant.others;
+      found = none_next j k g bs l.i b y (search rules) c.index_mut.ensures.value e no
+          ∙ l.invariant.found;
+      steps = steps_next j k g bs l.i b y (search rules) c.index_mut.ensures.value e no
+          ∙ l.invariant.steps;
+      left = search rules;
+    }
+
+pub put_outputs-loop-i-preserved : goal.put_outputs-loop-i-preserved
+put_outputs-loop-i-preserved t c =
+    let l = c.loop-i in
+    let j = c.args.output in
+    let k = c.args.keep in
+    let g = grown c.args.others.now.items in
+    let os = l.outputs.items in
+    let o = c.index_mut.result.now in
+    let y = c.put_output.new.one in
+    let no : on_twig j (twig o) ≡ false =
+    sym c.in_ok-put_output.ensures.found ∙ c.if-branch.false in
+    let e : twig y ≡ put_twig j k g (twig o) = c.in_ok-put_output.ensures.output
+    ∙ ap (λ (os : List Branch). put_twig j k (grown os) (twig o)) l.invariant.others in record {
+      same = length-set _ _ _ ∙ l.invariant.same;
+      others = c.in_ok-put_output.ensures.others c.if-branch.false ∙ l.invariant.others;
+      found = no_next j k g os l.i o y (search rules) c.index_mut.ensures.value e no
+          ∙ l.invariant.found;
+      outputs = twigs_next j k g os l.i o y (search rules) c.index_mut.ensures.value e no
+          ∙ l.invariant.outputs;
+      left = search rules;
+    }
+
+pub put_outputs-returns-then-branch-clause-found
+    : goal.put_outputs-returns-then-branch-clause-found
+put_outputs-returns-then-branch-clause-found t c =
+    let l = c.loop-i in
+    let j = c.args.output in
+    let k = c.args.keep in
+    let g = grown c.args.others.now.items in
+    let o = c.index_mut.result.now in
+    let e = c.in_ok-put_output.ensures.output
+    ∙ ap (λ (os : List Branch). put_twig j k (grown os) (twig o)) l.invariant.others in
+    on_found j k g l.outputs.items l.i o c.put_output.new.one (search rules)
+    c.index_mut.ensures.value e
+    (sym c.in_ok-put_output.ensures.found ∙ c.if-branch.true) ∙ l.invariant.found
+
+pub put_outputs-returns-then-branch-clause-outputs
+    : goal.put_outputs-returns-then-branch-clause-outputs
+put_outputs-returns-then-branch-clause-outputs t c =
+    let l = c.loop-i in
+    let j = c.args.output in
+    let k = c.args.keep in
+    let g = grown c.args.others.now.items in
+    let o = c.index_mut.result.now in
+    let e = c.in_ok-put_output.ensures.output
+    ∙ ap (λ (os : List Branch). put_twig j k (grown os) (twig o)) l.invariant.others in
+    twigs_found j k g l.outputs.items l.i o c.put_output.new.one (search rules)
+    c.index_mut.ensures.value e
+    (sym c.in_ok-put_output.ensures.found ∙ c.if-branch.true) ∙ l.invariant.outputs
+
+pub put_outputs-returns-clause-found : goal.put_outputs-returns-clause-found
+put_outputs-returns-clause-found t c =
+    let l = c.loop-i in
+    let g = grown c.args.others.now.items in
+    sym (no_all c.args.output c.args.keep g l.outputs.items l.i (omega arith))
+    ∙ l.invariant.found
+
+pub put_outputs-returns-clause-outputs : goal.put_outputs-returns-clause-outputs
+put_outputs-returns-clause-outputs t c =
+    let l = c.loop-i in
+    sym (twigs_all c.args.output c.args.keep (grown c.args.others.now.items) l.outputs.items l.i
+    (omega arith))
+    ∙ l.invariant.outputs
+
+pub put_step-returns-then-branch-clause-found : goal.put_step-returns-then-branch-clause-found
+put_step-returns-then-branch-clause-found t c =
+    let j = c.args.output in
+    let k = c.args.keep in
+    let a = c.step.inside in
+    let b : Branch = record {
+      origin = a.origin;
+      last = a.last;
+      does = a.does;
+      first = twig a.first;
+      more = map twig a.more.items;
+    } in
+    step_on j b (sym c.in_ok-put_output.ensures.found ∙ c.if-branch.true)
+    ∙ ap (on_branch j) c.step.view_is
+
+pub put_step-returns-then-branch-clause-step : goal.put_step-returns-then-branch-clause-step
+put_step-returns-then-branch-clause-step t c =
+    let j = c.args.output in
+    let k = c.args.keep in
+    let g = grown c.args.others.now.items in
+    let a = c.step.inside in
+    let b : Branch = record {
+      origin = a.origin;
+      last = a.last;
+      does = a.does;
+      first = twig a.first;
+      more = map twig a.more.items;
+    } in
+    step_found j k g b _ (sym c.in_ok-put_output.ensures.found ∙ c.if-branch.true)
+    c.in_ok-put_output.ensures.output
+    ∙ ap (put_branch j k g) c.step.view_is
+
+pub put_step-returns-clause-found : goal.put_step-returns-clause-found
+put_step-returns-clause-found t c =
+    let j = c.args.output in
+    let k = c.args.keep in
+    let a = c.step.inside in
+    let b : Branch = record {
+      origin = a.origin;
+      last = a.last;
+      does = a.does;
+      first = twig a.first;
+      more = map twig a.more.items;
+    } in
+    step_off j b _ (sym c.in_ok-put_output.ensures.found ∙ c.if-branch.false)
+    c.in_ok-found.ensures.found
+    ∙ ap (on_branch j) c.step.view_is
+
+pub put_step-returns-clause-step : goal.put_step-returns-clause-step
+put_step-returns-clause-step t c =
+    let j = c.args.output in
+    let k = c.args.keep in
+    let g = grown c.args.others.now.items in
+    let a = c.step.inside in
+    let b : Branch = record {
+      origin = a.origin;
+      last = a.last;
+      does = a.does;
+      first = twig a.first;
+      more = map twig a.more.items;
+    } in
+    step_next j k g b _ _ (sym c.in_ok-put_output.ensures.found ∙ c.if-branch.false)
+    c.in_ok-put_output.ensures.output
+    (c.in_ok-found.ensures.outputs
+    ∙ ap (λ (os : List Branch). put_twigs j k (grown os) b.more)
+    (c.in_ok-put_output.ensures.others c.if-branch.false))
+    ∙ ap (put_branch j k g) c.step.view_is
+
+pub put_output-returns-then-branch-clause-found
+    : goal.put_output-returns-then-branch-clause-found
+put_output-returns-then-branch-clause-found t c =
+    let l = c.loop-i in
+    let j = c.args.output in
+    let k = c.args.keep in
+    let g = grown c.args.others.now.items in
+    let o = c.args.one.now in
+    let b = c.index_mut.result.now in
+    twig_on j o.number o.kids.items true (sym c.is_out.ensures ∙ c.if-is_out.false)
+    (one_found j k g l.kids.items l.i b (put_branch j k g b) (search rules)
+    c.index_mut.ensures.value refl
+    (sym c.in_ok-put_step.ensures.found ∙ c.if-branch.true) ∙ l.invariant.found)
+
+pub put_output-returns-then-branch-clause-output
+    : goal.put_output-returns-then-branch-clause-output
+put_output-returns-then-branch-clause-output t c =
+    let l = c.loop-i in
+    let j = c.args.output in
+    let k = c.args.keep in
+    let g = grown c.args.others.now.items in
+    let o = c.args.one.now in
+    let b = c.index_mut.result.now in
+    let e = c.in_ok-put_step.ensures.step
+    ∙ ap (λ (os : List Branch). put_branch j k (grown os) b) l.invariant.others in
+    twig_put j k g o.number o.kids.items _ (sym c.is_out.ensures ∙ c.if-is_out.false)
+    (steps_found j k g l.kids.items l.i b c.put_step.new.step (search rules)
+    c.index_mut.ensures.value e
+    (sym c.in_ok-put_step.ensures.found ∙ c.if-branch.true) ∙ l.invariant.steps)
+
+pub put_output-returns-clause-found : goal.put_output-returns-clause-found
+put_output-returns-clause-found t c =
+    let l = c.loop-i in
+    let j = c.args.output in
+    let k = c.args.keep in
+    let g = grown c.args.others.now.items in
+    let o = c.args.one.now in
+    twig_on j o.number o.kids.items false (sym c.is_out.ensures ∙ c.if-is_out.false)
+    (sym (none_all j k g l.kids.items l.i (omega arith)) ∙ l.invariant.found)
+
+pub put_output-returns-clause-output : goal.put_output-returns-clause-output
+put_output-returns-clause-output t c =
+    let l = c.loop-i in
+    let j = c.args.output in
+    let k = c.args.keep in
+    let g = grown c.args.others.now.items in
+    let o = c.args.one.now in
+    twig_put j k g o.number o.kids.items _ (sym c.is_out.ensures ∙ c.if-is_out.false)
+    (sym (steps_all j k g l.kids.items l.i (omega arith)) ∙ l.invariant.steps)
