@@ -11,11 +11,11 @@ use Rattle.graph_laws.specs.Kids.{kept_by, out_kept}
 use Rattle.graph_states.specs.States.{all_but}
 use Rattle.graph_states.proofs.of_graph_names.SpotLemmas.{holds_outs}
 use Rattle.graph_walks.specs.Outs.{out_list, outs}
+use Rattle.graph_walks.specs.inner.Plants.{put_in}
 use Rattle.graph_walks.proofs.Places.{holds}
 use Rattle.graph_walks.proofs.Relabeling.{step_of}
 use Rattle.graph_joins.specs.inner.Hangs.{Hangs}
 use Rattle.graph_joins.specs.inner.Splices.{spliced}
-use Rattle.graph_joins.specs.inner.Puts.{put_in}
 use Rattle.graph_joins.proofs.PutLemmas.{put_kept}
 
 -- ---- what is the same again

@@ -1,5 +1,4 @@
 pub mod PutLemmas
-pub mod PutTurns
 pub mod CountLemmas
 pub mod TakenLemmas
 pub mod Keeping

@@ -1,56 +1,13 @@
--- Roots on an output that is dropped or not, as the steps are held.
-use Rattle.std.proofs.Common.{◌≡◌, ℕ, suc, Bool, true, false, cond, eqb, ◌||◌, List, [], ◌∷◌, Option, Some, None, refl, sym, ap, ap₂, ◌∙◌}
-use Rattle.exec_graph.specs.Forests.{Branch, Forest, Bare, Grow, Twig, grown, label_at, limb, twigs, with_out}
+-- Roots on an output that is dropped or not.
+use Rattle.std.proofs.Common.{◌≡◌, ℕ, Bool, true, false, cond, eqb, ◌||◌, Option, Some, None, refl, sym, ap, ap₂, ◌∙◌}
+use Rattle.exec_graph.specs.Forests.{Forest, Bare, Grow, with_out}
 use Rattle.exec_graph.specs.Meaning.{OutsDiffer, has_out, is_out}
 use Rattle.exec_graph.proofs.Bools.{or_false}
 use Rattle.graph_laws.specs.Joining.{beside, grafted}
 use Rattle.graph_laws.specs.Kids.{kept_by, out_kept}
-use Rattle.graph_walks.specs.inner.Plants.{on_branch, on_twig, on_twigs}
 use Rattle.graph_states.specs.States.{all_but}
-use Rattle.graph_joins.specs.inner.Puts.{put_branch, put_branches, put_in, put_out, put_twigs}
-
--- ---- the forest of the steps
-
--- the outputs of a step that differs in its outputs alone
-twigs_stay : (j : ℕ) (k : Bool) (g : Forest) (b : Branch) (n : ℕ) (ts : List Twig)
-    (rest : Forest) → twigs b n ts rest ≡ twigs (put_branch j k g b) n ts rest
-twigs_stay j k g b n [] rest = refl
-twigs_stay j k g b n (t ∷ ts) rest =
-    ap (λ (f : Forest). Grow (label_at b n t) t.kids f) (twigs_stay j k g b (suc n) ts rest)
-
-twigs_put : (j : ℕ) (k : Bool) (g : Forest) (b : Branch) (n : ℕ) (ts : List Twig)
-    (rest : Forest) → put_in j k g (twigs b n ts rest)
-    ≡ twigs (put_branch j k g b) n (put_twigs j k g ts)
-    (cond (on_twigs j ts) rest (put_in j k g rest))
-twigs_put j k g b n [] rest = refl
-twigs_put j k g b n (t ∷ ts) rest =
-    ap (λ (f : Forest). Grow (with_out (put_out j k t.out) (label_at b n t))
-    (cond (is_out t.out j) (beside t.kids g) (put_in j k g t.kids)) f)
-    (by (on_twig j t) (twigs_put j k g b (suc n) ts rest))
-  where
-    by : (x : Bool) → put_in j k g (twigs b (suc n) ts rest)
-        ≡ twigs (put_branch j k g b) (suc n) (put_twigs j k g ts)
-        (cond (on_twigs j ts) rest (put_in j k g rest))
-        → cond x (twigs b (suc n) ts rest) (put_in j k g (twigs b (suc n) ts rest))
-        ≡ twigs (put_branch j k g b) (suc n) (cond x ts (put_twigs j k g ts))
-        (cond (x || on_twigs j ts) rest (put_in j k g rest))
-    by true h = twigs_stay j k g b (suc n) ts rest
-    by false h = h
-
-pub grown_put : (j : ℕ) (k : Bool) (g : Forest) (bs : List Branch)
-    → grown (put_branches j k g bs) ≡ put_in j k g (grown bs)
-grown_put j k g [] = refl
-grown_put j k g (b ∷ bs) =
-    ap (λ (f : Forest). limb (put_branch j k g b) f)
-    (by (on_branch j b) (grown_put j k g bs))
-    ∙ sym (twigs_put j k g b 0 (b.first ∷ b.more) (grown bs))
-  where
-    by : (x : Bool) → grown (put_branches j k g bs) ≡ put_in j k g (grown bs)
-        → grown (cond x bs (put_branches j k g bs)) ≡ cond x (grown bs) (put_in j k g (grown bs))
-    by true h = refl
-    by false h = h
-
--- ---- what is kept
+use Rattle.graph_walks.specs.inner.Plants.{put_in, put_out}
+use Rattle.graph_walks.proofs.PlantLemmas.{grafted_none}
 
 out_but : (j : ℕ) (k : Bool) (o : Option ℕ) → put_out j k o ≡ out_kept (all_but j k) o
 out_but j k None = refl
@@ -78,15 +35,6 @@ kept_beside r Bare g = refl
 kept_beside r (Grow l kids rest) g =
     ap (λ (x : Forest). Grow (with_out (out_kept r l.out) l) (kept_by r kids) x)
     (kept_beside r rest g)
-
-grafted_none : (j : ℕ) (g f : Forest) → has_out j f ≡ false → grafted j g f ≡ f
-grafted_none j g Bare h = refl
-grafted_none j g (Grow l kids rest) h =
-    let a = or_false (is_out l.out j) (has_out j kids || has_out j rest) h in
-    let b = or_false (has_out j kids) (has_out j rest) a.1 in
-    ap (λ (c : Bool). cond c (Grow l (beside kids g) rest)
-    (Grow l (grafted j g kids) (grafted j g rest))) a.0
-    ∙ ap₂ (λ (m r : Forest). Grow l m r) (grafted_none j g kids b.0) (grafted_none j g rest b.1)
 
 -- the roots are put on one output at most, which is dropped then or not
 pub put_kept : (j : ℕ) (k : Bool) (g f : Forest) → OutsDiffer f → has_out j g ≡ false
@@ -120,12 +68,7 @@ put_kept j k g (Grow l kids rest) d none =
         same (put_in j k g kids) rest
         ∙ ap₂ (λ (x y : Forest). Grow (with_out (out_kept r l.out) l) x y) m
         (sym (kept_none j k rest (d.1 j i))
-        ∙ ap (kept_by r) (sym (grafted_none j g rest (d.1 j i))))
+        ∙ ap (kept_by r) (grafted_none j g rest (d.1 j i)))
     by false false e i m n =
         same (put_in j k g kids) (put_in j k g rest)
         ∙ ap₂ (λ (x y : Forest). Grow (with_out (out_kept r l.out) l) x y) m n
-
-pub grown_put_kept : (j : ℕ) (k : Bool) (g : Forest) (bs : List Branch) → OutsDiffer (grown bs)
-    → has_out j g ≡ false
-    → grown (put_branches j k g bs) ≡ kept_by (all_but j k) (grafted j g (grown bs))
-grown_put_kept j k g bs d none = grown_put j k g bs ∙ put_kept j k g (grown bs) d none

@@ -1,5 +1,4 @@
 pub mod Hangs
-pub mod Puts
 pub mod Seeks
 pub mod Splices
 pub mod Takings

@@ -4,9 +4,9 @@ ghost use Rattle.exec_graph.specs.Forests.{Branch, Forest, Grow, grown, label_at
 ghost use Rattle.exec_graph.specs.Twigs.{twig};
 ghost use Rattle.graph_joins.specs.inner.Hangs.{Hangs};
 
-use crate::putting::{is_out, kept_out};
 use crate::ways::Turn;
 use exec_graph::{Output, Step};
+use graph_walks::{is_out, kept_out};
 use std::alloc::AllocError;
 
 /// Puts the others on that output, if the way leads to it and nothing is on it, and then keeps the

@@ -1,8 +1,8 @@
-use Rattle.std.proofs.Common.{List, ap, ap₂, ◌∙◌}
+use Rattle.std.proofs.Common.{List, ap₂, ◌∙◌}
 use Rattle.exec_graph.specs.Forests.{Branch, grown}
-use Rattle.graph_joins.specs.inner.Puts.{put_branches}
+use Rattle.graph_walks.specs.inner.Plants.{put_in}
 use Rattle.graph_joins.proofs.HangLemmas.{hangs_outs, hangs_put}
-use Rattle.graph_joins.proofs.PutLemmas.{grown_put_kept}
+use Rattle.graph_joins.proofs.PutLemmas.{put_kept}
 use Rattle.graph_joins.proofs.putting.put.Goals as goal
 
 pub returns-then-branch-clause-put : goal.returns-then-branch-clause-put
@@ -21,9 +21,9 @@ pub returns-clause-put : goal.returns-clause-put
 returns-clause-put c =
     let j = c.args.output in
     let k = c.args.keep in
-    ap (λ (bs : List Branch). grown bs) (c.in_ok-put_steps.ensures.steps
-    ∙ ap₂ (λ (os bs : List Branch). put_branches j k (grown os) bs)
+    c.in_ok-put_on.ensures
+    ∙ ap₂ (λ (os bs : List Branch). put_in j k (grown os) (grown bs))
     (c.in_ok-hang.ensures.others c.if-branch.false)
-    (c.in_ok-hang.ensures.steps c.if-branch.false))
-    ∙ grown_put_kept j k (grown c.args.others.items) c.args.steps.now.items c.requires.differ
+    (c.in_ok-hang.ensures.steps c.if-branch.false)
+    ∙ put_kept j k (grown c.args.others.items) (grown c.args.steps.now.items) c.requires.differ
     c.requires.other
