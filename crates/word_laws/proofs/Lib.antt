@@ -6,3 +6,4 @@ pub mod RowLemmas
 pub mod PartLemmas
 pub mod RunLemmas
 pub mod MakeLemmas
+pub mod PlainLemmas

@@ -1,6 +1,6 @@
 -- What the words of `make` ask for, by the definitions of `clap`.
-use Rattle.std.proofs.Common.{◌≡◌, ◌∙◌, ◌≤◌, ◌<◌, ◌^◌, ℕ, true, false, List, [], ◌∷◌, refl, sym, ap, ap₂, codes, arith}
-use Rattle.std.specs.Prelude.{IfOk, IsErr, Option, Some, None, Result, Ok, Err, decimal, fold, if◌then◌else◌, nat_le, option_and_then}
+use Rattle.std.proofs.Common.{◌≡◌, ◌∙◌, ◌≤◌, ℕ, true, [], ◌∷◌, refl, ap, ap₂, codes, arith}
+use Rattle.std.specs.Prelude.{Option, Some, None, decimal, fold, if◌then◌else◌}
 use Rattle.clap.specs.Kinds.{Kinds, or_else}
 use Rattle.clap.specs.Simple.{Shape}
 use Rattle.clap.specs.Walk.{Held, Text, Walk, finished, is_empty, nothing_held, walked}
@@ -11,7 +11,7 @@ use Rattle.int_text.proofs.IntFacts.{le-to}
 use Rattle.command_words.specs.Words.{count_in, is_operand, make_app, most_made, workload, workload_at, workload_for}
 use Rattle.command_words.specs.declared.workload.Workload.{Workload}
 use Rattle.word_laws.proofs.GrammarLemmas.{at_first, built_command}
-use Rattle.word_laws.proofs.OperandLemmas.{at_position, faults_from, operand_first, operand_taken, operand_walked}
+use Rattle.word_laws.proofs.OperandLemmas.{faults_from, operand_first, operand_taken, operand_walked}
 use Rattle.word_laws.proofs.PartLemmas.{operand_by}
 
 abbrev makes : Shape

@@ -93,7 +93,7 @@ find_past p (part ∷ seen) rest none =
     let apart = neither (p part) (list_any p seen) none in
     rw apart.0 (find_past p seen rest apart.1)
 
-names_itself : (name : Name) → bytes_eq (id_of name) (id_of name) ≡ true
+pub names_itself : (name : Name) → bytes_eq (id_of name) (id_of name) ≡ true
 names_itself Script = refl
 names_itself Workers = refl
 names_itself Shards = refl

@@ -12,10 +12,9 @@ use Rattle.clap.proofs.OnLiterals.{clap_on_literals}
 use Rattle.clap.proofs.FaultLemmas.{stopped_fault}
 use Rattle.clap.proofs.WalkLemmas.{walk_stopped}
 use Rattle.run_settings.specs.Settings.{RunSettings, standard}
-use Rattle.run_settings.specs.Limits.{most_partitions, most_shards, most_tries, most_workers}
 use Rattle.drill_text.specs.Drills.{◌>>=◌}
 use Rattle.drill_text.proofs.DrillLemmas.{neither}
-use Rattle.command_words.specs.Options.{drill_given, number_given, settings_given}
+use Rattle.command_words.specs.Options.{settings_given}
 use Rattle.command_words.specs.Words.{Asked, asked_at, asked_for, asked_of, asking, flume_app, is_operand, plan_given, run_of, run_with}
 use Rattle.word_laws.specs.Parts.{AskForRun, Fail, Name, Part, Partitions, PlanFile, Script, Shards, Tries, Workers, words_of}
 use Rattle.word_laws.specs.Grammar.{AsksFor}

@@ -1,7 +1,8 @@
 //! What the words of the grammar ask for.
 ghost use Rattle.std.specs.Prelude.{◌≡◌, ◌≤◌, ◌∷◌, [], List, Some, codes, decimal, true, ℕ};
-ghost use Rattle.word_laws.specs.CachedWords.{TakesCached};
+ghost use Rattle.word_laws.specs.CachedWords.{HasPlainWords, TakesCached};
 ghost use Rattle.word_laws.specs.Grammar.{TakesGrammar};
+ghost use Rattle.command_words.specs.Cached.{CachedRun, cached_for};
 ghost use Rattle.command_words.specs.Words.{is_operand, most_made, workload, workload_for};
 
 /// Words of the grammar are never refused, and ask for what they say: each command with a script,
@@ -26,4 +27,10 @@ pub fn make_law()
 pub fn cached_law(script: &str)
     requires { is_operand script.now ≡ true }
     ensures { TakesCached script.now }
+{}
+
+/// Each run that words of a cached run ask for, some words ask for without a cache.
+pub fn plain_law()
+    ensures { (words : List (List ℕ)) (run : CachedRun) → cached_for words ≡ Some run →
+        HasPlainWords run }
 {}
