@@ -1,28 +1,35 @@
 -- The objects that acts make of lists.
-use Rattle.std.proofs.Common.{◌≡◌, ◌+◌, ◌<◌, ◌≤◌, ℕ, suc, List, [], ◌∷◌, ◌++◌, drop, length, map, Option, None, Some, refl, sym, ap, ◌∙◌, add-one, append_assoc, append-nil, get_or, subst, arith}
+use Rattle.std.proofs.Common.{◌≡◌, ◌+◌, ◌<◌, ◌≤◌, ℕ, suc, Bool, List, [], ◌∷◌, ◌++◌, drop, length, map, Option, None, Some, Result, Ok, Err, refl, sym, ap, ◌∙◌, add-one, append_assoc, append-nil, get_or, subst, arith}
 use Rattle.std.proofs.Math.Seq.{drop-cons}
 use Rattle.std.specs.List.{flat_map}
+use Rattle.std.specs.Result.{IfOk}
 use Rattle.combine_table.specs.declared.comb.Comb.{Comb}
 use Rattle.outside.specs.Accounts.{Account}
 use Rattle.crew.specs.declared.drill.Entry.{Entry}
 use Rattle.exec_graph.specs.Objects.{act_result, none_of, only, untrapped, value_in, values_in, with_first}
 use Rattle.exec_graph.specs.World.{World}
+use Rattle.exec_graph.specs.declared.graph.Act.{Act}
 use Rattle.exec_graph.specs.declared.graph.Act.TheVariants as acts
 use Rattle.exec_plan.specs.declared.plan.PlanPlace.{PlanPlace}
+use Rattle.exec_plan.specs.declared.plan.Stage.TheVariants.{Operate}
 use Rattle.flume_collection.specs.Collection.{Collection}
 use Rattle.flume_collection.specs.Traps.{trap_set}
 use Rattle.flume_collection.specs.declared.trap.Trap.{Trap}
 use Rattle.flume_value.specs.declared.value.Value.{Value}
 use Rattle.plan_phases.proofs.Asking.{asked_none}
-use Rattle.plan_phases.proofs.Joining.{act_stopped}
+use Rattle.plan_phases.proofs.Joining.{act_ran, act_stopped}
 use Rattle.plan_phases.specs.Phases.{OfAct}
 use Rattle.plan_phases.specs.Told.{IsStopped}
 use Rattle.plan_phases.specs.declared.fault.RunFault.{RunFault}
 use Rattle.plan_phases.specs.declared.fault.RunFault.TheVariants as fault
+use Rattle.plan_phases.specs.declared.winners.PhaseWinners.{PhaseWinners}
+use Rattle.run_settings.specs.Settings.{RunSettings}
+use Rattle.stage_results.specs.of_stage_phases.Runs.{RunHasEnded}
 use Rattle.task_lists.proofs.Objects.{only_bag}
 use Rattle.task_lists.specs.Lists.{calm, object_made}
-use Rattle.task_lists.specs.Tasks.{Lists}
-use Rattle.stage_exec.specs.inner.Objects.{IsActFault, then_values}
+use Rattle.task_lists.specs.Tasks.{Lists, Split}
+use Rattle.stage_exec.specs.inner.Objects.{IsActFault, MakingHasEnded, then_values}
+use Rattle.stage_exec.specs.inner.Stages.{IsStageGiven}
 use Rattle.stage_exec.proofs.Running.{all_dropped}
 
 -- where the making of an object stops, so does its phase
@@ -33,6 +40,26 @@ act_stops tries drill w traps us (fault.Trap trap) first =
     act_stopped tries drill w traps us trap first
 act_stops tries drill w traps us (fault.GaveUp stage phase task) h = absurd h
 act_stops tries drill w traps us fault.Memory h = asked_none tries drill [] us
+
+-- what the making of an object gives, and that its phase has ended
+module _ (w : World) (origin : ℕ) (last : Bool) where
+  pub making_gives : (n : Split) (t : Lists) (act : Act) (takes : List PlanPlace)
+      (first sizes : List ℕ) (r : Result (List (List Value)) RunFault)
+      → MakingHasEnded w origin last (object_made w t origin act takes) first sizes r
+      → IfOk r (IsStageGiven w n t (Operate takes origin last act) first sizes)
+  making_gives n t act takes first sizes (Ok lists) h =
+      record { lists = h.lists; grown = h.grown }
+  making_gives n t act takes first sizes (Err e) h = tt
+
+  pub making_ends : (s : RunSettings) (object : Collection) (first sizes : List ℕ)
+      (us : List Account) (before : List PhaseWinners)
+      (r : Result (List (List Value)) RunFault)
+      → MakingHasEnded w origin last object first sizes r
+      → RunHasEnded s w (OfAct object.traps ∷ []) us us before before r
+  making_ends s object first sizes us before (Ok lists) h =
+      act_ran s.tries s.drill w object.traps h.calm us before
+  making_ends s object first sizes us before (Err e) h =
+      act_stops s.tries s.drill w object.traps us e h
 
 -- ---- the values of objects, one after another
 

@@ -13,12 +13,8 @@ use Rattle.plan_phases.specs.declared.fault.RunFault.TheVariants as fault
 use Rattle.run_settings.specs.Settings.{RunSettings}
 use Rattle.task_lists.specs.Plans.{first_trap}
 use Rattle.task_lists.specs.Runs.{kept_count}
-use Rattle.task_lists.specs.Tasks.{Split}
+pub use Rattle.stage_results.specs.of_stage_phases.Runs.{split_of}
 use Rattle.stage_exec.specs.declared.executed.Executed.{Executed}
-
--- into how many shards and partitions a run splits its channels
-abbrev pub split_of : RunSettings → Split
-split_of s = record { shards = s.shards; partitions = s.partitions }
 
 -- Nothing in the plan's meaning traps. The lists of outputs have the bags of what the plan writes
 -- out, and the counts are the sizes of the first so many script nodes. Of each phase of the plan

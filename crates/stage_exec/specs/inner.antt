@@ -2,3 +2,4 @@ pub mod Along
 pub mod Objects
 pub mod Places
 pub mod Reads
+pub mod Stages

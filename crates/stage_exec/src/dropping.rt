@@ -1,13 +1,9 @@
 // Lists that are read no more are dropped: rows of sources, and results of stages.
-ghost use Rattle.std.specs.Prelude.{◌≡◌, length};
+ghost use Rattle.std.specs.Prelude.{◌≡◌};
 ghost use Rattle.std.specs.List.{list_any};
-ghost use Rattle.flume_types.specs.Typing.{AllHave};
-ghost use Rattle.flume_types.specs.declared.types.Ty.{Ty as GhostTy};
 ghost use Rattle.exec_plan.specs.Meaning.{in_reads, stage_reads, object_places};
-ghost use Rattle.exec_plan.specs.declared.plan.PlanPlace.{PlanPlace as GhostPlace};
-ghost use Rattle.stage_results.specs.of_map_shard.Tables.{table};
 ghost use Rattle.stage_exec.specs.inner.Places as spec;
-ghost use Rattle.stage_exec.specs.inner.Reads.{AgreeOn, later_reads};
+ghost use Rattle.stage_exec.specs.inner.Reads.{KeepsLater, later_reads};
 
 use crate::taking::{is_among, is_same, taken};
 use exec_plan::{InChannel, PlanPlace, Stage};
@@ -23,12 +19,8 @@ pub(crate) fn drop_read(
     later: &[Stage],
     outputs: &[PlanPlace],
 )
-    ensures others { AgreeOn (later_reads later.now outputs.now)
-        (table sources.new.items results.new.items) (table sources.old.items results.old.items) }
-    ensures typed { (type : GhostTy) (q : GhostPlace) →
-        AllHave type (table sources.old.items results.old.items q) →
-        AllHave type (table sources.new.items results.new.items q) }
-    ensures count { length results.new.items ≡ length results.old.items }
+    ensures kept { KeepsLater later.now outputs.now sources.old.items results.old.items
+        sources.new.items results.new.items }
 {
     match stage {
         Stage::Mscr(stage) => {
@@ -59,12 +51,8 @@ pub(crate) fn drop_inputs(
     later: &[Stage],
     outputs: &[PlanPlace],
 )
-    ensures others { AgreeOn (later_reads later.now outputs.now)
-        (table sources.new.items results.new.items) (table sources.old.items results.old.items) }
-    ensures typed { (type : GhostTy) (q : GhostPlace) →
-        AllHave type (table sources.old.items results.old.items q) →
-        AllHave type (table sources.new.items results.new.items q) }
-    ensures count { length results.new.items ≡ length results.old.items }
+    ensures kept { KeepsLater later.now outputs.now sources.old.items results.old.items
+        sources.new.items results.new.items }
 {
     for input in inputs {
         drop_input(alloc, sources, results, input, later, outputs);
@@ -80,12 +68,8 @@ fn drop_input(
     later: &[Stage],
     outputs: &[PlanPlace],
 )
-    ensures others { AgreeOn (later_reads later.now outputs.now)
-        (table sources.new.items results.new.items) (table sources.old.items results.old.items) }
-    ensures typed { (type : GhostTy) (q : GhostPlace) →
-        AllHave type (table sources.old.items results.old.items q) →
-        AllHave type (table sources.new.items results.new.items q) }
-    ensures count { length results.new.items ≡ length results.old.items }
+    ensures kept { KeepsLater later.now outputs.now sources.old.items results.old.items
+        sources.new.items results.new.items }
 {
     drop_unread(alloc, sources, results, input.reads, later, outputs);
     if let Some(object) = input.beside {
@@ -102,12 +86,8 @@ fn drop_unread(
     later: &[Stage],
     outputs: &[PlanPlace],
 )
-    ensures others { AgreeOn (later_reads later.now outputs.now)
-        (table sources.new.items results.new.items) (table sources.old.items results.old.items) }
-    ensures typed { (type : GhostTy) (q : GhostPlace) →
-        AllHave type (table sources.old.items results.old.items q) →
-        AllHave type (table sources.new.items results.new.items q) }
-    ensures count { length results.new.items ≡ length results.old.items }
+    ensures kept { KeepsLater later.now outputs.now sources.old.items results.old.items
+        sources.new.items results.new.items }
 {
     if is_read(later, outputs, place) {
         return;

@@ -1,15 +1,14 @@
 // Operate stages: the objects that acts make of collections.
-ghost use Rattle.std.specs.Prelude.{◌≡◌, [], ◌∷◌, true, map, IfErr, IfOk, OnOk, Some, sum};
+ghost use Rattle.std.specs.Prelude.{◌≡◌, [], ◌∷◌, true, map, IfOk};
 ghost use Rattle.exec_graph.specs.Objects.{gives_object, only, values_in};
 ghost use Rattle.exec_graph.specs.World.{World};
 ghost use Rattle.exec_plan.specs.declared.plan.Stage.TheVariants as stages;
 ghost use Rattle.exec_graph.specs.declared.graph.Act.TheVariants as acts;
 ghost use Rattle.stage_results.specs.of_map_shard.Tables.{table};
 ghost use Rattle.operate_step.specs.Results.{object_of};
-ghost use Rattle.stage_exec.specs.inner.Objects.{IsActFault, made_object};
-ghost use Rattle.stage_results.specs.of_step_counts.Sizes.{HaveGrown};
+ghost use Rattle.stage_exec.specs.inner.Objects.{MakingHasEnded, made_object};
+ghost use Rattle.stage_results.specs.of_stage_phases.Runs.{InEachWorld, InSomeWorld};
 ghost use Rattle.task_lists.specs.Lists.{calm, object_made};
-ghost use Rattle.task_lists.specs.Plans.{task_counts};
 ghost use Rattle.stage_results.specs.of_task_safety.Stages.{CanRunStage};
 
 use combine_table::Comb;
@@ -42,20 +41,12 @@ pub(crate) fn object_lists<F: Functions>(
     sizes: &mut [u64],
 ) -> Result<Pile<Items>, RunFault>
     requires object { gives_object act ≡ true }
-    requires ready { (w : World) × (w.called ≡ F.called inputs.now.functions.now)
-        × CanRunStage w (F.can_call inputs.now.functions.now) _number
-        (table sources.now results.now) (stages.Operate takes.now origin last act) }
-    ensures lists { (w : World) → w.called ≡ F.called inputs.now.functions.now →
-        IfOk result (λ lists. lists
-        ≡ (object_made w (table sources.now results.now) origin act takes.now).bag ∷ []) }
-    ensures calm { (w : World) → w.called ≡ F.called inputs.now.functions.now → OnOk result
-        ((object_made w (table sources.now results.now) origin act takes.now).traps ≡ []) }
-    ensures grown { (w : World) → w.called ≡ F.called inputs.now.functions.now →
-        OnOk result (HaveGrown (λ i. sum ((task_counts w i).objects origin last
-        (object_made w (table sources.now results.now) origin act takes.now)))
-        sizes.old sizes.new) }
-    ensures stopped { (w : World) → w.called ≡ F.called inputs.now.functions.now → IfErr result
-        (IsActFault (object_made w (table sources.now results.now) origin act takes.now).traps) }
+    requires ready { InSomeWorld (F.called inputs.now.functions.now) (λ w. CanRunStage w
+        (F.can_call inputs.now.functions.now) _number (table sources.now results.now)
+        (stages.Operate takes.now origin last act)) }
+    ensures { InEachWorld (F.called inputs.now.functions.now) (λ w. MakingHasEnded w origin last
+        (object_made w (table sources.now results.now) origin act takes.now)
+        sizes.old sizes.new result) }
 {
     let members = made(
         alloc, inputs, sources, results, takes, origin, last, act, _number,
@@ -71,12 +62,8 @@ fn kept(
     last: bool,
     sizes: &mut [u64],
 ) -> Result<Pile<Items>, RunFault>
-    ensures lists { IfOk result (λ lists. lists ≡ (made_object made).bag ∷ []) }
-    ensures calm { OnOk result ((made_object made).traps ≡ []) }
-    ensures grown { (w : World) → OnOk result (HaveGrown
-        (λ i. sum ((task_counts w i).objects origin last (made_object made)))
-        sizes.old sizes.new) }
-    ensures stopped { IfErr result (IsActFault (made_object made).traps) }
+    ensures { (w : World) →
+        MakingHasEnded w origin last (made_object made) sizes.old sizes.new result }
 {
     match made {
         Err(trap) => Err(RunFault::Trap(trap)),
@@ -108,12 +95,11 @@ fn made<F: Functions>(
     _number: u32,
 ) -> Result<Result<Items, Trap>, AllocError>
     requires object { gives_object act ≡ true }
-    requires ready { (w : World) × (w.called ≡ F.called inputs.now.functions.now)
-        × CanRunStage w (F.can_call inputs.now.functions.now) _number
-        (table sources.now results.now) (stages.Operate takes.now origin _last act) }
-    ensures { (w : World) → w.called ≡ F.called inputs.now.functions.now →
-        IfOk result (λ made. object_made w (table sources.now results.now) origin act takes.now
-        ≡ made_object made) }
+    requires ready { InSomeWorld (F.called inputs.now.functions.now) (λ w. CanRunStage w
+        (F.can_call inputs.now.functions.now) _number (table sources.now results.now)
+        (stages.Operate takes.now origin _last act)) }
+    ensures { InEachWorld (F.called inputs.now.functions.now) (λ w. IfOk result (λ made.
+        object_made w (table sources.now results.now) origin act takes.now ≡ made_object made)) }
 {
     match act {
         Act::Operate(function) => called(
@@ -146,13 +132,12 @@ fn called<F: Functions>(
     function: u32,
     _number: u32,
 ) -> Result<Result<Items, Trap>, AllocError>
-    requires ready { (w : World) × (w.called ≡ F.called inputs.now.functions.now)
-        × CanRunStage w (F.can_call inputs.now.functions.now) _number
-        (table sources.now results.now)
-        (stages.Operate takes.now origin _last (acts.Operate function)) }
-    ensures { (w : World) → w.called ≡ F.called inputs.now.functions.now →
-        IfOk result (λ made. object_made w (table sources.now results.now) origin
-        (acts.Operate function) takes.now ≡ made_object made) }
+    requires ready { InSomeWorld (F.called inputs.now.functions.now) (λ w. CanRunStage w
+        (F.can_call inputs.now.functions.now) _number (table sources.now results.now)
+        (stages.Operate takes.now origin _last (acts.Operate function))) }
+    ensures { InEachWorld (F.called inputs.now.functions.now) (λ w. IfOk result (λ made.
+        object_made w (table sources.now results.now) origin (acts.Operate function) takes.now
+        ≡ made_object made)) }
 {
     act_law(inputs.functions);
     no_value_law();
@@ -206,9 +191,9 @@ fn single<F: Functions>(
     origin: u32,
     by: Comb,
 ) -> Result<Result<Items, Trap>, AllocError>
-    ensures { (w : World) → w.called ≡ F.called _inputs.now.functions.now →
-        IfOk result (λ made. object_made w (table sources.now results.now) origin
-        (acts.Singleton by) takes.now ≡ made_object made) }
+    ensures { InEachWorld (F.called _inputs.now.functions.now) (λ w. IfOk result (λ made.
+        object_made w (table sources.now results.now) origin (acts.Singleton by) takes.now
+        ≡ made_object made)) }
 {
     if takes.len() == 1 {
         let list = list_of(sources, results, takes[0]);

@@ -1,17 +1,14 @@
 // The phases of a stage, one after the other.
-ghost use Rattle.std.specs.Prelude.{◌≡◌, ◌<◌, ◌≤◌, ◌∷◌, [], length, map, IfOk, IfErr, OnOk};
+ghost use Rattle.std.specs.Prelude.{◌<◌, ◌≤◌, ◌∷◌, [], length, map, IfOk};
 ghost use Rattle.std.specs.List.{AllZip};
 ghost use Rattle.crew.specs.Hosts.{Grew};
-ghost use Rattle.exec_graph.specs.World.{World};
-ghost use Rattle.exec_plan.specs.declared.plan.PlanPlace.{PlanPlace as GhostPlace};
 ghost use Rattle.exec_plan.specs.declared.plan.Stage.TheVariants as stages;
-ghost use Rattle.flume_types.specs.Typing.{AllHave};
-ghost use Rattle.flume_types.specs.declared.types.Ty.{Ty as GhostTy};
-ghost use Rattle.stage_results.specs.of_map_shard.Tables.{split, table};
+ghost use Rattle.stage_results.specs.of_map_shard.Tables.{table};
 ghost use Rattle.plan_phases.specs.Phases.{OfTasks, map_phase_of, stage_phases};
-ghost use Rattle.plan_phases.specs.Told.{HaveRun, IsStopped};
-ghost use Rattle.stage_results.specs.of_stage_phases.Outs.{AreReduceOuts};
-ghost use Rattle.stage_exec.specs.inner.Reads.{AgreeOn, later_reads};
+ghost use Rattle.stage_results.specs.of_stage_phases.Outs.{AreStageOuts};
+ghost use Rattle.stage_results.specs.of_stage_phases.Runs.{InEachWorld, InSomeWorld};
+ghost use Rattle.stage_results.specs.of_stage_phases.Runs.{RunHasEnded, split_of};
+ghost use Rattle.stage_exec.specs.inner.Reads.{KeepsLater};
 ghost use Rattle.stage_results.specs.of_task_safety.Stages.{CanRunStage};
 ghost use Rattle.task_lists.specs.Outs.{AreMapOuts};
 
@@ -52,34 +49,20 @@ pub(crate) fn stage_outs<R: Threads + Sync, F: Functions + Sync, H: Host + Send>
     requires hosts { (0 < length hosts.old) × (length hosts.old ≤ 16) }
     requires cut { (0 < inputs.now.settings.now.shards)
         × (0 < inputs.now.settings.now.partitions) }
-    requires ready { (w : World) × (w.called ≡ F.called inputs.now.functions.now)
-        × CanRunStage w (F.can_call inputs.now.functions.now) number
-        (table sources.old.items results.old.items) (stages.Mscr stage.now) }
+    requires ready { InSomeWorld (F.called inputs.now.functions.now) (λ w. CanRunStage w
+        (F.can_call inputs.now.functions.now) number
+        (table sources.old.items results.old.items) (stages.Mscr stage.now)) }
     ensures grew { AllZip Grew (map H.account hosts.old) (map H.account hosts.new) }
-    ensures maps { (w : World) → w.called ≡ F.called inputs.now.functions.now →
-        IfOk result (λ outs. AreMapOuts w
-        (split inputs.now.settings.now.shards inputs.now.settings.now.partitions)
-        (table sources.old.items results.old.items) stage.now outs.maps.items) }
-    ensures reduces { (w : World) → w.called ≡ F.called inputs.now.functions.now →
-        IfOk result (λ outs. AreReduceOuts w
-        (split inputs.now.settings.now.shards inputs.now.settings.now.partitions)
-        (table sources.old.items results.old.items) stage.now outs.reduces.items) }
-    ensures ran { (w : World) → w.called ≡ F.called inputs.now.functions.now → OnOk result (HaveRun
-        inputs.now.settings.now.tries inputs.now.settings.now.drill w (stage_phases w number
-        (split inputs.now.settings.now.shards inputs.now.settings.now.partitions)
+    ensures made { InEachWorld (F.called inputs.now.functions.now) (λ w. IfOk result (λ outs.
+        AreStageOuts w (split_of inputs.now.settings.now)
+        (table sources.old.items results.old.items) stage.now outs.maps.items outs.reduces.items)) }
+    ensures ended { InEachWorld (F.called inputs.now.functions.now) (λ w. RunHasEnded
+        inputs.now.settings.now w (stage_phases w number (split_of inputs.now.settings.now)
         (table sources.old.items results.old.items) (stages.Mscr stage.now))
-        (map H.account hosts.old) (map H.account hosts.new) winners.old.items winners.new.items) }
-    ensures stopped { (w : World) → w.called ≡ F.called inputs.now.functions.now → IfErr result
-        (IsStopped inputs.now.settings.now.tries inputs.now.settings.now.drill w (stage_phases w
-        number (split inputs.now.settings.now.shards inputs.now.settings.now.partitions)
-        (table sources.old.items results.old.items) (stages.Mscr stage.now))
-        (map H.account hosts.old) (map H.account hosts.new)) }
-    ensures others { AgreeOn (later_reads later.now outputs.now)
-        (table sources.new.items results.new.items) (table sources.old.items results.old.items) }
-    ensures typed { (type : GhostTy) (q : GhostPlace) →
-        AllHave type (table sources.old.items results.old.items q) →
-        AllHave type (table sources.new.items results.new.items q) }
-    ensures count { length results.new.items ≡ length results.old.items }
+        (map H.account hosts.old) (map H.account hosts.new)
+        winners.old.items winners.new.items result) }
+    ensures kept { KeepsLater later.now outputs.now sources.old.items results.old.items
+        sources.new.items results.new.items }
 {
     let maps = all_maps(
         rt, alloc, inputs, &*sources, &*results, stage, number, hosts, winners,
@@ -109,25 +92,17 @@ fn all_maps<R: Threads + Sync, F: Functions + Sync, H: Host + Send>(
     winners: &mut Vec<PhaseWinners>,
 ) -> Result<Vec<MapOut>, RunFault>
     requires hosts { (0 < length hosts.old) × (length hosts.old ≤ 16) }
-    requires ready { (w : World) × (w.called ≡ F.called inputs.now.functions.now)
-        × CanRunStage w (F.can_call inputs.now.functions.now) number
-        (table sources.now.items results.now.items) (stages.Mscr stage.now) }
+    requires ready { InSomeWorld (F.called inputs.now.functions.now) (λ w. CanRunStage w
+        (F.can_call inputs.now.functions.now) number
+        (table sources.now.items results.now.items) (stages.Mscr stage.now)) }
     ensures grew { AllZip Grew (map H.account hosts.old) (map H.account hosts.new) }
-    ensures outs { (w : World) → w.called ≡ F.called inputs.now.functions.now →
-        IfOk result (λ outs. AreMapOuts w
-        (split inputs.now.settings.now.shards inputs.now.settings.now.partitions)
-        (table sources.now.items results.now.items) stage.now outs.items) }
-    ensures ran { (w : World) → w.called ≡ F.called inputs.now.functions.now → OnOk result (HaveRun
-        inputs.now.settings.now.tries inputs.now.settings.now.drill w (OfTasks (map_phase_of number
-        (split inputs.now.settings.now.shards inputs.now.settings.now.partitions)
+    ensures outs { InEachWorld (F.called inputs.now.functions.now) (λ w. IfOk result (λ outs.
+        AreMapOuts w (split_of inputs.now.settings.now)
+        (table sources.now.items results.now.items) stage.now outs.items)) }
+    ensures ended { InEachWorld (F.called inputs.now.functions.now) (λ w. RunHasEnded
+        inputs.now.settings.now w (OfTasks (map_phase_of number (split_of inputs.now.settings.now)
         (table sources.now.items results.now.items) stage.now) ∷ []) (map H.account hosts.old)
-        (map H.account hosts.new) winners.old.items winners.new.items) }
-    ensures stopped { (w : World) → w.called ≡ F.called inputs.now.functions.now → IfErr result
-        (IsStopped inputs.now.settings.now.tries inputs.now.settings.now.drill w
-        (OfTasks (map_phase_of number
-        (split inputs.now.settings.now.shards inputs.now.settings.now.partitions)
-        (table sources.now.items results.now.items) stage.now) ∷ [])
-        (map H.account hosts.old) (map H.account hosts.new)) }
+        (map H.account hosts.new) winners.old.items winners.new.items result) }
 {
     let rows = sources.as_slice();
     map_outs(

@@ -1,24 +1,20 @@
 // One stage.
-ghost use Rattle.std.specs.Prelude.{◌≡◌, ◌<◌, ◌≤◌, ◌*◌, ◌∷◌, [], true, length, map, sum, IfOk, IfErr, OnOk};
+ghost use Rattle.std.specs.Prelude.{◌≡◌, ◌<◌, ◌≤◌, ◌*◌, ◌∷◌, [], true, length, map, IfOk};
 ghost use Rattle.std.specs.List.{AllZip, flat_map};
 ghost use Rattle.crew.specs.Hosts.{Grew};
 ghost use Rattle.exec_graph.specs.Objects.{gives_object};
 ghost use Rattle.exec_graph.specs.World.{World};
-ghost use Rattle.exec_plan.specs.declared.plan.PlanPlace.{PlanPlace as GhostPlace};
 ghost use Rattle.exec_plan.specs.declared.plan.Stage.TheVariants as stages;
-ghost use Rattle.flume_types.specs.Typing.{AllHave};
-ghost use Rattle.flume_types.specs.declared.types.Ty.{Ty as GhostTy};
 ghost use Rattle.stage_results.specs.of_map_shard.Tables.{split, table};
 ghost use Rattle.plan_phases.specs.Phases.{stage_phases};
-ghost use Rattle.plan_phases.specs.Told.{HaveRun, IsStopped};
-ghost use Rattle.stage_exec.specs.inner.Objects.{GivesObject, IsActFault};
-ghost use Rattle.stage_exec.specs.inner.Reads.{AgreeOn, later_reads};
-ghost use Rattle.stage_results.specs.of_stage_phases.Outs.{AreReduceOuts};
+ghost use Rattle.stage_exec.specs.inner.Objects.{GivesObject, MakingHasEnded};
+ghost use Rattle.stage_exec.specs.inner.Reads.{KeepsLater};
+ghost use Rattle.stage_exec.specs.inner.Stages.{IsStageGiven};
+ghost use Rattle.stage_results.specs.of_stage_phases.Outs.{AreStageOuts};
+ghost use Rattle.stage_results.specs.of_stage_phases.Runs.{InEachWorld, InSomeWorld};
+ghost use Rattle.stage_results.specs.of_stage_phases.Runs.{RunHasEnded, split_of};
 ghost use Rattle.stage_results.specs.of_task_safety.Stages.{CanRunStage};
-ghost use Rattle.stage_results.specs.of_step_counts.Sizes.{HaveGrown};
-ghost use Rattle.task_lists.specs.Lists.{object_made, result_lists};
-ghost use Rattle.task_lists.specs.Outs.{AreMapOuts};
-ghost use Rattle.task_lists.specs.Plans.{stage_tasks, task_counts};
+ghost use Rattle.task_lists.specs.Lists.{object_made};
 ghost use Rattle.task_lists.specs.Tasks.{Lists};
 
 use crate::flatten::flatten_lists;
@@ -53,35 +49,21 @@ pub(crate) fn run_stage<R: Threads + Sync, F: Functions + Sync, H: Host + Send>(
     winners: &mut Vec<PhaseWinners>,
 ) -> Result<Pile<Items>, RunFault>
     requires hosts { (0 < length hosts.old) × (length hosts.old ≤ 16) }
-    requires ready { (w : World) × (w.called ≡ F.called inputs.now.functions.now)
-        × CanRunStage w (F.can_call inputs.now.functions.now) number
-        (table sources.old.items results.old.items) stage.now }
+    requires ready { InSomeWorld (F.called inputs.now.functions.now) (λ w. CanRunStage w
+        (F.can_call inputs.now.functions.now) number
+        (table sources.old.items results.old.items) stage.now) }
     requires object { GivesObject stage.now }
     ensures grew { AllZip Grew (map H.account hosts.old) (map H.account hosts.new) }
-    ensures lists { (w : World) → w.called ≡ F.called inputs.now.functions.now →
-        IfOk result (λ lists. lists ≡ result_lists w
-        (split inputs.now.settings.now.shards inputs.now.settings.now.partitions)
-        (table sources.old.items results.old.items) stage.now) }
-    ensures grown { (w : World) → w.called ≡ F.called inputs.now.functions.now →
-        OnOk result (HaveGrown (λ i. sum (stage_tasks (task_counts w i) w
-        (split inputs.now.settings.now.shards inputs.now.settings.now.partitions)
-        (table sources.old.items results.old.items) stage.now)) sizes.old sizes.new) }
-    ensures ran { (w : World) → w.called ≡ F.called inputs.now.functions.now → OnOk result (HaveRun
-        inputs.now.settings.now.tries inputs.now.settings.now.drill w (stage_phases w number
-        (split inputs.now.settings.now.shards inputs.now.settings.now.partitions)
-        (table sources.old.items results.old.items) stage.now) (map H.account hosts.old)
-        (map H.account hosts.new) winners.old.items winners.new.items) }
-    ensures stopped { (w : World) → w.called ≡ F.called inputs.now.functions.now → IfErr result
-        (IsStopped inputs.now.settings.now.tries inputs.now.settings.now.drill w (stage_phases w
-        number (split inputs.now.settings.now.shards inputs.now.settings.now.partitions)
-        (table sources.old.items results.old.items) stage.now) (map H.account hosts.old)
-        (map H.account hosts.new)) }
-    ensures others { AgreeOn (later_reads later.now outputs.now)
-        (table sources.new.items results.new.items) (table sources.old.items results.old.items) }
-    ensures typed { (type : GhostTy) (q : GhostPlace) →
-        AllHave type (table sources.old.items results.old.items q) →
-        AllHave type (table sources.new.items results.new.items q) }
-    ensures count { length results.new.items ≡ length results.old.items }
+    ensures given { InEachWorld (F.called inputs.now.functions.now) (λ w. IfOk result
+        (IsStageGiven w (split_of inputs.now.settings.now)
+        (table sources.old.items results.old.items) stage.now sizes.old sizes.new)) }
+    ensures ended { InEachWorld (F.called inputs.now.functions.now) (λ w. RunHasEnded
+        inputs.now.settings.now w (stage_phases w number (split_of inputs.now.settings.now)
+        (table sources.old.items results.old.items) stage.now)
+        (map H.account hosts.old) (map H.account hosts.new)
+        winners.old.items winners.new.items result) }
+    ensures kept { KeepsLater later.now outputs.now sources.old.items results.old.items
+        sources.new.items results.new.items }
 {
     match stage {
         Stage::Mscr(stage) => run_mscr(
@@ -128,23 +110,13 @@ fn object_of<F: Functions>(
     sizes: &mut [u64],
 ) -> Result<Pile<Items>, RunFault>
     requires object { gives_object act ≡ true }
-    requires ready { (w : World) × (w.called ≡ F.called inputs.now.functions.now)
-        × CanRunStage w (F.can_call inputs.now.functions.now) _number
+    requires ready { InSomeWorld (F.called inputs.now.functions.now) (λ w. CanRunStage w
+        (F.can_call inputs.now.functions.now) _number
         (table sources.now.items results.now.items)
-        (stages.Operate takes.now origin last act) }
-    ensures lists { (w : World) → w.called ≡ F.called inputs.now.functions.now →
-        IfOk result (λ lists. lists ≡ (object_made w
-        (table sources.now.items results.now.items) origin act takes.now).bag ∷ []) }
-    ensures calm { (w : World) → w.called ≡ F.called inputs.now.functions.now →
-        OnOk result ((object_made w
-        (table sources.now.items results.now.items) origin act takes.now).traps ≡ []) }
-    ensures grown { (w : World) → w.called ≡ F.called inputs.now.functions.now →
-        OnOk result (HaveGrown (λ i. sum ((task_counts w i).objects origin last (object_made w
-        (table sources.now.items results.now.items) origin act takes.now)))
-        sizes.old sizes.new) }
-    ensures stopped { (w : World) → w.called ≡ F.called inputs.now.functions.now →
-        IfErr result (IsActFault (object_made w
-        (table sources.now.items results.now.items) origin act takes.now).traps) }
+        (stages.Operate takes.now origin last act)) }
+    ensures { InEachWorld (F.called inputs.now.functions.now) (λ w. MakingHasEnded w origin last
+        (object_made w (table sources.now.items results.now.items) origin act takes.now)
+        sizes.old sizes.new result) }
 {
     let rows = sources.as_slice();
     let lists = results.as_slice();
@@ -168,34 +140,20 @@ fn run_mscr<R: Threads + Sync, F: Functions + Sync, H: Host + Send>(
     winners: &mut Vec<PhaseWinners>,
 ) -> Result<Pile<Items>, RunFault>
     requires hosts { (0 < length hosts.old) × (length hosts.old ≤ 16) }
-    requires ready { (w : World) × (w.called ≡ F.called inputs.now.functions.now)
-        × CanRunStage w (F.can_call inputs.now.functions.now) number
-        (table sources.old.items results.old.items) (stages.Mscr stage.now) }
-    ensures grew { AllZip Grew (map H.account hosts.old) (map H.account hosts.new) }
-    ensures lists { (w : World) → w.called ≡ F.called inputs.now.functions.now →
-        IfOk result (λ lists. lists ≡ result_lists w
-        (split inputs.now.settings.now.shards inputs.now.settings.now.partitions)
+    requires ready { InSomeWorld (F.called inputs.now.functions.now) (λ w. CanRunStage w
+        (F.can_call inputs.now.functions.now) number
         (table sources.old.items results.old.items) (stages.Mscr stage.now)) }
-    ensures grown { (w : World) → w.called ≡ F.called inputs.now.functions.now →
-        OnOk result (HaveGrown (λ i. sum (stage_tasks (task_counts w i) w
-        (split inputs.now.settings.now.shards inputs.now.settings.now.partitions)
-        (table sources.old.items results.old.items) (stages.Mscr stage.now))) sizes.old sizes.new) }
-    ensures ran { (w : World) → w.called ≡ F.called inputs.now.functions.now → OnOk result (HaveRun
-        inputs.now.settings.now.tries inputs.now.settings.now.drill w (stage_phases w number
-        (split inputs.now.settings.now.shards inputs.now.settings.now.partitions)
+    ensures grew { AllZip Grew (map H.account hosts.old) (map H.account hosts.new) }
+    ensures given { InEachWorld (F.called inputs.now.functions.now) (λ w. IfOk result
+        (IsStageGiven w (split_of inputs.now.settings.now)
+        (table sources.old.items results.old.items) (stages.Mscr stage.now) sizes.old sizes.new)) }
+    ensures ended { InEachWorld (F.called inputs.now.functions.now) (λ w. RunHasEnded
+        inputs.now.settings.now w (stage_phases w number (split_of inputs.now.settings.now)
         (table sources.old.items results.old.items) (stages.Mscr stage.now))
-        (map H.account hosts.old) (map H.account hosts.new) winners.old.items winners.new.items) }
-    ensures stopped { (w : World) → w.called ≡ F.called inputs.now.functions.now → IfErr result
-        (IsStopped inputs.now.settings.now.tries inputs.now.settings.now.drill w (stage_phases w
-        number (split inputs.now.settings.now.shards inputs.now.settings.now.partitions)
-        (table sources.old.items results.old.items) (stages.Mscr stage.now))
-        (map H.account hosts.old) (map H.account hosts.new)) }
-    ensures others { AgreeOn (later_reads later.now outputs.now)
-        (table sources.new.items results.new.items) (table sources.old.items results.old.items) }
-    ensures typed { (type : GhostTy) (q : GhostPlace) →
-        AllHave type (table sources.old.items results.old.items q) →
-        AllHave type (table sources.new.items results.new.items q) }
-    ensures count { length results.new.items ≡ length results.old.items }
+        (map H.account hosts.old) (map H.account hosts.new)
+        winners.old.items winners.new.items result) }
+    ensures kept { KeepsLater later.now outputs.now sources.old.items results.old.items
+        sources.new.items results.new.items }
 {
     let shards = inputs.settings.shards();
     let partitions = inputs.settings.partitions();
@@ -219,16 +177,9 @@ fn mscr_lists(
 ) -> Result<Pile<Items>, AllocError>
     requires cut { (0 < shards) × (0 < partitions) }
     requires count { length outs.maps.items ≡ length stage.now.inputs * shards }
-    ensures lists { (w : World) (t : Lists) →
-        AreMapOuts w (split shards partitions) t stage.now outs.maps.items →
-        AreReduceOuts w (split shards partitions) t stage.now outs.reduces.items →
-        IfOk result (λ lists.
-        lists ≡ result_lists w (split shards partitions) t (stages.Mscr stage.now)) }
-    ensures grown { (w : World) (t : Lists) →
-        AreMapOuts w (split shards partitions) t stage.now outs.maps.items →
-        AreReduceOuts w (split shards partitions) t stage.now outs.reduces.items →
-        OnOk result (HaveGrown (λ i. sum (stage_tasks (task_counts w i) w
-        (split shards partitions) t (stages.Mscr stage.now))) sizes.old sizes.new) }
+    ensures { (w : World) (t : Lists) → AreStageOuts w (split shards partitions) t stage.now
+        outs.maps.items outs.reduces.items → IfOk result (IsStageGiven w
+        (split shards partitions) t (stages.Mscr stage.now) sizes.old sizes.new) }
 {
     let StageOuts { maps, reduces } = outs;
     add_map_counts(alloc, stage, shards, &maps, sizes)?;

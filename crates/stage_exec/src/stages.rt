@@ -1,11 +1,11 @@
 // The stages of a plan, one after another.
-ghost use Rattle.std.specs.Prelude.{◌≡◌, ◌∷◌, ◌++◌, [], ◌<◌, ◌≤◌, ◌^◌, length, map, IfErr, IfOk, OnOk};
+ghost use Rattle.std.specs.Prelude.{◌≡◌, ◌∷◌, ◌++◌, [], ◌<◌, ◌≤◌, ◌^◌, length, map, IfOk, OnOk};
 ghost use Rattle.std.specs.List.{AllZip};
 ghost use Rattle.crew.specs.Hosts.{Grew};
 ghost use Rattle.stage_results.specs.of_map_shard.Tables.{table};
-ghost use Rattle.plan_phases.specs.Told.{HaveRun, IsStopped};
-ghost use Rattle.stage_exec.specs.inner.Along.{CanGoOn, counted_on, lists_after, phases_on};
+ghost use Rattle.stage_exec.specs.inner.Along.{CanGoOn, all_counted, all_lists, all_phases};
 ghost use Rattle.stage_exec.specs.inner.Reads.{AgreeOn};
+ghost use Rattle.stage_results.specs.of_stage_phases.Runs.{RunHasEnded};
 ghost use Rattle.stage_results.specs.of_stage_phases.Stages.{run_world};
 ghost use Rattle.stage_results.specs.of_step_counts.Sizes.{HaveGrown};
 ghost use Rattle.task_lists.specs.Lists.{source_lists};
@@ -36,31 +36,19 @@ pub(crate) fn run_stages<R: Threads + Sync, F: Functions + Sync, H: Host + Send>
 ) -> Result<Vec<Pile<Items>>, RunFault>
     requires hosts { (0 < length hosts.old) × (length hosts.old ≤ 16) }
     requires few { length stages.now < 2 ^ 32 }
-    requires ready { CanGoOn
-        (run_world (F.called inputs.now.functions.now) sources.old.items)
-        (F.can_call inputs.now.functions.now) 1 stages.now
-        (source_lists (run_world (F.called inputs.now.functions.now) sources.old.items)) }
+    requires ready { let w = run_world (F.called inputs.now.functions.now) sources.old.items in
+        CanGoOn w (F.can_call inputs.now.functions.now) 1 stages.now (source_lists w) }
     ensures grew { AllZip Grew (map H.account hosts.old) (map H.account hosts.new) }
-    ensures lists { IfOk result (λ results. AgreeOn outputs.now
-        (table sources.new.items results.items)
-        (lists_after inputs.now.settings.now
-        (run_world (F.called inputs.now.functions.now) sources.old.items) 1 stages.now
-        (source_lists (run_world (F.called inputs.now.functions.now) sources.old.items)))) }
-    ensures sizes { OnOk result (HaveGrown (counted_on inputs.now.settings.now
-        (run_world (F.called inputs.now.functions.now) sources.old.items) 1 stages.now
-        (source_lists (run_world (F.called inputs.now.functions.now) sources.old.items)))
+    ensures lists { let w = run_world (F.called inputs.now.functions.now) sources.old.items in
+        IfOk result (λ results. AgreeOn outputs.now (table sources.new.items results.items)
+        (all_lists inputs.now.settings.now w stages.now)) }
+    ensures sizes { let w = run_world (F.called inputs.now.functions.now) sources.old.items in
+        OnOk result (HaveGrown (all_counted inputs.now.settings.now w stages.now)
         sizes.old sizes.new) }
-    ensures ran { OnOk result (HaveRun inputs.now.settings.now.tries inputs.now.settings.now.drill
-        (run_world (F.called inputs.now.functions.now) sources.old.items) (phases_on
-        inputs.now.settings.now (run_world (F.called inputs.now.functions.now) sources.old.items) 1
-        stages.now (source_lists (run_world (F.called inputs.now.functions.now) sources.old.items)))
-        (map H.account hosts.old) (map H.account hosts.new) winners.old.items winners.new.items) }
-    ensures stopped { IfErr result (IsStopped inputs.now.settings.now.tries
-        inputs.now.settings.now.drill
-        (run_world (F.called inputs.now.functions.now) sources.old.items) (phases_on
-        inputs.now.settings.now (run_world (F.called inputs.now.functions.now) sources.old.items) 1
-        stages.now (source_lists (run_world (F.called inputs.now.functions.now) sources.old.items)))
-        (map H.account hosts.old) (map H.account hosts.new)) }
+    ensures ended { let w = run_world (F.called inputs.now.functions.now) sources.old.items in
+        RunHasEnded inputs.now.settings.now w (all_phases inputs.now.settings.now w stages.now)
+        (map H.account hosts.old) (map H.account hosts.new)
+        winners.old.items winners.new.items result }
 {
     let mut results = Vec::new(alloc);
     for (k, stage) in stages.iter().enumerate() {

@@ -1,29 +1,16 @@
 -- The tasks of a map phase as a crew runs them.
-use Rattle.std.proofs.Common.{◌≡◌, ℕ, List, sym, ap, subst}
+use Rattle.std.proofs.Common.{◌≡◌, ℕ, sym, ap, subst}
 use Rattle.flume_value.specs.declared.value.Value.{Value}
 use Rattle.flume_collection.specs.Calls.{Called}
 use Rattle.outside.specs.declared.host.Phase.TheVariants.{Map}
 use Rattle.crew.specs.Drills.{Settings}
 use Rattle.exec_graph.specs.World.{World}
-use Rattle.exec_plan.specs.declared.plan.Mscr.{Mscr}
 use Rattle.task_lists.specs.Outs.{IsCalm, IsFirstTrap}
 use Rattle.task_lists.specs.Tasks.{Task, map_task_at, places}
 use Rattle.map_shard.specs.Work.{IsWorkValue, Work, lists_of, split_of, work_count, work_places}
 use Rattle.plan_phases.specs.Phases.{map_phase_of}
-use Rattle.run_settings.specs.Settings.{RunSettings}
 use Rattle.stage_phases.specs.inner.Tasks.{IsPhaseOf}
 use Rattle.stage_phases.proofs.Numbers.{at_below, length_below}
-
-abbrev pub work_of : {F : Type 0} → F → List (List Value) → List (List (List Value)) → Mscr
-    → RunSettings → Work F
-work_of functions sources results stage settings = record {
-  functions = functions;
-  sources = sources;
-  results = results;
-  stage = stage;
-  shards = settings.shards;
-  partitions = settings.partitions;
-}
 
 module _ {F : Type 0} (work : Work F) (w : World) (called : ℕ → Value → Called)
     (same : w.called ≡ called) where

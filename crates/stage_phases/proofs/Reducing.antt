@@ -21,7 +21,6 @@ use Rattle.exec_plan.specs.declared.plan.OutChannel.{OutChannel}
 use Rattle.exec_plan.specs.declared.plan.OutChannel.TheVariants.{Group, Pass}
 use Rattle.task_lists.specs.Outs.{AreMapOuts, IsCalm, IsFirstTrap}
 use Rattle.task_lists.specs.Tasks.{Lists, Split, Task, groupings, no_task, places, reduce_count, reduce_task, reduce_task_at}
-use Rattle.run_settings.specs.Settings.{RunSettings}
 use Rattle.reduce_part.specs.declared.out.ReduceOut.{ReduceOut}
 use Rattle.reduce_part.specs.Reducing.{AreGroupsFirst, IsGathered, IsReducingValue, IsReduceValue, Reducing, group_count, group_task, reducing_count, reducing_places}
 use Rattle.map_shard.specs.Tables.{split}
@@ -59,14 +58,6 @@ no_outs w n t s outs none e =
       count = ap length e ∙ sym count;
       each = λ k below. absurd (omega arith);
     }
-
-abbrev pub reducing_of : {F : Type 0} → F → Channels → List MapOut → RunSettings → Reducing F
-reducing_of functions stage outs settings = record {
-  functions = functions;
-  stage = stage;
-  outs = outs;
-  partitions = settings.partitions;
-}
 
 -- a phase has some tasks, and not too many for a crew
 pub count_within : {F : Type 0} (r made : Reducing F) → made ≡ r → 0 < r.partitions

@@ -16,14 +16,11 @@ pub struct Inputs<'a, F: Functions> {
 }
 
 impl<'a, F: Functions> Inputs<'a, F> {
+    ghost use Rattle.stage_phases.specs.inner.Tasks.{phase_settings};
+
     /// How a phase of stage `stage` is run.
     pub(crate) fn phase(&self, stage: u32, phase: Phase) -> PhaseSettings<'a>
-        ensures settings { result ≡ record {
-          stage = stage;
-          phase = phase;
-          tries = self.now.settings.now.tries;
-          drill = self.now.settings.now.drill;
-        } }
+        ensures settings { result ≡ phase_settings stage phase self.now.settings.now }
         ensures tries { (0 < result.tries) × (result.tries ≤ 8) }
     {
         PhaseSettings::new(stage, phase, self.settings.tries(), self.settings.drill())

@@ -1,15 +1,15 @@
 // The map phase of a stage.
-ghost use Rattle.std.specs.Prelude.{◌≡◌, ◌<◌, ◌≤◌, ◌^◌, ◌∷◌, [], length, map, IfOk, IfErr, OnOk};
+ghost use Rattle.std.specs.Prelude.{◌≡◌, ◌<◌, ◌≤◌, ◌^◌, ◌∷◌, [], length, map, IfOk};
 ghost use Rattle.std.specs.List.{AllZip};
 ghost use Rattle.crew.specs.Hosts.{Grew};
-ghost use Rattle.exec_graph.specs.World.{World};
 ghost use Rattle.exec_plan.specs.declared.plan.Stage.TheVariants as stages;
 ghost use Rattle.task_lists.specs.Outs.{AreMapOuts};
-ghost use Rattle.map_shard.specs.Tables.{split, table};
+ghost use Rattle.map_shard.specs.Tables.{table};
 ghost use Rattle.map_shard.specs.Work.{work_count};
 ghost use Rattle.plan_phases.specs.Phases.{OfTasks, map_phase_of};
-ghost use Rattle.plan_phases.specs.Told.{HaveRun, IsStopped};
 ghost use Rattle.map_shard.specs.of_task_safety.Stages.{CanRunStage};
+ghost use Rattle.stage_phases.specs.Runs.{InEachWorld, InSomeWorld, RunHasEnded, split_of};
+ghost use Rattle.stage_phases.specs.inner.Tasks.{work_of};
 
 use crate::inputs::Inputs;
 use crate::outs::outs_of;
@@ -37,25 +37,17 @@ pub fn map_outs<R: Threads + Sync, F: Functions + Sync, H: Host + Send>(
     winners: &mut Vec<PhaseWinners>,
 ) -> Result<Vec<MapOut>, RunFault>
     requires hosts { (0 < length hosts.old) × (length hosts.old ≤ 16) }
-    requires ready { (w : World) × (w.called ≡ F.called inputs.now.functions.now)
-        × CanRunStage w (F.can_call inputs.now.functions.now) number
-        (table sources.now results.now) (stages.Mscr stage.now) }
+    requires ready { InSomeWorld (F.called inputs.now.functions.now) (λ w. CanRunStage w
+        (F.can_call inputs.now.functions.now) number (table sources.now results.now)
+        (stages.Mscr stage.now)) }
     ensures grew { AllZip Grew (map H.account hosts.old) (map H.account hosts.new) }
-    ensures outs { (w : World) → w.called ≡ F.called inputs.now.functions.now →
-        IfOk result (λ outs. AreMapOuts w
-        (split inputs.now.settings.now.shards inputs.now.settings.now.partitions)
-        (table sources.now results.now) stage.now outs.items) }
-    ensures ran { (w : World) → w.called ≡ F.called inputs.now.functions.now → OnOk result (HaveRun
-        inputs.now.settings.now.tries inputs.now.settings.now.drill w (OfTasks (map_phase_of number
-        (split inputs.now.settings.now.shards inputs.now.settings.now.partitions)
+    ensures outs { InEachWorld (F.called inputs.now.functions.now) (λ w. IfOk result (λ outs.
+        AreMapOuts w (split_of inputs.now.settings.now) (table sources.now results.now) stage.now
+        outs.items)) }
+    ensures ended { InEachWorld (F.called inputs.now.functions.now) (λ w. RunHasEnded
+        inputs.now.settings.now w (OfTasks (map_phase_of number (split_of inputs.now.settings.now)
         (table sources.now results.now) stage.now) ∷ []) (map H.account hosts.old)
-        (map H.account hosts.new) winners.old.items winners.new.items) }
-    ensures stopped { (w : World) → w.called ≡ F.called inputs.now.functions.now →
-        IfErr result (IsStopped inputs.now.settings.now.tries inputs.now.settings.now.drill w
-        (OfTasks (map_phase_of number
-        (split inputs.now.settings.now.shards inputs.now.settings.now.partitions)
-        (table sources.now results.now) stage.now) ∷ [])
-        (map H.account hosts.old) (map H.account hosts.new)) }
+        (map H.account hosts.new) winners.old.items winners.new.items result) }
 {
     let tasks = map_tasks(inputs, sources, results, stage, number);
     let phase = inputs.phase(number, Phase::Map);
@@ -70,17 +62,11 @@ fn map_tasks<'a, F: Functions>(
     stage: &'a Mscr,
     _number: u32,
 ) -> MapTasks<'a, F>
-    requires ready { (w : World) × (w.called ≡ F.called inputs.now.functions.now)
-        × CanRunStage w (F.can_call inputs.now.functions.now) _number
-        (table sources.now results.now) (stages.Mscr stage.now) }
-    ensures tasks { result ≡ record {
-      functions = inputs.now.functions.now;
-      sources = sources.now;
-      results = results.now;
-      stage = stage.now;
-      shards = inputs.now.settings.now.shards;
-      partitions = inputs.now.settings.now.partitions;
-    } }
+    requires ready { InSomeWorld (F.called inputs.now.functions.now) (λ w. CanRunStage w
+        (F.can_call inputs.now.functions.now) _number (table sources.now results.now)
+        (stages.Mscr stage.now)) }
+    ensures tasks { result ≡ work_of inputs.now.functions.now sources.now results.now stage.now
+        inputs.now.settings.now }
     ensures count { (0 < work_count result) × (work_count result ≤ 2 ^ 27) }
 {
     map_tasks_law(inputs.functions);

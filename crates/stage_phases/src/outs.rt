@@ -1,10 +1,10 @@
 // A phase of a stage, and its winners.
-ghost use Rattle.std.specs.Prelude.{◌≡◌, ◌*◌, ◌^◌, ◌<◌, ◌≤◌, ◌∷◌, ◌++◌, [], length, map, IfOk, IfErr, OnOk};
+ghost use Rattle.std.specs.Prelude.{◌≡◌, ◌*◌, ◌^◌, ◌<◌, ◌≤◌, ◌∷◌, ◌++◌, [], length, map, IfOk, OnOk};
 ghost use Rattle.std.specs.List.{AllZip};
 ghost use Rattle.crew.specs.Hosts.{Grew};
 ghost use Rattle.exec_graph.specs.World.{World};
 ghost use Rattle.plan_phases.specs.Phases.{OfTasks, PhaseTasks};
-ghost use Rattle.plan_phases.specs.Told.{HaveRun, IsStopped};
+ghost use Rattle.stage_phases.specs.Runs.{HaveEnded};
 ghost use Rattle.stage_phases.specs.inner.Tasks.{AreValues, IsPhaseOf, fault_at};
 
 use crew::{PhaseSettings, Tasks};
@@ -38,14 +38,10 @@ pub(crate) fn outs_of<
     ensures grew { AllZip Grew (map H.account hosts.old) (map H.account hosts.new) }
     ensures values { IfOk result (λ outs.
         AreValues (T.count_of tasks.now) (T.is_value tasks.now) outs.items) }
-    ensures ran { (w : World) (ph : PhaseTasks) → IsPhaseOf w ph phase.now (T.count_of tasks.now)
-        (T.is_value tasks.now) (T.places tasks.now) → OnOk result (HaveRun phase.now.tries
-        phase.now.drill w (OfTasks ph ∷ []) (map H.account hosts.old) (map H.account hosts.new)
-        winners.old.items winners.new.items) }
-    ensures stopped { (w : World) (ph : PhaseTasks) → IsPhaseOf w ph phase.now
-        (T.count_of tasks.now) (T.is_value tasks.now) (T.places tasks.now) →
-        IfErr result (IsStopped phase.now.tries phase.now.drill w (OfTasks ph ∷ [])
-        (map H.account hosts.old) (map H.account hosts.new)) }
+    ensures ended { (w : World) (ph : PhaseTasks) → IsPhaseOf w ph phase.now
+        (T.count_of tasks.now) (T.is_value tasks.now) (T.places tasks.now) → HaveEnded
+        phase.now.tries phase.now.drill w (OfTasks ph ∷ []) (map H.account hosts.old)
+        (map H.account hosts.new) winners.old.items winners.new.items result }
 {
     match run_to_end(rt, alloc, tasks, hosts, phase) {
         Ok(made) => {

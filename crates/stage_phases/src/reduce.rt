@@ -1,17 +1,16 @@
 // The reduce phase of a stage.
-ghost use Rattle.std.specs.Prelude.{◌≡◌, ◌<◌, ◌≤◌, ◌^◌, ◌∷◌, [], length, map, IfOk, IfErr, OnOk};
+ghost use Rattle.std.specs.Prelude.{◌≡◌, ◌<◌, ◌≤◌, ◌^◌, length, map, IfOk};
 ghost use Rattle.std.specs.List.{AllZip, list_any};
 ghost use Rattle.crew.specs.Hosts.{Grew};
-ghost use Rattle.exec_graph.specs.World.{World};
 ghost use Rattle.task_lists.specs.Outs.{AreMapOuts};
 ghost use Rattle.task_lists.specs.Tasks.{Lists, groupings};
-ghost use Rattle.map_shard.specs.Tables.{split};
 ghost use Rattle.plan_phases.specs.Phases.{reduce_phases};
-ghost use Rattle.plan_phases.specs.Told.{HaveRun, IsStopped};
 ghost use Rattle.reduce_part.specs.Reducing.{reducing_count};
 ghost use Rattle.stage_phases.specs.Outs.{AreReduceOuts};
+ghost use Rattle.stage_phases.specs.Runs.{InEachWorld, RunHasEnded, split_of};
 ghost use Rattle.stage_phases.specs.Stages.{CanReduceStage};
 ghost use Rattle.stage_phases.specs.inner.Channels.{is_group};
+ghost use Rattle.stage_phases.specs.inner.Tasks.{reducing_of};
 
 use crate::inputs::Inputs;
 use crate::outs::outs_of;
@@ -38,29 +37,17 @@ pub fn reduce_outs<R: Threads + Sync, F: Functions + Sync, H: Host + Send>(
 ) -> Result<Vec<ReduceOut>, RunFault>
     requires hosts { (0 < length hosts.old) × (length hosts.old ≤ 16) }
     requires ready { CanReduceStage (F.called inputs.now.functions.now)
-        (F.can_call inputs.now.functions.now)
-        (split inputs.now.settings.now.shards inputs.now.settings.now.partitions) number stage.now
+        (F.can_call inputs.now.functions.now) (split_of inputs.now.settings.now) number stage.now
         maps.now }
     ensures grew { AllZip Grew (map H.account hosts.old) (map H.account hosts.new) }
-    ensures outs { (w : World) (t : Lists) → w.called ≡ F.called inputs.now.functions.now →
-        AreMapOuts w (split inputs.now.settings.now.shards inputs.now.settings.now.partitions) t
-        stage.now maps.now →
-        IfOk result (λ outs. AreReduceOuts w
-        (split inputs.now.settings.now.shards inputs.now.settings.now.partitions) t stage.now
-        outs.items) }
-    ensures ran { (w : World) (t : Lists) → w.called ≡ F.called inputs.now.functions.now →
-        AreMapOuts w (split inputs.now.settings.now.shards inputs.now.settings.now.partitions) t
-        stage.now maps.now → OnOk result (HaveRun inputs.now.settings.now.tries
-        inputs.now.settings.now.drill w (reduce_phases w number
-        (split inputs.now.settings.now.shards inputs.now.settings.now.partitions) t stage.now
-        (groupings stage.now.outputs)) (map H.account hosts.old) (map H.account hosts.new)
-        winners.old.items winners.new.items) }
-    ensures stopped { (w : World) (t : Lists) → w.called ≡ F.called inputs.now.functions.now →
-        AreMapOuts w (split inputs.now.settings.now.shards inputs.now.settings.now.partitions) t
-        stage.now maps.now → IfErr result (IsStopped inputs.now.settings.now.tries
-        inputs.now.settings.now.drill w (reduce_phases w number
-        (split inputs.now.settings.now.shards inputs.now.settings.now.partitions) t stage.now
-        (groupings stage.now.outputs)) (map H.account hosts.old) (map H.account hosts.new)) }
+    ensures outs { InEachWorld (F.called inputs.now.functions.now) (λ w. (t : Lists) →
+        AreMapOuts w (split_of inputs.now.settings.now) t stage.now maps.now → IfOk result (λ outs.
+        AreReduceOuts w (split_of inputs.now.settings.now) t stage.now outs.items)) }
+    ensures ended { InEachWorld (F.called inputs.now.functions.now) (λ w. (t : Lists) →
+        AreMapOuts w (split_of inputs.now.settings.now) t stage.now maps.now → RunHasEnded
+        inputs.now.settings.now w (reduce_phases w number (split_of inputs.now.settings.now) t
+        stage.now (groupings stage.now.outputs)) (map H.account hosts.old)
+        (map H.account hosts.new) winners.old.items winners.new.items result) }
 {
     reducing_law();
     if !has_groupings(stage) {
@@ -92,15 +79,10 @@ fn reduce_tasks<'a, F: Functions>(
 ) -> ReduceTasks<'a, F>
     requires some { 0 < length (groupings stage.now.outputs) }
     requires ready { CanReduceStage (F.called inputs.now.functions.now)
-        (F.can_call inputs.now.functions.now)
-        (split inputs.now.settings.now.shards inputs.now.settings.now.partitions) _number stage.now
+        (F.can_call inputs.now.functions.now) (split_of inputs.now.settings.now) _number stage.now
         maps.now }
-    ensures tasks { result ≡ record {
-      functions = inputs.now.functions.now;
-      stage = stage.now;
-      outs = maps.now;
-      partitions = inputs.now.settings.now.partitions;
-    } }
+    ensures tasks { result ≡ reducing_of inputs.now.functions.now stage.now maps.now
+        inputs.now.settings.now }
     ensures count { (0 < reducing_count result) × (reducing_count result ≤ 2 ^ 27) }
 {
     reduce_tasks_law(inputs.functions);

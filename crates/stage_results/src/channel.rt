@@ -1,19 +1,20 @@
 // The results of a grouping channel.
 ghost use Rattle.std.specs.Prelude.{◌≡◌, ◌<◌, ◌∷◌, ◌++◌, ◌+◌, ℕ, List, length, map, sum, IfOk, OnOk};
 ghost use Rattle.std.specs.Vec.Iter.{into_iter_items};
-ghost use Rattle.shards.specs.Shards.{joined};
 ghost use Rattle.exec_graph.specs.World.{World};
 ghost use Rattle.exec_plan.specs.Channels.{numbers};
 ghost use Rattle.exec_plan.specs.declared.plan.InChannel.{InChannel};
+ghost use Rattle.exec_plan.specs.declared.plan.OutChannel.TheVariants as channels;
 ghost use Rattle.stage_phases.specs.of_map_shard.Tables.{split};
 ghost use Rattle.stage_phases.specs.of_reduce_part.declared.out.ReduceOut.{ReduceOut as Out};
 ghost use Rattle.step_counts.specs.Sizes.{HaveGrown};
 ghost use Rattle.task_lists.specs.Lists.{reduced};
 ghost use Rattle.step_counts.specs.Owners.{owners_of};
 ghost use Rattle.stage_phases.specs.Outs.{IsOutOf};
-ghost use Rattle.task_lists.specs.Plans.{groups_count, steps_count, task_counts};
-ghost use Rattle.task_lists.specs.Tasks.{Lists, Task, reduce_task};
-ghost use Rattle.stage_results.specs.inner.Channels.{AreOutsOf, each_joined};
+ghost use Rattle.task_lists.specs.Plans.{groups_count, steps_count};
+ghost use Rattle.task_lists.specs.Tasks.{Lists, Task};
+ghost use Rattle.stage_results.specs.inner.Channels.{AreOutsOf, StartsWith};
+ghost use Rattle.stage_results.specs.inner.Channels.{channel_counts, each_joined};
 
 use crate::joining::join_each;
 use exec_plan::Grouping;
@@ -37,18 +38,15 @@ pub(crate) fn channel_lists(
     ensures next { (here behind : List Out) → length here ≡ partitions →
         into_iter_items outs.old ≡ here ++ behind →
         OnOk result (into_iter_items outs.new ≡ behind) }
-    ensures lists { (w : World) (shards : ℕ) (t : Lists) (ins : List InChannel)
-        (here behind : List Out) → into_iter_items outs.old ≡ here ++ behind →
-        AreOutsOf w (split shards partitions) t ins grouping.now here →
+    ensures lists { (w : World) (shards : ℕ) (t : Lists) (ins : List InChannel) → StartsWith
+        (AreOutsOf w (split shards partitions) t ins grouping.now) (into_iter_items outs.old) →
         IfOk result (λ lists. lists.items
         ≡ map (reduced w (split shards partitions) t ins grouping.now)
         (numbers grouping.now.does)) }
-    ensures grown { (w : World) (shards : ℕ) (t : Lists) (ins : List InChannel)
-        (here behind : List Out) → into_iter_items outs.old ≡ here ++ behind →
-        AreOutsOf w (split shards partitions) t ins grouping.now here →
-        OnOk result (HaveGrown (λ i. sum (joined (λ p. (task_counts w i).reduces grouping.now
-        (reduce_task w (split shards partitions) t ins grouping.now p)) partitions))
-        sizes.old sizes.new) }
+    ensures grown { (w : World) (shards : ℕ) (t : Lists) (ins : List InChannel) → StartsWith
+        (AreOutsOf w (split shards partitions) t ins grouping.now) (into_iter_items outs.old) →
+        OnOk result (HaveGrown (λ i. sum (channel_counts w i (split shards partitions) t ins
+        (channels.Group grouping.now))) sizes.old sizes.new) }
 {
     let owners = Owners::new(alloc, &grouping.does)?;
     let mut lists = Vec::new(alloc);

@@ -1,21 +1,18 @@
 // The results of a stage.
-ghost use Rattle.std.specs.Prelude.{◌≡◌, ◌<◌, ◌∷◌, ◌++◌, [], ℕ, List, Some, slice_get, drop, sum, IfOk, OnOk};
+ghost use Rattle.std.specs.Prelude.{◌≡◌, ◌<◌, ◌∷◌, ◌++◌, [], ℕ, List, slice_get, drop, sum, IfOk, OnOk};
 ghost use Rattle.std.specs.Vec.Iter.{into_iter_items};
 ghost use Rattle.exec_graph.specs.World.{World};
 ghost use Rattle.exec_plan.specs.declared.plan.InChannel.{InChannel};
 ghost use Rattle.exec_plan.specs.declared.plan.Stage.TheVariants as stages;
-ghost use Rattle.flume_value.specs.declared.value.Value.{Value as GhostValue};
 ghost use Rattle.stage_phases.specs.of_map_shard.Tables.{split};
 ghost use Rattle.stage_phases.specs.of_reduce_part.declared.out.ReduceOut.{ReduceOut as Out};
-ghost use Rattle.shuffle_parts.specs.declared.out.MapOut.{MapOut as GivenOut};
-ghost use Rattle.shuffle_parts.specs.Outs.{all_passed};
-ghost use Rattle.stage_phases.specs.Outs.{AreReduceOuts};
+ghost use Rattle.stage_phases.specs.Outs.{AreStageOuts};
 ghost use Rattle.step_counts.specs.Sizes.{HaveGrown};
 ghost use Rattle.task_lists.specs.Lists.{given_lists, result_lists};
-ghost use Rattle.task_lists.specs.Outs.{AreMapOuts};
 ghost use Rattle.task_lists.specs.Plans.{task_counts};
 ghost use Rattle.task_lists.specs.Tasks.{Lists, reduce_phase};
-ghost use Rattle.stage_results.specs.inner.Channels.{AreOutsAt, channel_counts, or_none};
+ghost use Rattle.stage_results.specs.inner.Channels.{AreOutsAt, HavePassed, StartsWith};
+ghost use Rattle.stage_results.specs.inner.Channels.{channel_counts, or_none};
 
 use crate::channel::channel_lists;
 use crate::passed::passed_lists;
@@ -39,13 +36,11 @@ pub fn stage_lists(
 ) -> Result<Vec<Items>, AllocError>
     requires some { 0 < partitions }
     ensures lists { (w : World) (shards : ℕ) (t : Lists) → 0 < shards →
-        AreMapOuts w (split shards partitions) t stage.now maps.items →
-        AreReduceOuts w (split shards partitions) t stage.now reduces.items →
+        AreStageOuts w (split shards partitions) t stage.now maps.items reduces.items →
         IfOk result (λ lists.
         lists.items ≡ result_lists w (split shards partitions) t (stages.Mscr stage.now)) }
     ensures grown { (w : World) (shards : ℕ) (t : Lists) → 0 < shards →
-        AreMapOuts w (split shards partitions) t stage.now maps.items →
-        AreReduceOuts w (split shards partitions) t stage.now reduces.items →
+        AreStageOuts w (split shards partitions) t stage.now maps.items reduces.items →
         OnOk result (HaveGrown (λ i.
         sum (reduce_phase (task_counts w i).reduces w (split shards partitions) t stage.now))
         sizes.old sizes.new) }
@@ -86,20 +81,14 @@ fn given_lists(
         (here behind : List Out) → into_iter_items outs.old ≡ here ++ behind →
         AreOutsAt w (split shards partitions) t ins channel.now here →
         OnOk result (into_iter_items outs.new ≡ behind) }
-    ensures lists { (w : World) (shards : ℕ) (t : Lists) (s : Mscr) (maps : List GivenOut) (r : ℕ)
-        (here behind : List Out) → into_iter_items outs.old ≡ here ++ behind →
-        AreOutsAt w (split shards partitions) t s.inputs channel.now here →
-        0 < shards → AreMapOuts w (split shards partitions) t s maps →
-        slice_get s.outputs r ≡ Some channel.now →
-        ((values : List GhostValue) → all_passed maps r ≡ Some values → passed ≡ values) →
-        IfOk result (λ lists.
+    ensures lists { (w : World) (shards : ℕ) (t : Lists) (s : Mscr) → 0 < shards → StartsWith
+        (AreOutsAt w (split shards partitions) t s.inputs channel.now) (into_iter_items outs.old) →
+        HavePassed w (split shards partitions) t s channel.now passed → IfOk result (λ lists.
         lists.items ≡ given_lists w (split shards partitions) t s.inputs channel.now) }
-    ensures grown { (w : World) (shards : ℕ) (t : Lists) (ins : List InChannel)
-        (here behind : List Out) → into_iter_items outs.old ≡ here ++ behind →
-        AreOutsAt w (split shards partitions) t ins channel.now here →
-        OnOk result (HaveGrown (λ i.
-        sum (channel_counts w i (split shards partitions) t ins channel.now))
-        sizes.old sizes.new) }
+    ensures grown { (w : World) (shards : ℕ) (t : Lists) (ins : List InChannel) → StartsWith
+        (AreOutsAt w (split shards partitions) t ins channel.now) (into_iter_items outs.old) →
+        OnOk result (HaveGrown (λ i. sum (channel_counts w i (split shards partitions) t ins
+        channel.now)) sizes.old sizes.new) }
 {
     outs_law();
     match channel {

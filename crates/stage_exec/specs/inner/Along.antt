@@ -54,6 +54,16 @@ module _ (s : RunSettings) (w : World) where
   abbrev pub counted_on : ℕ → List Stage → Lists → ℕ → ℕ
   counted_on k stages t i = sum (tasks_from (task_counts w i) w (split_of s) k stages t)
 
+  -- the same of all stages of a plan, over the lists of the sources
+  abbrev pub all_lists : List Stage → Lists
+  all_lists stages = lists_after 1 stages (source_lists w)
+
+  abbrev pub all_phases : List Stage → List PlanPhase
+  all_phases stages = phases_on 1 stages (source_lists w)
+
+  abbrev pub all_counted : List Stage → ℕ → ℕ
+  all_counted stages i = counted_on 1 stages (source_lists w) i
+
   -- Before the stages behind the first k: results are there, of which those that were read for the
   -- last time are dropped, the sizes and the winners of the
   -- stages before are told, and going on comes to what all stages come to.

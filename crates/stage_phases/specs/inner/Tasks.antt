@@ -1,9 +1,15 @@
 -- The tasks that a crew runs, and those of a phase of the plan.
 use Rattle.std.specs.Prelude.{◌≡◌, ℕ, List, length, slice_get, Some, Result, Ok, Err}
+use Rattle.flume_value.specs.declared.value.Value.{Value}
 use Rattle.flume_collection.specs.declared.trap.Trap.{Trap}
 use Rattle.outside.specs.declared.host.Phase.{Phase}
 use Rattle.crew.specs.Drills.{Settings}
 use Rattle.exec_graph.specs.World.{World}
+use Rattle.exec_plan.specs.declared.plan.Mscr.{Mscr}
+use Rattle.run_settings.specs.Settings.{RunSettings}
+use Rattle.shuffle_parts.specs.declared.out.MapOut.{MapOut}
+use Rattle.map_shard.specs.Work.{Work}
+use Rattle.reduce_part.specs.Reducing.{Reducing}
 use Rattle.phase_outs.specs.declared.stop.PhaseStop.{PhaseStop}
 use Rattle.phase_outs.specs.declared.stop.PhaseStop.TheVariants as stop
 use Rattle.task_lists.specs.Outs.{IsCalm, IsFirstTrap}
@@ -11,6 +17,36 @@ use Rattle.task_lists.specs.Tasks.{Task, places}
 use Rattle.plan_phases.specs.declared.fault.RunFault.{RunFault}
 use Rattle.plan_phases.specs.declared.fault.RunFault.TheVariants as fault
 use Rattle.plan_phases.specs.Phases.{PhaseTasks}
+
+-- how a phase of a stage is run
+abbrev pub phase_settings : ℕ → Phase → RunSettings → Settings
+phase_settings stage phase s = record {
+  stage = stage;
+  phase = phase;
+  tries = s.tries;
+  drill = s.drill;
+}
+
+-- the map tasks of a stage
+abbrev pub work_of : {F : Type 0} → F → List (List Value) → List (List (List Value)) → Mscr
+    → RunSettings → Work F
+work_of functions sources results stage settings = record {
+  functions = functions;
+  sources = sources;
+  results = results;
+  stage = stage;
+  shards = settings.shards;
+  partitions = settings.partitions;
+}
+
+-- its reduce tasks
+abbrev pub reducing_of : {F : Type 0} → F → Mscr → List MapOut → RunSettings → Reducing F
+reducing_of functions stage outs settings = record {
+  functions = functions;
+  stage = stage;
+  outs = outs;
+  partitions = settings.partitions;
+}
 
 -- why a run stops where a phase does
 abbrev pub fault_at : ℕ → Phase → PhaseStop → RunFault

@@ -6,12 +6,15 @@ use Rattle.shards.specs.Shards.{joined}
 use Rattle.exec_graph.specs.World.{World}
 use Rattle.exec_plan.specs.declared.plan.Grouping.{Grouping}
 use Rattle.exec_plan.specs.declared.plan.InChannel.{InChannel}
+use Rattle.exec_plan.specs.declared.plan.Mscr.{Mscr}
 use Rattle.exec_plan.specs.declared.plan.OutChannel.{OutChannel}
 use Rattle.exec_plan.specs.declared.plan.OutChannel.TheVariants.{Group, Pass}
 use Rattle.stage_phases.specs.of_reduce_part.declared.out.ReduceOut.{ReduceOut}
-use Rattle.shuffle_parts.specs.Outs.{passed_in}
+use Rattle.shuffle_parts.specs.Outs.{all_passed, passed_in}
+use Rattle.shuffle_parts.specs.declared.out.MapOut.{MapOut}
 use Rattle.shuffle_parts.specs.declared.out.Sent.{Sent}
 use Rattle.stage_phases.specs.Outs.{IsOutOf}
+use Rattle.task_lists.specs.Outs.{AreMapOuts}
 use Rattle.task_lists.specs.Plans.{task_counts}
 use Rattle.task_lists.specs.Tasks.{Lists, Split, reduce_task}
 
@@ -46,6 +49,20 @@ all_joined lists (out ∷ outs) = all_joined (each_joined lists out.outputs) out
 abbrev pub AreOutsAt : World → Split → Lists → List InChannel → OutChannel → List ReduceOut → Type 0
 AreOutsAt w n t ins (Group g) outs = AreOutsOf w n t ins g outs
 AreOutsAt w n t ins (Pass k number) outs = outs ≡ []
+
+-- P holds of the first of these outs
+abbrev pub StartsWith : (List ReduceOut → Type 0) → List ReduceOut → Type 0
+StartsWith P outs =
+    (here : List ReduceOut) × (behind : List ReduceOut) × (outs ≡ here ++ behind) × P here
+
+-- what has passed through an output channel of the stage, where its map tasks made some outs
+pub record HavePassed (w : World) (n : Split) (t : Lists) (s : Mscr) (channel : OutChannel)
+    (passed : List Value) : Type 0 where
+  pub maps : List MapOut
+  pub made : AreMapOuts w n t s maps
+  pub number : ℕ
+  pub at : slice_get s.outputs number ≡ Some channel
+  pub is : (values : List Value) → all_passed maps number ≡ Some values → passed ≡ values
 
 -- the outs of the tasks of several
 abbrev pub AreOutsFrom : World → Split → Lists → List InChannel → List OutChannel → List ReduceOut

@@ -43,7 +43,7 @@ returns-in_err-results-clause-fault g c =
     (faulted s w p _ _ c.in_err-results.field-0.0
     (λ trap is. c.phases_law.ensures.first w (split_of s) p trap cut.0 cut.1 is)
     (λ trap is. c.tasks_law.ensures.trapped w (split_of s) p trap cut.0 cut.1 c.requires.plan is)
-    (rw (← c.as_slice-stages.ensures) c.in_err-results.ensures.stopped))
+    (rw (← c.as_slice-stages.ensures) c.in_err-results.ensures.ended))
 
 pub returns-in_err-results-clause-complete : goal.returns-in_err-results-clause-complete
 returns-in_err-results-clause-complete g c can =
@@ -56,7 +56,7 @@ returns-in_err-results-clause-complete g c can =
     (finishes s.tries s.drill w (phases w (split_of s) c.args.plan.now)
     (map g.H.Host.account c.args.hosts.now) (map g.H.Host.account c.run_stages.new.hosts)
     c.in_err-results.field-0.0 can
-    (rw (← c.as_slice-stages.ensures) c.in_err-results.ensures.stopped))
+    (rw (← c.as_slice-stages.ensures) c.in_err-results.ensures.ended))
 
 pub returns-in_err-results-clause-asked : goal.returns-in_err-results-clause-asked
 returns-in_err-results-clause-asked g c =
@@ -64,20 +64,20 @@ returns-in_err-results-clause-asked g c =
     let w = run_world (g.F.Functions.called c.args.functions.now) c.args.sources.items in
     front_stopped s.tries s.drill w (phases w (split_of s) c.args.plan.now) _ _
     c.in_err-results.field-0.0
-    (rw (← c.as_slice-stages.ensures) c.in_err-results.ensures.stopped)
+    (rw (← c.as_slice-stages.ensures) c.in_err-results.ensures.ended)
 
 pub returns-in_err-outputs-clause-asked : goal.returns-in_err-outputs-clause-asked
 returns-in_err-outputs-clause-asked g c =
     let s = c.args.settings.now in
     let w = run_world (g.F.Functions.called c.args.functions.now) c.args.sources.items in
-    let ran = rw c.as_slice-stages.ensures at c.in_ok-results.ensures.ran in
+    let ran = rw c.as_slice-stages.ensures at c.in_ok-results.ensures.ended in
     asked_all s.tries s.drill (with_tasks (phases w (split_of s) c.args.plan.now)) _ _ _ ran.asked
 
 pub returns-clause-asked : goal.returns-clause-asked
 returns-clause-asked g c =
     let s = c.args.settings.now in
     let w = run_world (g.F.Functions.called c.args.functions.now) c.args.sources.items in
-    let ran = rw c.as_slice-stages.ensures at c.in_ok-results.ensures.ran in
+    let ran = rw c.as_slice-stages.ensures at c.in_ok-results.ensures.ended in
     asked_all s.tries s.drill (with_tasks (phases w (split_of s) c.args.plan.now)) _ _ _ ran.asked
 
 pub returns-clause-done : goal.returns-clause-done
@@ -86,7 +86,7 @@ returns-clause-done g c =
     let w = run_world (g.F.Functions.called c.args.functions.now) c.args.sources.items in
     let p = c.args.plan.now in
     let cut = c.cut_law.ensures in
-    let ran = rw c.as_slice-stages.ensures at c.in_ok-results.ensures.ran in
+    let ran = rw c.as_slice-stages.ensures at c.in_ok-results.ensures.ended in
     let lists =
     rw (c.as_slice-stages.ensures, c.as_slice-outputs.ensures) at c.in_ok-results.ensures.lists in
     let none = c.phases_law.ensures.calm w (split_of s) p cut.0 cut.1 ran.through.calm in

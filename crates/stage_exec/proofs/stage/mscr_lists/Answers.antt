@@ -6,19 +6,20 @@ use Rattle.task_lists.specs.Plans.{task_counts}
 use Rattle.task_lists.specs.Tasks.{map_phase, reduce_phase}
 use Rattle.stage_exec.proofs.stage.mscr_lists.Goals as goal
 
-pub returns-clause-lists : goal.returns-clause-lists
-returns-clause-lists c w t maps reduces =
-    c.from_vec.ensures ∙ c.in_ok-lists.ensures.lists w c.args.shards t c.requires.cut.0 maps reduces
-
-pub returns-clause-grown : goal.returns-clause-grown
-returns-clause-grown c w t maps reduces =
+pub returns : goal.returns
+returns c w t made =
     let n = split c.args.shards c.args.partitions in
     let s = c.args.stage.now in
-    let first = rw (← c.deref.ensures.value) at maps in
-    grown_as _ _ _ _
-    (λ i. sym (sum_by-append (λ x. x) (map_phase (task_counts w i).maps n t s)
-    (reduce_phase (task_counts w i).reduces w n t s)))
-    (grown_then (λ i. sum (map_phase (task_counts w i).maps n t s))
-    (λ i. sum (reduce_phase (task_counts w i).reduces w n t s)) _ _ _
-    (c.in_ok-add_map_counts.ensures w c.args.partitions t first)
-    (c.in_ok-lists.ensures.grown w c.args.shards t c.requires.cut.0 maps reduces))
+    let first = rw (← c.deref.ensures.value) at made.maps in
+    record {
+      lists =
+          c.from_vec.ensures
+          ∙ c.in_ok-lists.ensures.lists w c.args.shards t c.requires.cut.0 made;
+      grown = grown_as _ _ _ _
+          (λ i. sym (sum_by-append (λ x. x) (map_phase (task_counts w i).maps n t s)
+          (reduce_phase (task_counts w i).reduces w n t s)))
+          (grown_then (λ i. sum (map_phase (task_counts w i).maps n t s))
+          (λ i. sum (reduce_phase (task_counts w i).reduces w n t s)) _ _ _
+          (c.in_ok-add_map_counts.ensures w c.args.partitions t first)
+          (c.in_ok-lists.ensures.grown w c.args.shards t c.requires.cut.0 made));
+    }

@@ -44,8 +44,8 @@ pub returns-in_err-lists-clause-grew : goal.returns-in_err-lists-clause-grew
 returns-in_err-lists-clause-grew g c =
     all_grew_on _ _ _ c.loop-k.invariant.grew c.in_err-lists.ensures.grew
 
-pub returns-in_err-lists-clause-stopped : goal.returns-in_err-lists-clause-stopped
-returns-in_err-lists-clause-stopped g c =
+pub returns-in_err-lists-clause-ended : goal.returns-in_err-lists-clause-ended
+returns-in_err-lists-clause-ended g c =
     let inputs = c.args.inputs.now in
     let called = g.F.Functions.called inputs.functions.now in
     let origin = c.args.sources.now.items in
@@ -55,15 +55,15 @@ returns-in_err-lists-clause-stopped g c =
     c.args.stages.now c.args.outputs.now c.loop-k.sources.items c.loop-k.k c.loop-k.results.items
     c.args.sizes.now c.loop-k.sizes _ _ c.args.winners.now.items c.loop-k.winners.items
     c.loop-k.invariant c.index-stages-k.result c.loop-k-test.true c.index-stages-k.is _
-    c.in_err-lists.field-0.0 (c.in_err-lists.ensures.stopped (run_world called origin) refl)
+    c.in_err-lists.field-0.0 (c.in_err-lists.ensures.ended (run_world called origin) refl)
     c.in_err-lists.ensures.grew)
 
 pub returns-in_err-push_results-clause-grew : goal.returns-in_err-push_results-clause-grew
 returns-in_err-push_results-clause-grew g c =
     all_grew_on _ _ _ c.loop-k.invariant.grew c.run_stage.ensures.grew
 
-pub returns-in_err-push_results-clause-stopped : goal.returns-in_err-push_results-clause-stopped
-returns-in_err-push_results-clause-stopped g c =
+pub returns-in_err-push_results-clause-ended : goal.returns-in_err-push_results-clause-ended
+returns-in_err-push_results-clause-ended g c =
     let inputs = c.args.inputs.now in
     let end = c.from_residual-in_err-push_results in
     let p = err_from_is_err_and end.result end.ensures.1 in
@@ -74,7 +74,7 @@ returns-in_err-push_results-clause-stopped g c =
     c.loop-k.results.items c.args.sizes.now c.loop-k.sizes _ _ c.args.winners.now.items
     c.loop-k.winners.items c.loop-k.invariant c.index-stages-k.result c.loop-k-test.true
     c.index-stages-k.is _ c.run_stage.new.winners.items
-    (c.in_ok-lists.ensures.ran
+    (c.in_ok-lists.ensures.ended
     (run_world (g.F.Functions.called inputs.functions.now) c.args.sources.now.items) refl))
 
 pub loop-k-preserved : goal.loop-k-preserved
@@ -93,27 +93,29 @@ loop-k-preserved g c =
     let left = c.run_stage.new.sources.items in
     let fewer = c.run_stage.new.results.items in
     let grown = c.push_results.new.results.items in
+    let given = c.in_ok-lists.ensures.given w refl in
+    let kept = c.in_ok-lists.ensures.kept in
     let more =
     along_more s called can origin stages outputs rows c.loop-k.k results c.args.sizes.now
     c.loop-k.sizes _ _ c.args.winners.now.items c.loop-k.winners.items c.loop-k.invariant
     c.index-stages-k.result c.loop-k-test.true c.index-stages-k.is ls (results ++ ls ∷ [])
-    c.run_stage.new.sizes _ c.run_stage.new.winners.items (c.in_ok-lists.ensures.lists w refl) refl
-    (c.in_ok-lists.ensures.grown w refl) (c.in_ok-lists.ensures.ran w refl)
+    c.run_stage.new.sizes _ c.run_stage.new.winners.items given.lists refl
+    given.grown (c.in_ok-lists.ensures.ended w refl)
     c.in_ok-lists.ensures.grew in
     let pushed =
     along_fewer s called can origin stages outputs rows left (c.loop-k.k + 1)
     (results ++ ls ∷ []) grown c.args.sizes.now c.run_stage.new.sizes _ _
     c.args.winners.now.items c.run_stage.new.winners.items
-    (long_pushed rows left results fewer grown ls c.in_ok-lists.ensures.count
+    (long_pushed rows left results fewer grown ls kept.count
     c.in_ok-push_results.ensures)
-    (agree_pushed rows left results fewer grown ls c.in_ok-lists.ensures.count
-    c.in_ok-push_results.ensures _ c.in_ok-lists.ensures.others)
-    (typed_pushed rows left results fewer grown ls c.in_ok-lists.ensures.count
-    c.in_ok-push_results.ensures c.in_ok-lists.ensures.typed) more in
+    (agree_pushed rows left results fewer grown ls kept.count
+    c.in_ok-push_results.ensures _ kept.others)
+    (typed_pushed rows left results fewer grown ls kept.count
+    c.in_ok-push_results.ensures kept.typed) more in
     along_fewer s called can origin stages outputs left c.drop_read.new.sources.items
     (c.loop-k.k + 1) grown c.drop_read.new.results.items c.args.sizes.now c.run_stage.new.sizes _ _
-    c.args.winners.now.items c.run_stage.new.winners.items c.drop_read.ensures.count
-    c.drop_read.ensures.others c.drop_read.ensures.typed pushed
+    c.args.winners.now.items c.run_stage.new.winners.items c.drop_read.ensures.kept.count
+    c.drop_read.ensures.kept.others c.drop_read.ensures.kept.typed pushed
 
 pub returns-clause-lists : goal.returns-clause-lists
 returns-clause-lists g c =
@@ -124,8 +126,8 @@ returns-clause-lists g c =
     c.loop-k.results.items c.args.sizes.now c.loop-k.sizes _ _ c.args.winners.now.items
     c.loop-k.winners.items c.loop-k.invariant c.loop-k-test.false
 
-pub returns-clause-ran : goal.returns-clause-ran
-returns-clause-ran g c =
+pub returns-clause-ended : goal.returns-clause-ended
+returns-clause-ended g c =
     let inputs = c.args.inputs.now in
     end_run inputs.settings.now (g.F.Functions.called inputs.functions.now)
     (g.F.Functions.can_call inputs.functions.now) c.args.sources.now.items c.args.stages.now

@@ -3,7 +3,8 @@ use Rattle.std.proofs.lemmas.Result.{IfOk-weaker}
 use Rattle.map_shard.proofs.CrossLemmas.{MapTasks-sync}
 use Rattle.map_shard.proofs.Fitting.{are_outs}
 use Rattle.stage_phases.proofs.CrossLemmas.{MapOut-send}
-use Rattle.stage_phases.proofs.Mapping.{is_map_phase, work_of}
+use Rattle.stage_phases.proofs.Mapping.{is_map_phase}
+use Rattle.stage_phases.specs.inner.Tasks.{work_of}
 use denote.Exit.{no}
 use denote.Param.Send.{arg_send, arg_sync, param_send, param_sync}
 use denote.Ref.{NamedLft}
@@ -28,20 +29,11 @@ returns-clause-outs g c w e =
     settings.shards settings.partitions w (g.F.Functions.called inputs.functions.now) e outs.items
     v.count v.values) values
 
-pub returns-clause-ran : goal.returns-clause-ran
-returns-clause-ran g c w e =
+pub returns-clause-ended : goal.returns-clause-ended
+returns-clause-ended g c w e =
     let inputs = c.args.inputs.now in
     let work = work_of inputs.functions.now c.args.sources.now c.args.results.now c.args.stage.now
     inputs.settings.now in
-    let ran = rw (c.map_tasks-tasks.ensures.tasks, c.phase-phase.ensures.settings)
-    at c.outs_of.ensures.ran in
-    ran w _ (is_map_phase work w _ e c.args.number _ refl refl)
-
-pub returns-clause-stopped : goal.returns-clause-stopped
-returns-clause-stopped g c w e =
-    let inputs = c.args.inputs.now in
-    let work = work_of inputs.functions.now c.args.sources.now c.args.results.now c.args.stage.now
-    inputs.settings.now in
-    let stopped = rw (c.map_tasks-tasks.ensures.tasks, c.phase-phase.ensures.settings)
-    at c.outs_of.ensures.stopped in
-    stopped w _ (is_map_phase work w _ e c.args.number _ refl refl)
+    let ended = rw (c.map_tasks-tasks.ensures.tasks, c.phase-phase.ensures.settings)
+    at c.outs_of.ensures.ended in
+    ended w _ (is_map_phase work w _ e c.args.number _ refl refl)

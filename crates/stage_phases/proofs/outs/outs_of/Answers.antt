@@ -4,19 +4,19 @@ use Rattle.stage_phases.specs.inner.Tasks.{fault_at}
 use Rattle.stage_phases.proofs.Telling.{has_run, has_stopped, phase_asked}
 use Rattle.stage_phases.proofs.outs.outs_of.Goals as goal
 
-pub returns-in_ok-tell-in-Ok-clause-ran : goal.returns-in_ok-tell-in-Ok-clause-ran
-returns-in_ok-tell-in-Ok-clause-ran g c w ph p =
+pub returns-in_ok-tell-in-Ok-clause-ended : goal.returns-in_ok-tell-in-Ok-clause-ended
+returns-in_ok-tell-in-Ok-clause-ended g c w ph p =
     has_run w ph _ _ _ _ _ _ p _ _ c.in-Ok.made c.in-Ok.ensures.made c.in-Ok.ensures.asked
     c.in_ok-tell-in-Ok.ensures
 
-pub returns-in_err-tell-in-Ok-clause-stopped : goal.returns-in_err-tell-in-Ok-clause-stopped
-returns-in_err-tell-in-Ok-clause-stopped g c w ph p =
+pub returns-in_err-tell-in-Ok-clause-ended : goal.returns-in_err-tell-in-Ok-clause-ended
+returns-in_err-tell-in-Ok-clause-ended g c w ph p =
     let e = err_from_is_err_and c.from_residual.result c.from_residual.ensures.1 in
     rw (e.1, e.2)
     (phase_asked w ph _ _ _ _ _ _ p _ c.in-Ok.ensures.asked c.in-Ok.ensures.made.work)
 
-pub returns-in-Err-clause-stopped : goal.returns-in-Err-clause-stopped
-returns-in-Err-clause-stopped g c w ph p =
+pub returns-in-Err-clause-ended : goal.returns-in-Err-clause-ended
+returns-in-Err-clause-ended g c w ph p =
     let is = c.fault_at.ensures
     ∙ (λ i. fault_at (c.stage.ensures i) (c.phase.ensures i) c.in-Err.stop) in
     rw is

@@ -1,10 +1,11 @@
 use Rattle.std.proofs.Common.{◌∙◌, refl, sym}
 use Rattle.std.proofs.lemmas.Result.{IfOk-weaker}
 use Rattle.crew.proofs.Accounts.{all_grew_not}
-use Rattle.map_shard.specs.Tables.{split}
+use Rattle.stage_phases.specs.Runs.{split_of}
 use Rattle.plan_phases.proofs.Joining.{none_run}
 use Rattle.reduce_part.proofs.CrossLemmas.{ReduceTasks-sync}
-use Rattle.stage_phases.proofs.Reducing.{are_reduce_outs, is_reduce_phase, no_groupings, no_outs, one_phase, reducing_of, some_groupings}
+use Rattle.stage_phases.proofs.Reducing.{are_reduce_outs, is_reduce_phase, no_groupings, no_outs, one_phase, some_groupings}
+use Rattle.stage_phases.specs.inner.Tasks.{reducing_of}
 use denote.Exit.{no}
 use denote.Param.Send.{arg_sync, param_sync}
 use denote.Ref.{NamedLft}
@@ -17,14 +18,14 @@ pub returns-then-not-has_groupings-clause-grew : goal.returns-then-not-has_group
 returns-then-not-has_groupings-clause-grew g c = all_grew_not _
 
 pub returns-then-not-has_groupings-clause-outs : goal.returns-then-not-has_groupings-clause-outs
-returns-then-not-has_groupings-clause-outs g c w t e made =
+returns-then-not-has_groupings-clause-outs g c w e t made =
     let stage = c.args.stage.now in
     let none = no_groupings stage.outputs
     (sym c.has_groupings.ensures ∙ c.if-not-has_groupings.true) in
     no_outs _ _ t stage _ none c.new.ensures.items
 
-pub returns-then-not-has_groupings-clause-ran : goal.returns-then-not-has_groupings-clause-ran
-returns-then-not-has_groupings-clause-ran g c w t e made =
+pub returns-then-not-has_groupings-clause-ended : goal.returns-then-not-has_groupings-clause-ended
+returns-then-not-has_groupings-clause-ended g c w e t made =
     let stage = c.args.stage.now in
     let none = no_groupings stage.outputs
     (sym c.has_groupings.ensures ∙ c.if-not-has_groupings.true) in
@@ -43,7 +44,7 @@ outs_of-requires-sync-T g c κs within =
     param_sync _ _ (arg_sync _ no _ (ReduceTasks-sync a _ _ c.type_bounds.sync-F))
 
 pub returns-clause-outs : goal.returns-clause-outs
-returns-clause-outs g c w t e made =
+returns-clause-outs g c w e t made =
     let inputs = c.args.inputs.now in
     let settings = inputs.settings.now in
     let stage = c.args.stage.now in
@@ -56,8 +57,8 @@ returns-clause-outs g c w t e made =
     outs.items v)
     values
 
-pub returns-clause-ran : goal.returns-clause-ran
-returns-clause-ran g c w t e made =
+pub returns-clause-ended : goal.returns-clause-ended
+returns-clause-ended g c w e t made =
     let inputs = c.args.inputs.now in
     let settings = inputs.settings.now in
     let stage = c.args.stage.now in
@@ -66,26 +67,9 @@ returns-clause-ran g c w t e made =
     let first = c.reducing_law.ensures.first h.ready.sources h.ready.before stage h.ready.ok in
     let some = some_groupings stage.outputs
     (sym c.has_groupings.ensures ∙ c.if-not-has_groupings.false) in
-    let ran = rw (c.reduce_tasks-tasks.ensures.tasks, c.phase-phase.ensures.settings)
-    at c.outs_of.ensures.ran in
-    rw (one_phase w c.args.number (split settings.shards settings.partitions) t stage _ some)
-    (ran w _ (is_reduce_phase reducing w _ e settings.shards t first h.cut.0 h.cut.1 made
-    c.args.number _ refl refl
-    (λ lifted i p. c.reducing_law.ensures.count lifted c.args.maps.now i p)))
-
-pub returns-clause-stopped : goal.returns-clause-stopped
-returns-clause-stopped g c w t e made =
-    let inputs = c.args.inputs.now in
-    let settings = inputs.settings.now in
-    let stage = c.args.stage.now in
-    let h = c.requires.ready in
-    let reducing = reducing_of inputs.functions.now stage c.args.maps.now settings in
-    let first = c.reducing_law.ensures.first h.ready.sources h.ready.before stage h.ready.ok in
-    let some = some_groupings stage.outputs
-    (sym c.has_groupings.ensures ∙ c.if-not-has_groupings.false) in
-    let stopped = rw (c.reduce_tasks-tasks.ensures.tasks, c.phase-phase.ensures.settings)
-    at c.outs_of.ensures.stopped in
-    rw (one_phase w c.args.number (split settings.shards settings.partitions) t stage _ some)
-    (stopped w _ (is_reduce_phase reducing w _ e settings.shards t first h.cut.0 h.cut.1 made
+    let ended = rw (c.reduce_tasks-tasks.ensures.tasks, c.phase-phase.ensures.settings)
+    at c.outs_of.ensures.ended in
+    rw (one_phase w c.args.number (split_of settings) t stage _ some)
+    (ended w _ (is_reduce_phase reducing w _ e settings.shards t first h.cut.0 h.cut.1 made
     c.args.number _ refl refl
     (λ lifted i p. c.reducing_law.ensures.count lifted c.args.maps.now i p)))

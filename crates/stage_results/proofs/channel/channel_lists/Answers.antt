@@ -33,15 +33,17 @@ loop-p-preserved c = record {
 }
 
 pub returns-clause-lists : goal.returns-clause-lists
-returns-clause-lists c w shards t ins here behind is are =
+returns-clause-lists c w shards t ins next =
     let n = split shards c.args.partitions in
-    let left = c.loop-p.invariant.next here behind are.count is in
+    let here = next.0 in
+    let are = next.3 in
+    let left = c.loop-p.invariant.next here next.1 are.count next.2 in
     let end = drop_of_length-le here (omega (arith, are.count, c.loop-p-test.false)) in
     ap (all_joined c.loop-p.lists.items) (sym end) ∙ left.1
     ∙ channel_joined w n t ins c.args.grouping.now here are c.requires.some
 
 pub returns-clause-grown : goal.returns-clause-grown
-returns-clause-grown c w shards t ins here behind is are =
+returns-clause-grown c w shards t ins next =
     let n = split shards c.args.partitions in
     let g = c.args.grouping.now in
     let end : c.loop-p._p ≡ c.args.partitions =
@@ -49,4 +51,4 @@ returns-clause-grown c w shards t ins here behind is are =
     grown_as _ _ _ _
     (λ i. ap (λ k. sum
     (joined (λ p. (task_counts w i).reduces g (reduce_task w n t ins g p)) k)) end)
-    (c.loop-p.invariant.grown w shards t ins here behind is are)
+    (c.loop-p.invariant.grown w shards t ins next.0 next.1 next.2 next.3)

@@ -51,25 +51,33 @@ loop-channel-preserved c = record {
       (subst (λ n. all_passed c.args.maps.items n ≡ Some values) first found) in
       along_more w n t s r _ _ _ _ x a at _ c.in_ok-given.given.items _ _
       (rw (given.next w shards t s.inputs next.0 next.1 next.2 next.3) next.4)
-      (given.lists w shards t s c.args.maps.items r next.0 next.1 next.2 next.3 some maps at passed)
+      (given.lists w shards t s some (next.0, next.1, next.2, next.3) (record {
+        maps = c.args.maps.items;
+        made = maps;
+        number = r;
+        at = at;
+        is = passed;
+      }))
       c.in_ok-append.ensures.items
-      (given.grown w shards t s.inputs next.0 next.1 next.2 next.3);
+      (given.grown w shards t s.inputs (next.0, next.1, next.2, next.3));
 }
 
 pub returns-clause-lists : goal.returns-clause-lists
-returns-clause-lists c w shards t some maps reduces =
+returns-clause-lists c w shards t some made =
     let n = split shards c.args.partitions in
     let s = c.args.stage.now in
     let items = c.as_slice-channel-items.ensures in
     let r = c.loop-channel.channel-index in
     let end : length s.outputs ≤ r = omega (arith, ap length items, c.loop-channel-test.false) in
-    end_lists w n t s r _ _ _ _ (c.loop-channel.invariant.along w shards t some maps reduces) end
+    end_lists w n t s r _ _ _ _
+    (c.loop-channel.invariant.along w shards t some made.maps made.reduces) end
 
 pub returns-clause-grown : goal.returns-clause-grown
-returns-clause-grown c w shards t some maps reduces =
+returns-clause-grown c w shards t some made =
     let n = split shards c.args.partitions in
     let s = c.args.stage.now in
     let items = c.as_slice-channel-items.ensures in
     let r = c.loop-channel.channel-index in
     let end : length s.outputs ≤ r = omega (arith, ap length items, c.loop-channel-test.false) in
-    end_grown w n t s r _ _ _ _ (c.loop-channel.invariant.along w shards t some maps reduces) end
+    end_grown w n t s r _ _ _ _
+    (c.loop-channel.invariant.along w shards t some made.maps made.reduces) end
