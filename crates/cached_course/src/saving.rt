@@ -9,7 +9,6 @@ ghost use Rattle.run_course.specs.Asked.{AskFor};
 ghost use Rattle.run_course.specs.Lent.{lent};
 ghost use Rattle.run_course.specs.Written.{text_shown};
 ghost use Rattle.run_course.specs.inner.Course.{AsksInCall, IsRunStop, files_with};
-ghost use Rattle.run_course.specs.of_script_loading.Ready.{IsReady};
 ghost use Rattle.run_course.specs.of_script_plans.Plans.{IsScriptPlan};
 ghost use Rattle.run_course.specs.of_script_run.Runs.{AsksSomePhases, IsPlanOf, IsRan, phases_of};
 ghost use Rattle.run_texts.specs.Texts.{size_lines};
@@ -17,7 +16,6 @@ ghost use Rattle.kept_results.specs.of_direct_meaning.Inputs.{AreInputs};
 ghost use Rattle.kept_results.specs.Keyed as spec;
 ghost use Rattle.kept_results.specs.Lists as lists;
 ghost use Rattle.kept_results.specs.Sizes as told;
-ghost use Rattle.kept_results.specs.of_script_laws.WellFormed.{IsWellFormed};
 ghost use Rattle.script_program.specs.Saved.{HasNoSaved, with_saved};
 ghost use Rattle.cached_course.specs.inner.Course.{AsksHostsInCall, AsksPhases, IsPrepared, IsStop, StopsRun, WasGiven, WasRun, counted_too};
 ghost use Rattle.cached_course.specs.inner.Missing.{entry_of, kept_value};
@@ -33,8 +31,7 @@ use kept_results::{given_law, given_lists, nodes_needed, push_counted, sizes_tol
 use keyed_loading::{KeyedInputs, KeyedScript, keyed_inputs, keyed_script};
 use outside::{Host, Source};
 use plan_phases::RunFault;
-use run_course::build_law::graph_law;
-use run_course::script_loading::ready_law;
+use run_course::script_loading::ReadyProgram;
 use run_course::script_run::Ran;
 use run_course::{ShownPlan, Stop, Written, output_files, plan_shown, ran_on, trapped, with_sizes};
 use run_settings::Settings;
@@ -55,7 +52,7 @@ pub struct Reused {
 /// sizes are told.
 #[derive(Drop)]
 pub struct Given {
-    pub program: Program,
+    pub program: ReadyProgram,
     pub lists: Pile<Items>,
     pub known: Vec<(u32, u64)>,
     pub missing: Vec<Missing>,
@@ -98,7 +95,8 @@ pub fn prepare<X: Threads + Sync, R: Source, H: Host + Send, C: Cache>(
     let inputs = keyed_inputs(alloc, &script.program, source, tries)?;
     let texts = script.texts.as_slice();
     texts_short(texts);
-    names_short(&script.program);
+    let held = script.program.as_program();
+    names_short(held);
     let given = look_up(alloc, script, inputs, cache)?;
     run_given(rt, alloc, given, hosts, settings)
 }
@@ -111,28 +109,24 @@ fn look_up<C: Cache>(
     cache: &mut C,
 ) -> Result<Given, AllocError>
     requires many { length script.texts ≡ length script.outlines }
-    requires well_formed { IsWellFormed script.program.script }
     requires written { HasNoSaved script.program.script }
-    requires ready { IsReady script.program.script }
     requires inputs { AreInputs script.program.script inputs.rows }
     ensures given { IfOk result (WasGiven script.program.script
         (spec.keyed_nodes script.outlines script.texts inputs.files script.program.script)
         inputs.rows (C.seen cache.old) (C.seen cache.new)) }
     ensures inputs { IfOk result (λ given. AreInputs given.program.script given.lists) }
-    ensures well_formed { IfOk result (λ given. IsWellFormed given.program.script) }
-    ensures ready { IfOk result (λ given. IsReady given.program.script) }
     ensures entries { (C.seen cache.new).entries ≡ (C.seen cache.old).entries }
     ensures later { (C.seen cache.old).faults ≤ (C.seen cache.new).faults }
 {
     given_law();
-    ready_law();
     let KeyedScript {
         program,
         outlines,
         texts,
     } = script;
     let KeyedInputs { rows, files } = inputs;
-    let it = looked_for(alloc, &program, &outlines, &texts, &files, cache)?;
+    let held = program.as_program();
+    let it = looked_for(alloc, held, &outlines, &texts, &files, cache)?;
     let given = taken_for(alloc, program, rows, it)?;
     Ok(given)
 }
@@ -140,7 +134,7 @@ fn look_up<C: Cache>(
 // Takes what was found for a part of the inputs, which have these rows.
 fn taken_for(
     alloc: Global,
-    program: Program,
+    program: ReadyProgram,
     rows: Pile<Items>,
     it: LookedUp,
 ) -> Result<Given, AllocError>
@@ -166,8 +160,9 @@ fn taken_for(
     } = found;
     let kept = numbers.as_slice();
     let later = program.with_saved(kept);
+    let held = later.as_program();
     let asked = inputs.as_slice();
-    let lists = given_lists(alloc, &later, asked, rows, members)?;
+    let lists = given_lists(alloc, held, asked, rows, members)?;
     Ok(Given {
         program: later,
         lists,
@@ -185,8 +180,6 @@ fn run_given<X: Threads + Sync, H: Host + Send>(
     hosts: &mut [H],
     settings: &Settings,
 ) -> Result<Reused, Stop>
-    requires well_formed { IsWellFormed given.program.script }
-    requires ready { IsReady given.program.script }
     requires inputs { AreInputs given.program.script given.lists }
     requires sixteen { length hosts.old ≡ 16 }
     ensures ran { IfOk result (λ it. WasRun settings.now given
@@ -201,7 +194,6 @@ fn run_given<X: Threads + Sync, H: Host + Send>(
     ensures grew { AllZip Grew (map H.account hosts.old) (map H.account hosts.new) }
     ensures hosts { drop settings.now.workers hosts.new ≡ drop settings.now.workers hosts.old }
 {
-    graph_law();
     let shown = plan_shown(alloc, &given.program)?;
     carried_out(rt, alloc, given, shown, hosts, settings)
 }
@@ -215,8 +207,6 @@ fn carried_out<X: Threads + Sync, H: Host + Send>(
     hosts: &mut [H],
     settings: &Settings,
 ) -> Result<Reused, Stop>
-    requires well_formed { IsWellFormed given.program.script }
-    requires ready { IsReady given.program.script }
     requires inputs { AreInputs given.program.script given.lists }
     requires planned { IsScriptPlan given.program.script shown.plan }
     requires of_script { IsPlanOf given.program.script shown.plan }
@@ -254,14 +244,12 @@ fn carried_out<X: Threads + Sync, H: Host + Send>(
 fn ran_through<X: Threads + Sync, H: Host + Send>(
     rt: &X,
     alloc: Global,
-    program: &Program,
+    program: &ReadyProgram,
     plan: &Plan,
     lists: Pile<Items>,
     hosts: &mut [H],
     settings: &Settings,
 ) -> Result<Ran, Stop>
-    requires well_formed { IsWellFormed program.now.script }
-    requires ready { IsReady program.now.script }
     requires inputs { AreInputs program.now.script lists }
     requires of_script { IsPlanOf program.now.script plan.now }
     requires sixteen { length hosts.old ≡ 16 }
@@ -278,9 +266,10 @@ fn ran_through<X: Threads + Sync, H: Host + Send>(
     ensures grew { AllZip Grew (map H.account hosts.old) (map H.account hosts.new) }
     ensures hosts { drop settings.now.workers hosts.new ≡ drop settings.now.workers hosts.old }
 {
+    let held = program.as_program();
     match ran_on(rt, alloc, program, plan, lists, hosts, settings) {
         Ok(ran) => Ok(ran),
-        Err(RunFault::Trap(trap)) => Err(trapped(alloc, program, trap)?),
+        Err(RunFault::Trap(trap)) => Err(trapped(alloc, held, trap)?),
         Err(RunFault::GaveUp { stage, phase, task }) => {
             Err(Stop::Refused(Status::GaveUp { stage, phase, task }))
         }
@@ -291,14 +280,13 @@ fn ran_through<X: Threads + Sync, H: Host + Send>(
 // The files, the text and what is kept, where a run has come to its end.
 fn written_out(
     alloc: Global,
-    program: &Program,
+    program: &ReadyProgram,
     ran: &Ran,
     front: Vec<u8>,
     known: Vec<(u32, u64)>,
     missing: Vec<Missing>,
     needed: &[(u32, Str)],
 ) -> Result<Reused, AllocError>
-    requires ready { IsReady program.now.script }
     requires count { length ran.now.outputs.items ≡ length program.now.script.outputs }
     ensures files { IfOk result (λ it. map output_file it.written.outputs.items
         ≡ files_with program.now.script.outputs ran.now.outputs.items) }
@@ -312,11 +300,12 @@ fn written_out(
         (counted_too program.now.script known.items ran.now.sizes.items)
         ran.now.outputs.items it)) missing.items) }
 {
-    let all = with_counted(alloc, program, ran, known)?;
+    let held = program.as_program();
+    let all = with_counted(alloc, held, ran, known)?;
     let told = all.as_slice();
     let members = ran.outputs.as_slice();
     let screen = with_known(alloc, front, told, needed)?;
-    let kept = entries_of(alloc, program, missing, told, members)?;
+    let kept = entries_of(alloc, held, missing, told, members)?;
     let outputs = output_files(alloc, program, members)?;
     Ok(Reused {
         written: Written { outputs, screen },

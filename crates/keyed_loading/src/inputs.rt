@@ -6,10 +6,8 @@ ghost use Rattle.script_loading.specs.of_direct_meaning.Inputs.{AreInputs, input
 ghost use Rattle.flume_types.specs.Columns.{input_columns_of};
 ghost use Rattle.flume_types.specs.declared.types.Ty.{Ty};
 ghost use Rattle.outside.specs.Asked.{Asks, AsksFront};
-ghost use Rattle.script_loading.specs.of_script_laws.WellFormed.{IsWellFormed};
 ghost use Rattle.script_loading.specs.Causes.{IsInputCause, IsInputsCause};
 ghost use Rattle.script_loading.specs.Loads.{AllHaveRows, HasRows, file_names};
-ghost use Rattle.script_loading.specs.Ready.{IsReady};
 ghost use Rattle.script_loading.specs.inner.Reading.{HasRead, inputs_at};
 ghost use Rattle.script_program.specs.Saved.{HasNoSaved};
 ghost use Rattle.keyed_loading.specs.Files.{AreFilesOf, HasLoaded, IsFileOf};
@@ -19,8 +17,8 @@ use flume_types::Column;
 use flume_value::{Items, Pile, Str};
 use outside::{File, Pieces, Source};
 use run_texts::Status;
-use script_loading::{INPUT_LIMIT, input_refused, inputs_law, loaded};
-use script_program::{Made, Program};
+use script_loading::{INPUT_LIMIT, ReadyProgram, input_refused, inputs_law, loaded};
+use script_program::Made;
 use std::alloc::{AllocError, Global};
 use std::str;
 
@@ -35,14 +33,12 @@ pub struct KeyedInputs {
 /// file is asked for.
 pub fn keyed_inputs<R: Source>(
     alloc: Global,
-    program: &Program,
+    program: &ReadyProgram,
     source: &mut R,
     tries: u32,
 ) -> Result<KeyedInputs, Status>
     requires tries { 0 < tries }
-    requires well_formed { IsWellFormed program.now.script }
     requires written { HasNoSaved program.now.script }
-    requires ready { IsReady program.now.script }
     ensures files { (R.seen source.new).files ≡ (R.seen source.old).files }
     ensures ok { IfOk result (λ it.
         AllHaveRows (R.seen source.old).files (inputs_of program.now.script) it.rows) }
@@ -58,9 +54,10 @@ pub fn keyed_inputs<R: Source>(
         (R.seen source.old) (R.seen source.new)) }
 {
     inputs_law();
+    let held = program.as_program();
     let mut rows = Pile::new(alloc);
     let mut files = Pile::new(alloc);
-    for number in 0..program.node_count() {
+    for number in 0..held.node_count() {
         add_input(alloc, program, number, source, tries, &mut rows, &mut files)?;
     }
     Ok(KeyedInputs { rows, files })
@@ -70,7 +67,7 @@ pub fn keyed_inputs<R: Source>(
 // needed.
 fn add_input<R: Source>(
     alloc: Global,
-    program: &Program,
+    program: &ReadyProgram,
     number: usize,
     source: &mut R,
     tries: u32,
@@ -78,8 +75,6 @@ fn add_input<R: Source>(
     files: &mut Pile<File>,
 ) -> Result<(), Status>
     requires tries { 0 < tries }
-    requires well_formed { IsWellFormed program.now.script }
-    requires ready { IsReady program.now.script }
     requires within { number < length program.now.script.nodes }
     requires read { HasRead (R.seen source.old).files program.now.script number rows.old }
     requires loaded { HasLoaded (R.seen source.old).files program.now.script number files.old }
@@ -94,10 +89,11 @@ fn add_input<R: Source>(
     ensures asked { Asks tries (file_names (inputs_at program.now.script number))
         (R.seen source.old) (R.seen source.new) }
 {
-    if !program.is_needed(number) {
+    let held = program.as_program();
+    if !held.is_needed(number) {
         return Ok(());
     }
-    match &program.node(number).made {
+    match &held.node(number).made {
         Made::Input { file, columns } => {
             let own = input_of(alloc, file, columns.as_slice(), source, tries)?;
             match push_input(rows, files, own) {

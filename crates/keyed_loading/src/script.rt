@@ -3,9 +3,7 @@ ghost use Rattle.std.specs.Prelude.{◌≡◌, ◌≤◌, ◌<◌, ◌∷◌, []
 ghost use Rattle.flume_tokens.specs.Tokens.{tokens_of};
 ghost use Rattle.flume_tokens.specs.declared.token.TokenList.{TokenList as Cut};
 ghost use Rattle.outside.specs.Asked.{Asks};
-ghost use Rattle.script_loading.specs.of_script_laws.WellFormed.{IsWellFormed};
 ghost use Rattle.script_loading.specs.Causes.{IsScriptCause};
-ghost use Rattle.script_loading.specs.Ready.{IsReady};
 ghost use Rattle.script_loading.specs.inner.Reading.{IsScriptFault};
 ghost use Rattle.script_program.specs.Saved.{HasNoSaved};
 ghost use Rattle.statement_law.specs.Outlined as outlined;
@@ -20,8 +18,7 @@ use outside::{Pieces, Source};
 use run_texts::Status;
 use script_check::check;
 use script_keys::{Outline, outline_of};
-use script_loading::{SCRIPT_LIMIT, loaded};
-use script_program::Program;
+use script_loading::{ReadyProgram, SCRIPT_LIMIT, loaded};
 use statement_law::statement_law;
 use statement_texts::texts_of;
 use std::alloc::{AllocError, Global};
@@ -29,7 +26,7 @@ use std::alloc::{AllocError, Global};
 /// A script, with what its statements are to keys, and their texts.
 #[derive(Drop)]
 pub struct KeyedScript {
-    pub program: Program,
+    pub program: ReadyProgram,
     pub outlines: Pile<Outline>,
     pub texts: Pile<Str>,
 }
@@ -46,9 +43,7 @@ pub fn keyed_script<R: Source>(
     ensures ok { IfOk result (λ it. LoadsKeyed (R.seen source.old).files name.now it.program.script
         it.outlines it.texts) }
     ensures many { IfOk result (λ it. length it.texts ≡ length it.outlines) }
-    ensures well_formed { IfOk result (λ it. IsWellFormed it.program.script) }
     ensures written { IfOk result (λ it. HasNoSaved it.program.script) }
-    ensures ready { IfOk result (λ it. IsReady it.program.script) }
     ensures err { IfErr result (IsScriptCause tries (R.seen source.old)
         (R.seen source.new) name.now) }
     ensures later { (R.seen source.old).faults ≤ (R.seen source.new).faults }
@@ -68,9 +63,7 @@ fn script_in(alloc: Global, file: Pieces) -> Result<KeyedScript, ScriptFault>
         IsKeyed file it.program.script it.outlines it.texts) }
     ensures many { IfOk result (λ it. length it.texts ≡ length it.outlines) }
     ensures refused { IfErr result (IsScriptFault file) }
-    ensures well_formed { IfOk result (λ it. IsWellFormed it.program.script) }
     ensures written { IfOk result (λ it. HasNoSaved it.program.script) }
-    ensures ready { IfOk result (λ it. IsReady it.program.script) }
 {
     match file.into_vec(alloc) {
         Ok(bytes) => script_of(alloc, &bytes),
@@ -84,9 +77,7 @@ fn script_of(alloc: Global, bytes: &[u8]) -> Result<KeyedScript, ScriptFault>
         IsKeyed bytes.now it.program.script it.outlines it.texts) }
     ensures many { IfOk result (λ it. length it.texts ≡ length it.outlines) }
     ensures refused { IfErr result (IsScriptFault bytes.now) }
-    ensures well_formed { IfOk result (λ it. IsWellFormed it.program.script) }
     ensures written { IfOk result (λ it. HasNoSaved it.program.script) }
-    ensures ready { IfOk result (λ it. IsReady it.program.script) }
 {
     statement_law();
     let ast = parse(alloc, bytes)?;
@@ -94,7 +85,7 @@ fn script_of(alloc: Global, bytes: &[u8]) -> Result<KeyedScript, ScriptFault>
     let texts = texts_in(alloc, bytes)?;
     let program = check(alloc, ast)?;
     Ok(KeyedScript {
-        program,
+        program: ReadyProgram::new(program),
         outlines,
         texts,
     })

@@ -1,14 +1,13 @@
 -- The script of the sums is ready to be run.
-use Rattle.std.proofs.Common.{◌≡◌, ◌<◌, ℕ, List, codes, lit<, subst, sym}
-use Rattle.std.specs.Prelude.{IfOk, IsUtf8, Result}
+use Rattle.std.proofs.Common.{◌<◌, ℕ, List, codes, lit<}
+use Rattle.std.specs.Prelude.{IsUtf8}
 use Rattle.std.specs.List.{AllByRecursion}
 use Rattle.std.proofs.lemmas.List.Elements.{All-from_recursion}
-use Rattle.std.proofs.lemmas.Result.{IfOk-weaker}
 use Rattle.std.proofs.lemmas.Str.{IsUtf8-from_ascii}
 use Rattle.std.proofs.lemmas.Str.Ascii.{IsAscii-from_all}
 use Rattle.run_course.specs.of_script_loading.Ready.{IsNamedMade, IsReady}
 use Rattle.run_texts.specs.Texts.{NamedOutput}
-use Rattle.script_program.specs.Script.{Node, Script}
+use Rattle.script_program.specs.Script.{Node}
 use Rattle.made_rows.specs.Sums.{sums_nodes, sums_script}
 
 ascii : (bs : List ℕ) → AllByRecursion (λ b. b < 128) bs → IsUtf8 bs
@@ -34,9 +33,3 @@ ready = record {
       (sums_named, tt);
   short = (tt, (tt, (tt, (tt, tt))));
 }
-
--- so is a program that is the script
-pub kept : {X E : Type 0} (view : X → Script) (P : Script → Type 0) (r : Result X E)
-    → P sums_script → IfOk r (λ x. view x ≡ sums_script) → IfOk r (λ x. P (view x))
-kept view P r holds same =
-    IfOk-weaker r _ _ (λ x is. subst P (sym is) holds) same

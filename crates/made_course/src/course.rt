@@ -13,8 +13,6 @@ ghost use Rattle.outside.specs.Saves.{output_file};
 ghost use Rattle.outside.specs.Seen.{SeenSource};
 ghost use Rattle.run_course.specs.World.{world};
 ghost use Rattle.run_settings.specs.Settings.{standard};
-ghost use Rattle.made_rows.specs.of_script_laws.WellFormed.{IsWellFormed};
-ghost use Rattle.run_course.specs.of_script_loading.Ready.{IsReady};
 
 use crate::summing::{sums_ready, sums_run};
 use command_words::Workload;
@@ -22,10 +20,10 @@ use flume_value::Items;
 use made_rows::{made_total, text_made};
 use outside::{FileName, Host, Output, Screen, Shelf};
 use plan_phases::RunFault;
+use run_course::script_loading::ReadyProgram;
 use run_course::script_run::Ran;
 use run_course::{Written, deliver, file_of};
 use run_texts::{Status, made_line, tell};
-use script_program::Program;
 use std::alloc::{AllocError, Global};
 use std::thread::Threads;
 
@@ -82,13 +80,11 @@ fn prepare<X: Threads + Sync, H: Host + Send>(
 fn summed<X: Threads + Sync, H: Host + Send>(
     rt: &X,
     alloc: Global,
-    program: &Program,
+    program: &ReadyProgram,
     workload: Workload,
     hosts: &mut [H],
 ) -> Result<Written, Status>
     requires script { program.now.script ≡ sums_script }
-    requires well_formed { IsWellFormed program.now.script }
-    requires ready { IsReady program.now.script }
     requires within { IsWithin workload }
     requires sixteen { length hosts.old ≡ 16 }
     ensures files { IfOk result (λ it. map output_file it.outputs.items ≡ files_for workload) }
@@ -132,13 +128,12 @@ fn first_of(mut lists: Vec<Items>) -> Items
 // The two files, and the line of the screen.
 fn written_out(
     alloc: Global,
-    program: &Program,
+    program: &ReadyProgram,
     workload: Workload,
     sums: Items,
 ) -> Result<Written, AllocError>
     requires within { IsWithin workload }
     requires script { program.now.script ≡ sums_script }
-    requires ready { IsReady program.now.script }
     requires sums { sums ≡ sums_for workload }
     ensures files { IfOk result (λ it. map output_file it.outputs.items ≡ files_for workload) }
     ensures line { IfOk result (λ it. it.screen.items ≡ line_for workload) }

@@ -8,8 +8,6 @@ ghost use Rattle.made_course.specs.Runs.{AsksHosts};
 ghost use Rattle.made_course.specs.inner.Stops.{ComesTo};
 ghost use Rattle.made_rows.specs.Sums.{sums_script};
 ghost use Rattle.run_settings.specs.Settings.{standard};
-ghost use Rattle.made_rows.specs.of_script_laws.WellFormed.{IsWellFormed};
-ghost use Rattle.run_course.specs.of_script_loading.Ready.{IsReady};
 ghost use Rattle.run_course.specs.of_script_plans.Plans.{IsScriptPlan};
 ghost use Rattle.run_course.specs.of_script_run.Runs.{IsPlanOf};
 
@@ -19,35 +17,31 @@ use flume_value::{Items, Pile};
 use made_rows::{made_rows_law, rows_made, sums_law, sums_program};
 use outside::Host;
 use plan_phases::RunFault;
-use run_course::build_law::graph_law;
+use run_course::script_loading::ReadyProgram;
 use run_course::script_run::Ran;
 use run_course::{ShownPlan, plan_shown, ran_on};
 use run_settings::Settings;
-use script_program::Program;
 use std::alloc::{AllocError, Global};
 use std::thread::Threads;
 
 /// The program of the script of the sums, which is ready to be run.
-pub fn sums_ready(alloc: Global) -> Result<Program, AllocError>
-    ensures script { IfOk result (λ program. program.script ≡ sums_script) }
-    ensures well_formed { IfOk result (λ program. IsWellFormed program.script) }
-    ensures ready { IfOk result (λ program. IsReady program.script) }
+pub fn sums_ready(alloc: Global) -> Result<ReadyProgram, AllocError>
+    ensures { IfOk result (λ program. program.script ≡ sums_script) }
 {
     sums_law();
-    sums_program(alloc)
+    let program = sums_program(alloc)?;
+    Ok(ReadyProgram::new(program))
 }
 
 /// The run of the script over the rows of a workload, by the usual settings.
 pub fn sums_run<X: Threads + Sync, H: Host + Send>(
     rt: &X,
     alloc: Global,
-    program: &Program,
+    program: &ReadyProgram,
     workload: Workload,
     hosts: &mut [H],
 ) -> Result<Ran, RunFault>
     requires script { program.now.script ≡ sums_script }
-    requires well_formed { IsWellFormed program.now.script }
-    requires ready { IsReady program.now.script }
     requires within { IsWithin workload }
     requires sixteen { length hosts.old ≡ 16 }
     ensures comes { ComesTo workload (map H.account hosts.old) (map H.account hosts.new) result }
@@ -60,13 +54,10 @@ pub fn sums_run<X: Threads + Sync, H: Host + Send>(
 }
 
 // The plan of the script.
-fn sums_plan(alloc: Global, program: &Program) -> Result<Plan, AllocError>
-    requires well_formed { IsWellFormed program.now.script }
-    requires ready { IsReady program.now.script }
+fn sums_plan(alloc: Global, program: &ReadyProgram) -> Result<Plan, AllocError>
     ensures optimised { IfOk result (λ plan. IsScriptPlan program.now.script plan) }
     ensures of_script { IfOk result (λ plan. IsPlanOf program.now.script plan) }
 {
-    graph_law();
     let ShownPlan { plan, text: _ } = plan_shown(alloc, program)?;
     Ok(plan)
 }
@@ -75,14 +66,12 @@ fn sums_plan(alloc: Global, program: &Program) -> Result<Plan, AllocError>
 fn plan_run<X: Threads + Sync, H: Host + Send>(
     rt: &X,
     alloc: Global,
-    program: &Program,
+    program: &ReadyProgram,
     plan: &Plan,
     workload: Workload,
     hosts: &mut [H],
 ) -> Result<Ran, RunFault>
     requires script { program.now.script ≡ sums_script }
-    requires well_formed { IsWellFormed program.now.script }
-    requires ready { IsReady program.now.script }
     requires optimised { IsScriptPlan program.now.script plan.now }
     requires of_script { IsPlanOf program.now.script plan.now }
     requires within { IsWithin workload }

@@ -4,17 +4,13 @@ ghost use Rattle.std.specs.List.{AllZip};
 ghost use Rattle.command_words.specs.declared.words.Command.TheVariants.{Direct, Run};
 ghost use Rattle.crew.specs.Hosts.{Grew};
 ghost use Rattle.script_loading.specs.of_direct_meaning.Inputs.{inputs_of};
-ghost use Rattle.exec_graph.specs.Wellformed.{IsGraphOk};
-ghost use Rattle.script_loading.specs.of_graph_build.Graphs.{graph_of};
 ghost use Rattle.outside.specs.Saves.{output_file};
-ghost use Rattle.script_loading.specs.of_script_laws.WellFormed.{IsWellFormed};
 ghost use Rattle.run_course.specs.Asked as spec;
 ghost use Rattle.run_course.specs.Asks.{files_behind, plan_file};
 ghost use Rattle.run_course.specs.Lent.{lends};
 ghost use Rattle.run_course.specs.Written.{ShowsPlan, Writes, WritesMeaning, WritesRun};
 ghost use Rattle.script_loading.specs.Loads.{file_names};
 ghost use Rattle.script_program.specs.Saved.{HasNoSaved};
-ghost use Rattle.script_loading.specs.Ready.{IsReady};
 ghost use Rattle.run_course.specs.inner.Course.{AsksHostsUntil, AsksUntil, IsCommandStop, IsMeaningStop};
 
 use crate::evaluation::written_meaning;
@@ -27,8 +23,7 @@ use crate::stop::Stop;
 use command_words::{Command, PlanForm};
 use outside::{FileName, Host, Source};
 use run_settings::Settings;
-use script_loading::rows_of_inputs;
-use script_program::Program;
+use script_loading::{ReadyProgram, rows_of_inputs};
 use std::alloc::{AllocError, Global};
 use std::thread::Threads;
 
@@ -48,14 +43,11 @@ pub fn carried_out<X: Threads + Sync, R: Source, H: Host + Send>(
     rt: &X,
     alloc: Global,
     command: &Command,
-    program: &Program,
+    program: &ReadyProgram,
     source: &mut R,
     hosts: &mut [H],
 ) -> Result<Written, Stop>
-    requires well_formed { IsWellFormed program.now.script }
     requires written { HasNoSaved program.now.script }
-    requires ready { IsReady program.now.script }
-    requires graph { IsGraphOk (graph_of program.now.script) }
     requires sixteen { length hosts.old ≡ 16 }
     ensures written { IfOk result (λ it. Writes command.now (R.seen source.old).files
         (map H.account hosts.old) (map H.account hosts.new)
@@ -92,10 +84,7 @@ fn accepted(alloc: Global) -> Result<Written, AllocError>
 }
 
 // What `plan` writes of a script.
-fn planned(alloc: Global, program: &Program, form: PlanForm) -> Result<Written, AllocError>
-    requires well_formed { IsWellFormed program.now.script }
-    requires ready { IsReady program.now.script }
-    requires graph { IsGraphOk (graph_of program.now.script) }
+fn planned(alloc: Global, program: &ReadyProgram, form: PlanForm) -> Result<Written, AllocError>
     ensures files { IfOk result (λ it. map output_file it.outputs.items ≡ []) }
     ensures text { IfOk result (λ it. ShowsPlan form program.now.script it.screen.items) }
 {
@@ -110,12 +99,10 @@ fn planned(alloc: Global, program: &Program, form: PlanForm) -> Result<Written, 
 fn meant<X: Threads + Sync, R: Source>(
     rt: &X,
     alloc: Global,
-    program: &Program,
+    program: &ReadyProgram,
     source: &mut R,
 ) -> Result<Written, Stop>
-    requires well_formed { IsWellFormed program.now.script }
     requires written { HasNoSaved program.now.script }
-    requires ready { IsReady program.now.script }
     ensures written { IfOk result (λ it. WritesMeaning (R.seen source.old).files program.now.script
         [] (map output_file it.outputs.items) it.screen.items) }
     ensures stop { IfErr result (IsMeaningStop (R.seen source.old)
@@ -133,16 +120,13 @@ fn meant<X: Threads + Sync, R: Source>(
 fn run_on<X: Threads + Sync, R: Source, H: Host + Send>(
     rt: &X,
     alloc: Global,
-    program: &Program,
+    program: &ReadyProgram,
     source: &mut R,
     hosts: &mut [H],
     settings: &Settings,
     from: &Option<FileName>,
 ) -> Result<Written, Stop>
-    requires well_formed { IsWellFormed program.now.script }
     requires written { HasNoSaved program.now.script }
-    requires ready { IsReady program.now.script }
-    requires graph { IsGraphOk (graph_of program.now.script) }
     requires sixteen { length hosts.old ≡ 16 }
     ensures written { IfOk result (λ it. WritesRun settings.now from.now (R.seen source.old).files
         (map H.account hosts.old) (map H.account hosts.new)

@@ -5,8 +5,6 @@ ghost use Rattle.script_loading.specs.of_direct_meaning.Evaluated.{bag_at};
 ghost use Rattle.script_loading.specs.of_direct_meaning.Inputs.{AreInputs};
 ghost use Rattle.outside.specs.Saves.{output_file};
 ghost use Rattle.run_texts.specs.Texts.{NamedOutput, size_lines};
-ghost use Rattle.script_loading.specs.of_script_laws.WellFormed.{IsWellFormed};
-ghost use Rattle.script_loading.specs.Ready.{IsReady};
 ghost use Rattle.script_program.specs.Saved.{HasNoSaved};
 ghost use Rattle.run_course.specs.inner.Course.{AreFiles, HaveMembers, GivesFiles, IsFileOf, IsStop};
 
@@ -15,27 +13,26 @@ use crate::stop::Stop;
 use flume_collection::Trap;
 use flume_value::{Items, Pile, Str};
 use outside::Output;
+use script_loading::ReadyProgram;
 use script_loading::direct_meaning::{Direct, direct};
-use script_program::Program;
 use std::alloc::{AllocError, Global};
 
 /// What the meaning of a program writes over the rows of its inputs.
 pub fn written_meaning(
     alloc: Global,
-    program: &Program,
+    program: &ReadyProgram,
     inputs: Pile<Items>,
 ) -> Result<Written, Stop>
-    requires well_formed { IsWellFormed program.now.script }
     requires written { HasNoSaved program.now.script }
-    requires ready { IsReady program.now.script }
     requires typed { AreInputs program.now.script inputs }
     ensures written { IfOk result (λ it. GivesFiles program.now.script inputs []
         (map output_file it.outputs.items) it.screen.items) }
     ensures stop { IfErr result (IsStop program.now.script inputs) }
 {
-    let Direct { bags, sizes, traps } = direct(alloc, program, inputs)?;
+    let held = program.as_program();
+    let Direct { bags, sizes, traps } = direct(alloc, held, inputs)?;
     match first(traps) {
-        Some(trap) => Err(trapped(alloc, program, trap)?),
+        Some(trap) => Err(trapped(alloc, held, trap)?),
         None => Ok(write_out(alloc, program, &bags, &sizes)?),
     }
 }
@@ -53,11 +50,10 @@ fn first(mut traps: Vec<Trap>) -> Option<Trap>
 // The files of the outputs, and the sizes.
 fn write_out(
     alloc: Global,
-    program: &Program,
+    program: &ReadyProgram,
     bags: &[Option<Items>],
     sizes: &[(Str, u64)],
 ) -> Result<Written, AllocError>
-    requires ready { IsReady program.now.script }
     requires bags { HaveMembers program.now.script bags.now }
     ensures files { IfOk result (λ it.
         AreFiles bags.now program.now.script.outputs (map output_file it.outputs.items)) }
@@ -71,16 +67,16 @@ fn write_out(
 
 fn output_files(
     alloc: Global,
-    program: &Program,
+    program: &ReadyProgram,
     bags: &[Option<Items>],
 ) -> Result<Vec<Output>, AllocError>
-    requires ready { IsReady program.now.script }
     requires bags { HaveMembers program.now.script bags.now }
     ensures { IfOk result (λ files.
         AreFiles bags.now program.now.script.outputs (map output_file files.items)) }
 {
+    let held = program.as_program();
     let mut files = Vec::new(alloc);
-    for number in 0..program.output_count() {
+    for number in 0..held.output_count() {
         files.push(output_at(alloc, program, number, bags)?)?;
     }
     Ok(files)
@@ -89,18 +85,18 @@ fn output_files(
 // The file of one output.
 fn output_at(
     alloc: Global,
-    program: &Program,
+    program: &ReadyProgram,
     number: usize,
     bags: &[Option<Items>],
 ) -> Result<Output, AllocError>
     requires within { number < length program.now.script.outputs }
-    requires ready { IsReady program.now.script }
     requires bags { HaveMembers program.now.script bags.now }
     ensures { IfOk result (λ file. (output : NamedOutput) →
         slice_get program.now.script.outputs number ≡ Some output →
         IsFileOf bags.now output (output_file file)) }
 {
-    let Some(bag) = members_at(bags, program.output(number).reads) else {
+    let held = program.as_program();
+    let Some(bag) = members_at(bags, held.output(number).reads) else {
         unreachable!();
     };
     file_of(alloc, program, number, bag.as_slice())

@@ -2,7 +2,6 @@
 ghost use Rattle.std.specs.Prelude.{◌≡◌, ◌<◌, ◌++◌, IfOk, OnOk, codes, length, map, slice_get, Some};
 ghost use Rattle.outside.specs.Saves.{output_file};
 ghost use Rattle.run_texts.specs.Texts.{NamedOutput, size_lines};
-ghost use Rattle.script_loading.specs.Ready.{IsReady};
 ghost use Rattle.run_course.specs.inner.Course.{IsTrapOf, file_with};
 
 use crate::stop::{Stop, Trapped};
@@ -11,6 +10,7 @@ use flume_collection::Trap;
 use flume_value::{Str, Value};
 use outside::{FileName, Output};
 use run_texts::push_size;
+use script_loading::ReadyProgram;
 use script_program::Program;
 use std::alloc::{AllocError, Global};
 use std::str;
@@ -25,19 +25,19 @@ pub struct Written {
 /// The file of an output that writes these members.
 pub fn file_of(
     alloc: Global,
-    program: &Program,
+    program: &ReadyProgram,
     number: usize,
     members: &[Value],
 ) -> Result<Output, AllocError>
     requires within { number < length program.now.script.outputs }
-    requires ready { IsReady program.now.script }
     ensures { IfOk result (λ file. (output : NamedOutput) →
         slice_get program.now.script.outputs number ≡ Some output →
         output_file file ≡ file_with output members.now) }
 {
-    let output = program.output(number);
+    let held = program.as_program();
+    let output = held.output(number);
     let text = text_under_columns(alloc, members, output.columns.as_slice())?;
-    let Ok(name) = str::from_utf8(program.output_file(number).as_bytes()) else {
+    let Ok(name) = str::from_utf8(held.output_file(number).as_bytes()) else {
         unreachable!();
     };
     Ok(Output {

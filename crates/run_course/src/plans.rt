@@ -1,10 +1,6 @@
 // The plan that a run carries out, with its text: the script's own, or that of a file.
 ghost use Rattle.std.specs.Prelude.{◌≡◌, ◌≤◌, ◌<◌, ◌∷◌, [], IfErr, IfOk, Some};
-ghost use Rattle.exec_graph.specs.Wellformed.{IsGraphOk};
-ghost use Rattle.script_loading.specs.of_graph_build.Graphs.{graph_of};
 ghost use Rattle.outside.specs.Asked.{Asks};
-ghost use Rattle.script_loading.specs.of_script_laws.WellFormed.{IsWellFormed};
-ghost use Rattle.script_loading.specs.Ready.{IsReady};
 ghost use Rattle.script_run.specs.Runs.{IsPlanOf};
 ghost use Rattle.run_course.specs.Asks.{plan_file};
 ghost use Rattle.run_course.specs.Plans.{IsFileCause, IsPlanFor};
@@ -14,22 +10,18 @@ ghost use Rattle.run_course.specs.inner.Course.{IsPlanStop};
 use crate::showing::{ShownPlan, plan_shown, taken_shown};
 use outside::{FileName, Source};
 use run_texts::Status;
-use script_loading::plan_bytes;
-use script_program::Program;
+use script_loading::{ReadyProgram, plan_bytes};
 use std::alloc::Global;
 
 /// The plan that a run carries out, and its text: that of the file of this name, which is loaded in
 /// so many tries, or where none is named the script's own.
 pub fn plan_for<R: Source>(
     alloc: Global,
-    program: &Program,
+    program: &ReadyProgram,
     from: &Option<FileName>,
     source: &mut R,
     tries: u32,
 ) -> Result<ShownPlan, Status>
-    requires well_formed { IsWellFormed program.now.script }
-    requires ready { IsReady program.now.script }
-    requires graph { IsGraphOk (graph_of program.now.script) }
     requires tries { 0 < tries }
     ensures plan { IfOk result (λ it.
         IsPlanFor (R.seen source.old).files program.now.script from.now it.plan) }
@@ -50,14 +42,11 @@ pub fn plan_for<R: Source>(
 // The plan of a file, and its text.
 fn plan_in_file<R: Source>(
     alloc: Global,
-    program: &Program,
+    program: &ReadyProgram,
     name: &str,
     source: &mut R,
     tries: u32,
 ) -> Result<ShownPlan, Status>
-    requires well_formed { IsWellFormed program.now.script }
-    requires ready { IsReady program.now.script }
-    requires graph { IsGraphOk (graph_of program.now.script) }
     requires tries { 0 < tries }
     ensures plan { IfOk result (λ it.
         IsPlanFor (R.seen source.old).files program.now.script (Some name.now) it.plan) }

@@ -5,11 +5,9 @@ ghost use Rattle.crew.specs.Hosts.{Grew};
 ghost use Rattle.script_loading.specs.of_direct_meaning.Inputs.{AreInputs};
 ghost use Rattle.outside.specs.Saves.{output_file};
 ghost use Rattle.run_texts.specs.Texts.{size_lines};
-ghost use Rattle.script_loading.specs.of_script_laws.WellFormed.{IsWellFormed};
 ghost use Rattle.script_run.specs.Runs.{AsksSomePhases, IsPlanOf, IsRan, IsRunFault, phases_of};
 ghost use Rattle.run_course.specs.Lent.{lent};
 ghost use Rattle.run_course.specs.Written.{AllTasksRan};
-ghost use Rattle.script_loading.specs.Ready.{IsReady};
 ghost use Rattle.run_course.specs.inner.Course.{GivesFiles, IsRunStop, files_with};
 
 use crate::files::{Written, file_of, trapped, with_sizes};
@@ -21,7 +19,7 @@ use outside::{Host, Output};
 use plan_phases::RunFault;
 use run_settings::Settings;
 use run_texts::Status;
-use script_program::Program;
+use script_loading::ReadyProgram;
 use script_run::{Ran, run_script};
 use std::alloc::{AllocError, Global};
 use std::thread::Threads;
@@ -31,14 +29,12 @@ use std::thread::Threads;
 pub fn written_run<X: Threads + Sync, H: Host + Send>(
     rt: &X,
     alloc: Global,
-    program: &Program,
+    program: &ReadyProgram,
     shown: ShownPlan,
     inputs: Pile<Items>,
     hosts: &mut [H],
     settings: &Settings,
 ) -> Result<Written, Stop>
-    requires well_formed { IsWellFormed program.now.script }
-    requires ready { IsReady program.now.script }
     requires typed { AreInputs program.now.script inputs }
     requires of_script { IsPlanOf program.now.script shown.plan }
     requires sixteen { length hosts.old ≡ 16 }
@@ -57,10 +53,11 @@ pub fn written_run<X: Threads + Sync, H: Host + Send>(
     ensures grew { AllZip Grew (map H.account hosts.old) (map H.account hosts.new) }
     ensures hosts { drop settings.now.workers hosts.new ≡ drop settings.now.workers hosts.old }
 {
+    let held = program.as_program();
     let ShownPlan { plan, text } = shown;
     match ran_on(rt, alloc, program, &plan, inputs, hosts, settings) {
         Ok(ran) => Ok(write_out(alloc, program, &ran, text)?),
-        Err(RunFault::Trap(trap)) => Err(trapped(alloc, program, trap)?),
+        Err(RunFault::Trap(trap)) => Err(trapped(alloc, held, trap)?),
         Err(RunFault::GaveUp { stage, phase, task }) => {
             Err(Stop::Refused(Status::GaveUp { stage, phase, task }))
         }
@@ -72,14 +69,12 @@ pub fn written_run<X: Threads + Sync, H: Host + Send>(
 pub fn ran_on<X: Threads + Sync, H: Host + Send>(
     rt: &X,
     alloc: Global,
-    program: &Program,
+    program: &ReadyProgram,
     plan: &Plan,
     inputs: Pile<Items>,
     hosts: &mut [H],
     settings: &Settings,
 ) -> Result<Ran, RunFault>
-    requires well_formed { IsWellFormed program.now.script }
-    requires ready { IsReady program.now.script }
     requires typed { AreInputs program.now.script inputs }
     requires of_script { IsPlanOf program.now.script plan.now }
     requires sixteen { length hosts.old ≡ 16 }
@@ -96,18 +91,18 @@ pub fn ran_on<X: Threads + Sync, H: Host + Send>(
     ensures grew { AllZip Grew (map H.account hosts.old) (map H.account hosts.new) }
     ensures hosts { drop settings.now.workers hosts.new ≡ drop settings.now.workers hosts.old }
 {
+    let held = program.as_program();
     let (lent, _spare) = hosts.split_at_mut(settings.workers() as usize);
-    run_script(rt, alloc, program, plan, inputs, lent, settings)
+    run_script(rt, alloc, held, plan, inputs, lent, settings)
 }
 
 // The files of the outputs, and the sizes behind the text that stands first.
 fn write_out(
     alloc: Global,
-    program: &Program,
+    program: &ReadyProgram,
     ran: &Ran,
     front: Vec<u8>,
 ) -> Result<Written, AllocError>
-    requires ready { IsReady program.now.script }
     requires count { length ran.now.outputs.items ≡ length program.now.script.outputs }
     ensures files { IfOk result (λ it. map output_file it.outputs.items
         ≡ files_with program.now.script.outputs ran.now.outputs.items) }
@@ -122,16 +117,16 @@ fn write_out(
 /// The files of the outputs, which write these members.
 pub fn output_files(
     alloc: Global,
-    program: &Program,
+    program: &ReadyProgram,
     members: &[Items],
 ) -> Result<Vec<Output>, AllocError>
-    requires ready { IsReady program.now.script }
     requires count { length members.now ≡ length program.now.script.outputs }
     ensures { IfOk result (λ files. map output_file files.items
         ≡ files_with program.now.script.outputs members.now) }
 {
+    let held = program.as_program();
     let mut files = Vec::new(alloc);
-    for number in 0..program.output_count() {
+    for number in 0..held.output_count() {
         files.push(file_of(alloc, program, number, members[number].as_slice())?)?;
     }
     Ok(files)

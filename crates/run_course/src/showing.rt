@@ -1,14 +1,11 @@
 // A script's plan, as it is shown.
 ghost use Rattle.std.specs.Prelude.{◌≡◌, IfErr, IfOk};
 ghost use Rattle.command_words.specs.declared.words.PlanForm.TheVariants.{Json, Rewrites, Text};
-ghost use Rattle.exec_graph.specs.Wellformed.{IsGraphOk};
 ghost use Rattle.script_loading.specs.of_graph_build.Graphs.{graph_of};
-ghost use Rattle.script_loading.specs.of_script_laws.WellFormed.{IsWellFormed};
 ghost use Rattle.outer_plans.specs.Plans.{IsTaken};
 ghost use Rattle.outer_plans.specs.of_script_plans.Plans.{IsScriptPlan};
 ghost use Rattle.script_run.specs.Runs.{IsPlanOf};
 ghost use Rattle.run_course.specs.Written.{ShowsPlan, file_shown, text_shown};
-ghost use Rattle.script_loading.specs.Ready.{IsReady};
 ghost use Rattle.run_course.specs.inner.Course.{IsTakingStop, refusal_of};
 
 use command_words::PlanForm;
@@ -20,6 +17,7 @@ use outer_plans::script_plans::plan_of;
 use outer_plans::{Traced, line_law, rewrites_json, taken_plan, traced_plan};
 use plan_faults::PlanFault;
 use run_texts::Status;
+use script_loading::ReadyProgram;
 use script_loading::build_law::types_law;
 use script_loading::graph_build::build;
 use script_program::Program;
@@ -33,10 +31,7 @@ pub struct ShownPlan {
 }
 
 /// The plan of a script in one of its forms.
-pub fn shown(alloc: Global, program: &Program, form: PlanForm) -> Result<Vec<u8>, AllocError>
-    requires well_formed { IsWellFormed program.now.script }
-    requires ready { IsReady program.now.script }
-    requires graph { IsGraphOk (graph_of program.now.script) }
+pub fn shown(alloc: Global, program: &ReadyProgram, form: PlanForm) -> Result<Vec<u8>, AllocError>
     ensures { IfOk result (λ text. ShowsPlan form program.now.script text.items) }
 {
     match form {
@@ -46,10 +41,7 @@ pub fn shown(alloc: Global, program: &Program, form: PlanForm) -> Result<Vec<u8>
     }
 }
 
-fn text_shown(alloc: Global, program: &Program) -> Result<Vec<u8>, AllocError>
-    requires well_formed { IsWellFormed program.now.script }
-    requires ready { IsReady program.now.script }
-    requires graph { IsGraphOk (graph_of program.now.script) }
+fn text_shown(alloc: Global, program: &ReadyProgram) -> Result<Vec<u8>, AllocError>
     ensures { IfOk result (λ text. ShowsPlan Text program.now.script text.items) }
 {
     let ShownPlan { plan: _, text } = plan_shown(alloc, program)?;
@@ -57,19 +49,17 @@ fn text_shown(alloc: Global, program: &Program) -> Result<Vec<u8>, AllocError>
 }
 
 /// A script's plan, and its text.
-pub fn plan_shown(alloc: Global, program: &Program) -> Result<ShownPlan, AllocError>
-    requires well_formed { IsWellFormed program.now.script }
-    requires ready { IsReady program.now.script }
-    requires graph { IsGraphOk (graph_of program.now.script) }
+pub fn plan_shown(alloc: Global, program: &ReadyProgram) -> Result<ShownPlan, AllocError>
     ensures optimised { IfOk result (λ it. IsScriptPlan program.now.script it.plan) }
     ensures of_script { IfOk result (λ it. IsPlanOf program.now.script it.plan) }
     ensures text { IfOk result (λ it. it.text.items ≡ text_shown program.now.script it.plan) }
 {
     types_law();
-    let graph = build(alloc, program)?;
-    let mut text = graph_text(alloc, program, &graph)?;
-    let plan = plan_of(alloc, program, graph)?;
-    let mut behind = plan_text(alloc, program, &plan)?;
+    let held = program.as_program();
+    let graph = build(alloc, held)?;
+    let mut text = graph_text(alloc, held, &graph)?;
+    let plan = plan_of(alloc, held, graph)?;
+    let mut behind = plan_text(alloc, held, &plan)?;
     text.append(&mut behind)?;
     Ok(ShownPlan { plan, text })
 }
@@ -77,36 +67,39 @@ pub fn plan_shown(alloc: Global, program: &Program) -> Result<ShownPlan, AllocEr
 /// The plan that the bytes of a file tell, if it is one of the script, and its text.
 pub(crate) fn taken_shown(
     alloc: Global,
-    program: &Program,
+    program: &ReadyProgram,
     bytes: &[u8],
 ) -> Result<ShownPlan, Status>
-    requires well_formed { IsWellFormed program.now.script }
-    requires graph { IsGraphOk (graph_of program.now.script) }
     ensures taken { IfOk result (λ it. IsTaken program.now.script bytes.now it.plan) }
     ensures of_script { IfOk result (λ it. IsPlanOf program.now.script it.plan) }
     ensures text { IfOk result (λ it. it.text.items ≡ text_shown program.now.script it.plan) }
     ensures stop { IfErr result (IsTakingStop program.now.script bytes.now) }
 {
-    let graph = build(alloc, program)?;
-    let mut text = graph_text(alloc, program, &graph)?;
+    let held = program.as_program();
+    let graph = build(alloc, held)?;
+    let mut text = graph_text(alloc, held, &graph)?;
     let plan = plan_taken(alloc, program, graph, bytes)?;
-    let mut behind = plan_text(alloc, program, &plan)?;
+    let mut behind = plan_text(alloc, held, &plan)?;
     text.append(&mut behind)?;
     Ok(ShownPlan { plan, text })
 }
 
 // The plan that the bytes of a file tell, if it is one of the script, which has this execution
 // graph.
-fn plan_taken(alloc: Global, program: &Program, graph: Graph, bytes: &[u8]) -> Result<Plan, Status>
-    requires well_formed { IsWellFormed program.now.script }
+fn plan_taken(
+    alloc: Global,
+    program: &ReadyProgram,
+    graph: Graph,
+    bytes: &[u8],
+) -> Result<Plan, Status>
     requires built { graph ≡ graph_of program.now.script }
-    requires ok { IsGraphOk graph }
     ensures taken { IfOk result (λ plan. IsTaken program.now.script bytes.now plan) }
     ensures of_script { IfOk result (λ plan. IsPlanOf program.now.script plan) }
     ensures stop { IfErr result (IsTakingStop program.now.script bytes.now) }
 {
     types_law();
-    match taken_plan(alloc, program, graph, bytes) {
+    let held = program.as_program();
+    match taken_plan(alloc, held, graph, bytes) {
         Ok(plan) => Ok(plan),
         Err(fault) => Err(refusal(fault)),
     }
@@ -123,28 +116,26 @@ fn refusal(fault: PlanFault) -> Status
 }
 
 // A script's plan as JSON, on a line.
-fn json_shown(alloc: Global, program: &Program) -> Result<Vec<u8>, AllocError>
-    requires well_formed { IsWellFormed program.now.script }
-    requires graph { IsGraphOk (graph_of program.now.script) }
+fn json_shown(alloc: Global, program: &ReadyProgram) -> Result<Vec<u8>, AllocError>
     ensures { IfOk result (λ text. ShowsPlan Json program.now.script text.items) }
 {
-    let graph = build(alloc, program)?;
-    let plan = plan_of(alloc, program, graph)?;
-    let mut text = plan_json(alloc, program, &plan)?;
+    let held = program.as_program();
+    let graph = build(alloc, held)?;
+    let plan = plan_of(alloc, held, graph)?;
+    let mut text = plan_json(alloc, held, &plan)?;
     text.extend_from_slice(b"\n")?;
     Ok(text)
 }
 
 // A script's plan as the file of a plan, on a line.
-fn rewrites_shown(alloc: Global, program: &Program) -> Result<Vec<u8>, AllocError>
-    requires well_formed { IsWellFormed program.now.script }
-    requires graph { IsGraphOk (graph_of program.now.script) }
+fn rewrites_shown(alloc: Global, program: &ReadyProgram) -> Result<Vec<u8>, AllocError>
     ensures { IfOk result (λ text. ShowsPlan Rewrites program.now.script text.items) }
 {
     line_law();
-    let graph = build(alloc, program)?;
-    let traced = traced_plan(alloc, program, graph)?;
-    traced_text(alloc, program, &traced)
+    let held = program.as_program();
+    let graph = build(alloc, held)?;
+    let traced = traced_plan(alloc, held, graph)?;
+    traced_text(alloc, held, &traced)
 }
 
 // A plan with its rewrites, on a line.

@@ -4,22 +4,21 @@ ghost use Rattle.build_law.specs.of_direct_meaning.Inputs.{AreInputs, Wanted, in
 ghost use Rattle.flume_types.specs.Columns.{input_columns_of};
 ghost use Rattle.flume_types.specs.declared.types.Ty.{Ty};
 ghost use Rattle.outside.specs.Asked.{Asks, AsksFront};
-ghost use Rattle.build_law.specs.of_script_laws.WellFormed.{IsWellFormed};
 ghost use Rattle.script_program.specs.Saved.{HasNoSaved};
 ghost use Rattle.script_loading.specs.Causes.{IsInputCause, IsInputsCause};
 ghost use Rattle.script_loading.specs.Loads.{AllHaveRows, HasRows, file_names};
-ghost use Rattle.script_loading.specs.Ready.{IsReady};
 ghost use Rattle.script_loading.specs.inner.Reading.{HasRead, fault_status, inputs_at};
 
 use crate::files::loaded;
 use crate::laws::inputs_law;
 use crate::limits::INPUT_LIMIT;
+use crate::ready::ReadyProgram;
 use csv_rows::{RowFault, rows_by_threads};
 use flume_types::Column;
 use flume_value::{Items, Pile, Str};
 use outside::Source;
 use run_texts::Status;
-use script_program::{Made, Program};
+use script_program::Made;
 use std::alloc::Global;
 use std::str;
 use std::thread::Threads;
@@ -30,15 +29,13 @@ use std::thread::Threads;
 pub fn rows_of_inputs<X: Threads + Sync, R: Source>(
     rt: &X,
     alloc: Global,
-    program: &Program,
+    program: &ReadyProgram,
     source: &mut R,
     tries: u32,
     threads: usize,
 ) -> Result<Pile<Items>, Status>
     requires tries { 0 < tries }
-    requires well_formed { IsWellFormed program.now.script }
     requires written { HasNoSaved program.now.script }
-    requires ready { IsReady program.now.script }
     ensures files { (R.seen source.new).files ≡ (R.seen source.old).files }
     ensures ok { IfOk result
         (AllHaveRows (R.seen source.old).files (inputs_of program.now.script)) }
@@ -52,8 +49,9 @@ pub fn rows_of_inputs<X: Threads + Sync, R: Source>(
         (R.seen source.old) (R.seen source.new)) }
 {
     inputs_law();
+    let held = program.as_program();
     let mut rows = Pile::new(alloc);
-    for number in 0..program.node_count() {
+    for number in 0..held.node_count() {
         add_rows(
             rt, alloc, program, number, source, tries, threads, &mut rows,
         )?;
@@ -65,7 +63,7 @@ pub fn rows_of_inputs<X: Threads + Sync, R: Source>(
 fn add_rows<X: Threads + Sync, R: Source>(
     rt: &X,
     alloc: Global,
-    program: &Program,
+    program: &ReadyProgram,
     number: usize,
     source: &mut R,
     tries: u32,
@@ -73,8 +71,6 @@ fn add_rows<X: Threads + Sync, R: Source>(
     rows: &mut Pile<Items>,
 ) -> Result<(), Status>
     requires tries { 0 < tries }
-    requires well_formed { IsWellFormed program.now.script }
-    requires ready { IsReady program.now.script }
     requires within { number < length program.now.script.nodes }
     requires read { HasRead (R.seen source.old).files program.now.script number rows.old }
     ensures files { (R.seen source.new).files ≡ (R.seen source.old).files }
@@ -86,10 +82,11 @@ fn add_rows<X: Threads + Sync, R: Source>(
     ensures asked { Asks tries (file_names (inputs_at program.now.script number))
         (R.seen source.old) (R.seen source.new) }
 {
-    if !program.is_needed(number) {
+    let held = program.as_program();
+    if !held.is_needed(number) {
         return Ok(());
     }
-    match &program.node(number).made {
+    match &held.node(number).made {
         Made::Input { file, columns } => {
             let own = rows_of_file(rt, alloc, file, columns.as_slice(), source, tries, threads)?;
             match rows.push(own) {

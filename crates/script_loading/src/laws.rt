@@ -4,11 +4,10 @@ ghost use Rattle.build_law.specs.of_direct_meaning.Inputs.{AreInputs, HaveRows, 
 ghost use Rattle.flume_grammar.specs.declared.fault.ScriptKind.{ScriptKind as Kind};
 ghost use Rattle.flume_value.specs.declared.value.Value.{Value};
 ghost use Rattle.outside.specs.declared.file.File.{File};
-ghost use Rattle.script_program.specs.Saved.{HasNoSaved, with_saved};
+ghost use Rattle.script_program.specs.Saved.{HasNoSaved};
 ghost use Rattle.script_program.specs.Script.{Script};
 ghost use Rattle.script_loading.specs.Accepted.{Accepted, Refused};
 ghost use Rattle.script_loading.specs.Loads.{AllHaveRows};
-ghost use Rattle.script_loading.specs.Ready.{IsReady};
 
 use csv_rows::rows_law;
 
@@ -35,9 +34,3 @@ pub fn inputs_law()
 {
     rows_law();
 }
-
-/// What an accepted script is ready for, that is one in which some collections are kept too.
-pub fn ready_law()
-    ensures { (script : Script) (found : List ℕ) →
-        IsReady script → IsReady (with_saved found script) }
-{}

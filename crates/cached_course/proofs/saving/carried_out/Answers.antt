@@ -8,8 +8,10 @@ use Rattle.cached_course.specs.inner.Course.{counted_too}
 use Rattle.cached_course.proofs.CourseLemmas.{was_run}
 use Rattle.cached_course.proofs.saving.carried_out.Goals as goal
 
-pub written_out-requires-clause-count : goal.written_out-requires-clause-count
-written_out-requires-clause-count g c = as_many _ _ _ c.in-Ok.ensures.ran.written
+pub written_out-requires : goal.written_out-requires
+written_out-requires g c = record {
+  count = as_many _ _ _ c.in-Ok.ensures.ran.written;
+}
 
 pub returns-in-Ok-clause-ran : goal.returns-in-Ok-clause-ran
 returns-in-Ok-clause-ran g c =

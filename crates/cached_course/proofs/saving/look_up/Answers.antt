@@ -1,8 +1,5 @@
 use Rattle.std.proofs.Common.{◌∙◌, List, refl, subst, sym}
 use Rattle.kept_results.specs.Keyed.{keyed_nodes}
-use Rattle.kept_results.specs.of_script_laws.WellFormed.{IsWellFormed}
-use Rattle.kept_results.proofs.of_script_laws.SavedLemmas.{saved-well}
-use Rattle.run_course.specs.of_script_loading.Ready.{IsReady}
 use Rattle.cached_course.specs.Looked.{not_found}
 use Rattle.cached_course.specs.declared.missing.Missing.{Missing}
 use Rattle.cached_course.specs.inner.Missing.{AreMissing}
@@ -10,13 +7,15 @@ use Rattle.cached_course.proofs.GivenLemmas.{asked_firsts, inputs_given, was_giv
 use Rattle.cached_course.proofs.saving.look_up.Goals as goal
 
 pub taken_for-requires : goal.taken_for-requires
-taken_for-requires g c = c.in_ok-it.ensures.seen.goes.inputs
+taken_for-requires g c =
+    let own = rw c.as_program-held.ensures.is at c.in_ok-it.ensures.seen in
+    own.goes.inputs
 
 pub returns-clause-given : goal.returns-clause-given
 returns-clause-given g c =
     let script = c.args.script.program.script in
     let keyed = keyed_nodes c.args.script.outlines c.args.script.texts c.args.inputs.files script in
-    let own = c.in_ok-it.ensures.seen in
+    let own = rw c.as_program-held.ensures.is at c.in_ok-it.ensures.seen in
     let goes = own.goes in
     let given = c.in_ok-given.ensures in
     was_given script keyed keyed own.looked c.args.inputs.rows (g.C.Cache.seen c.args.cache.now)
@@ -30,24 +29,14 @@ pub returns-clause-inputs : goal.returns-clause-inputs
 returns-clause-inputs g c =
     let script = c.args.script.program.script in
     let keyed = keyed_nodes c.args.script.outlines c.args.script.texts c.args.inputs.files script in
-    let own = c.in_ok-it.ensures.seen in
+    let own = rw c.as_program-held.ensures.is at c.in_ok-it.ensures.seen in
     let given = c.in_ok-given.ensures in
+    let held = c.as_program-held.ensures in
+    let well = rw held.is at held.well_formed in
     inputs_given script keyed own.looked c.args.inputs.rows c.in_ok-it.it.found
     c.in_ok-given.given.program.script c.in_ok-it.it.inputs.items c.in_ok-given.given.lists
     own.goes.found given.program own.goes.inputs given.lists
-    (c.given_law.ensures.inputs script keyed own.looked c.args.inputs.rows c.requires.well_formed
+    (c.given_law.ensures.inputs script keyed own.looked c.args.inputs.rows well
     c.requires.written
     (asked_firsts script c.args.script.outlines c.args.script.texts c.args.inputs.files keyed refl)
     own.was.kept c.requires.inputs)
-
-pub returns-clause-well_formed : goal.returns-clause-well_formed
-returns-clause-well_formed g c =
-    subst IsWellFormed (sym c.in_ok-given.ensures.program)
-    (saved-well c.args.script.program.script c.requires.well_formed
-    c.in_ok-it.it.found.numbers.items)
-
-pub returns-clause-ready : goal.returns-clause-ready
-returns-clause-ready g c =
-    subst IsReady (sym c.in_ok-given.ensures.program)
-    (c.ready_law.ensures c.args.script.program.script c.in_ok-it.it.found.numbers.items
-    c.requires.ready)

@@ -161,7 +161,8 @@ returns-clause-ok g c =
     (are_asked told (g.R.Source.seen c.keyed_script.new.source).files c.args.name.now
     it.program.script it.outlines it.texts c.as_slice-texts.result.now inputs.files
     c.in_ok-script.ensures.files c.as_slice-texts.ensures c.in_ok-script.ensures.ok
-    c.in_ok-inputs.ensures.loaded c.texts_short.ensures c.names_short.ensures)
+    c.in_ok-inputs.ensures.loaded c.texts_short.ensures
+    (rw c.as_program-held.ensures.is at c.names_short.ensures))
     inputs.rows
     (subst (λ (t : Option (List File)). AllHaveRows t (inputs_of it.program.script) inputs.rows)
     c.in_ok-script.ensures.files c.in_ok-inputs.ensures.ok)
@@ -185,7 +186,8 @@ returns-clause-err g c =
     (are_asked told (g.R.Source.seen c.keyed_script.new.source).files c.args.name.now
     it.program.script it.outlines it.texts c.as_slice-texts.result.now inputs.files
     c.in_ok-script.ensures.files c.as_slice-texts.ensures c.in_ok-script.ensures.ok
-    c.in_ok-inputs.ensures.loaded c.texts_short.ensures c.names_short.ensures)
+    c.in_ok-inputs.ensures.loaded c.texts_short.ensures
+    (rw c.as_program-held.ensures.is at c.names_short.ensures))
     inputs.rows
     (subst (λ (t : Option (List File)). AllHaveRows t (inputs_of it.program.script) inputs.rows)
     c.in_ok-script.ensures.files c.in_ok-inputs.ensures.ok)
@@ -232,7 +234,8 @@ returns-clause-asked_hosts g c =
           (g.R.Source.seen c.keyed_script.new.source).files c.args.name.now it.program.script
           it.outlines it.texts c.as_slice-texts.result.now inputs.files
           c.in_ok-script.ensures.files c.as_slice-texts.ensures c.in_ok-script.ensures.ok
-          c.in_ok-inputs.ensures.loaded c.texts_short.ensures c.names_short.ensures)
+          c.in_ok-inputs.ensures.loaded c.texts_short.ensures
+          (rw c.as_program-held.ensures.is at c.names_short.ensures))
           inputs.rows
           (subst
           (λ (t : Option (List File)). AllHaveRows t (inputs_of it.program.script) inputs.rows)

@@ -15,9 +15,10 @@ trapped-requires g c =
     let news : List Account
     = lent s (map g.H.Host.account c.ran_on.new.hosts) in
     record {
-      within = within s script c.args.lists c.args.plan.now olds news c.in-Err-Trap.trap
+      within = rw c.as_program-held.ensures.is
+          (within s script c.args.lists c.args.plan.now olds news c.in-Err-Trap.trap
           (subst
           (λ (f : RunFault).
           IsRunFault s script c.args.lists c.args.plan.now olds news f)
-          c.in-Err-Trap.field-0-is c.in-Err-Trap.ensures.fault);
+          c.in-Err-Trap.field-0-is c.in-Err-Trap.ensures.fault));
     }

@@ -4,11 +4,6 @@ use Rattle.crew.proofs.Accounts.{all_grew_not}
 use Rattle.run_course.proofs.of_build_law.SourceLists.{as_many_inputs}
 use Rattle.cached_course.proofs.saving.run_given.Goals as goal
 
-pub plan_shown-requires-clause-graph : goal.plan_shown-requires-clause-graph
-plan_shown-requires-clause-graph g c =
-    c.graph_law.ensures.well_formed c.args.given.program.script c.requires.well_formed
-    c.requires.ready.short
-
 pub returns-in_err-shown-clause-grew : goal.returns-in_err-shown-clause-grew
 returns-in_err-shown-clause-grew g c =
     all_grew_not (map g.H.Host.account c.args.hosts.now)

@@ -6,9 +6,10 @@ use Rattle.cached_course.proofs.saving.taken_for.Goals as goal
 
 pub given_lists-requires : goal.given_lists-requires
 given_lists-requires c =
-    inputs_below c.args.program.script c.with_saved-later.result.script
+    rw c.as_program-held.ensures.is
+    (inputs_below c.args.program.script c.with_saved-later.result.script
     c.as_slice-asked.result.now c.as_slice-kept.result.now
-    (c.as_slice-asked.ensures.value ∙ c.requires) c.with_saved-later.ensures.script
+    (c.as_slice-asked.ensures.value ∙ c.requires) c.with_saved-later.ensures.script)
 
 pub returns-clause-program : goal.returns-clause-program
 returns-clause-program c =
@@ -17,7 +18,7 @@ returns-clause-program c =
 
 pub returns-clause-lists : goal.returns-clause-lists
 returns-clause-lists c =
-    c.in_ok-lists.ensures
+    (rw c.as_program-held.ensures.is at c.in_ok-lists.ensures)
     ∙ ap
     (λ (l : List ℕ). given_lists c.with_saved-later.result.script l c.args.rows
     c.args.it.found.members.items)

@@ -12,12 +12,14 @@ use Rattle.cached_course.proofs.saving.written_out.Goals as goal
 
 pub entries_of-requires : goal.entries_of-requires
 entries_of-requires c = record {
-  count = ap length c.as_slice-members.ensures.value ∙ c.requires.count;
+  count = rw c.as_program-held.ensures.is
+      (ap length c.as_slice-members.ensures.value ∙ c.requires.count);
 }
 
-pub output_files-requires-clause-count : goal.output_files-requires-clause-count
-output_files-requires-clause-count c =
-    ap length c.as_slice-members.ensures.value ∙ c.requires.count
+pub output_files-requires : goal.output_files-requires
+output_files-requires c = record {
+  count = ap length c.as_slice-members.ensures.value ∙ c.requires.count;
+}
 
 pub returns-clause-files : goal.returns-clause-files
 returns-clause-files c =
@@ -26,22 +28,25 @@ returns-clause-files c =
 
 pub returns-clause-text : goal.returns-clause-text
 returns-clause-text c =
-    let known = c.as_slice-told.ensures.value ∙ c.in_ok-all.ensures in
+    let all = rw c.as_program-held.ensures.is at c.in_ok-all.ensures in
+    let known = c.as_slice-told.ensures.value ∙ all in
     c.in_ok-screen.ensures
     ∙ (λ i. c.args.front.items
     ++ (size_lines (sizes_told (known i) c.args.needed.now) ++ codes "done\n"))
 
 pub returns-clause-kept : goal.returns-clause-kept
 returns-clause-kept c =
-    let known = c.as_slice-told.ensures.value ∙ c.in_ok-all.ensures in
-    c.in_ok-kept.ensures.entries
+    let all = rw c.as_program-held.ensures.is at c.in_ok-all.ensures in
+    let known = c.as_slice-told.ensures.value ∙ all in
+    (rw c.as_program-held.ensures.is at c.in_ok-kept.ensures.entries)
     ∙ (λ i. map (entry_of c.args.program.now.script (known i) (c.as_slice-members.ensures.value i))
     c.args.missing.items)
 
 pub returns-clause-held : goal.returns-clause-held
 returns-clause-held c =
     let script = c.args.program.now.script in
-    let known = c.as_slice-told.ensures.value ∙ c.in_ok-all.ensures in
+    let all = rw c.as_program-held.ensures.is at c.in_ok-all.ensures in
+    let known = c.as_slice-told.ensures.value ∙ all in
     subst
     (λ (written : List (List Value)). AllByRecursion (λ (it : Missing). IsHeld (kept_value script
     (counted_too script c.args.known.items c.args.ran.now.sizes.items) written it))
@@ -50,4 +55,4 @@ returns-clause-held c =
     (subst
     (λ (all : List (ℕ × ℕ)). AllByRecursion (λ (it : Missing). IsHeld (kept_value script all
     c.as_slice-members.result.now it)) c.args.missing.items)
-    known c.in_ok-kept.ensures.held)
+    known (rw c.as_program-held.ensures.is at c.in_ok-kept.ensures.held))

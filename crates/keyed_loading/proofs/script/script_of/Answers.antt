@@ -10,7 +10,8 @@ use Rattle.keyed_loading.proofs.script.script_of.Goals as goal
 pub returns-clause-keyed : goal.returns-clause-keyed
 returns-clause-keyed c =
     let accepts = c.in_ok-ast.ensures.accepted in
-    record {
+    rw c.new.ensures
+    (record {
       ast = c.in_ok-ast.ast;
       list = accepts.0;
       cut = accepts.1;
@@ -18,7 +19,7 @@ returns-clause-keyed c =
       checked = c.in_ok-program.ensures;
       outlined = c.in_ok-outlines.ensures ∙ ap outlines_of c.as_slice.ensures;
       texted = c.in_ok-texts.ensures accepts.0 accepts.1;
-    }
+    })
 
 pub returns-clause-many : goal.returns-clause-many
 returns-clause-many c =
@@ -30,15 +31,16 @@ returns-clause-many c =
     (ap length (c.in_ok-outlines.ensures ∙ ap outlines_of c.as_slice.ensures)
     ∙ length-map statements (λ (statement : Statement). outline_of statement.form))
 
-pub returns-clause-well_formed : goal.returns-clause-well_formed
-returns-clause-well_formed c =
+pub new-requires-clause-well_formed : goal.new-requires-clause-well_formed
+new-requires-clause-well_formed c =
     well-formed c.in_ok-ast.ast.statements c.in_ok-program.program.script c.in_ok-program.ensures
 
 pub returns-clause-written : goal.returns-clause-written
 returns-clause-written c =
-    unsaved c.in_ok-ast.ast.statements c.in_ok-program.program.script c.in_ok-program.ensures
+    rw c.new.ensures
+    (unsaved c.in_ok-ast.ast.statements c.in_ok-program.program.script c.in_ok-program.ensures)
 
-pub returns-clause-ready : goal.returns-clause-ready
-returns-clause-ready c =
+pub new-requires-clause-ready : goal.new-requires-clause-ready
+new-requires-clause-ready c =
     checked_ready (λ program. program.script) c.args.bytes.now c.in_ok-ast.ast
     (Ok c.in_ok-program.program) c.in_ok-ast.ensures.accepted c.in_ok-program.ensures

@@ -5,9 +5,11 @@ use Rattle.script_program.specs.Script.{Script}
 use Rattle.made_course.proofs.Written.{both_files, sums_file}
 use Rattle.made_course.proofs.course.written_out.Goals as goal
 
-pub file_of-requires-clause-within : goal.file_of-requires-clause-within
-file_of-requires-clause-within c =
-    subst (λ (script : Script). 0 < length script.outputs) (sym c.requires.script) (omega arith)
+pub file_of-requires : goal.file_of-requires
+file_of-requires c = record {
+  within = subst (λ (script : Script). 0 < length script.outputs) (sym c.requires.script)
+      (omega arith);
+}
 
 pub returns-clause-files : goal.returns-clause-files
 returns-clause-files c =

@@ -1,13 +1,12 @@
+use Rattle.std.proofs.Common.{subst, sym}
 use Rattle.made_rows.specs.of_script_laws.WellFormed.{IsWellFormed}
 use Rattle.run_course.specs.of_script_loading.Ready.{IsReady}
-use Rattle.made_course.proofs.Ready.{kept, ready}
+use Rattle.made_course.proofs.Ready.{ready}
 use Rattle.made_course.proofs.summing.sums_ready.Goals as goal
 
-pub returns-clause-well_formed : goal.returns-clause-well_formed
-returns-clause-well_formed c =
-    kept (λ program. program.script) IsWellFormed c.sums_program.result
-    c.sums_law.ensures.well_formed c.sums_program.ensures
+pub new-requires-clause-well_formed : goal.new-requires-clause-well_formed
+new-requires-clause-well_formed c =
+    subst IsWellFormed (sym c.in_ok-program.ensures) c.sums_law.ensures.well_formed
 
-pub returns-clause-ready : goal.returns-clause-ready
-returns-clause-ready c =
-    kept (λ program. program.script) IsReady c.sums_program.result ready c.sums_program.ensures
+pub new-requires-clause-ready : goal.new-requires-clause-ready
+new-requires-clause-ready c = subst IsReady (sym c.in_ok-program.ensures) ready

@@ -7,7 +7,6 @@ use Rattle.outside.specs.declared.file.File.{File}
 use Rattle.run_course.specs.Written.{Writes}
 use Rattle.script_loading.specs.Causes.{IsScriptCause}
 use Rattle.crew.proofs.Accounts.{all_grew_not}
-use Rattle.run_course.proofs.GraphLemmas.{accepted_graph}
 use Rattle.outside.specs.Asked.{Asks}
 use Rattle.outside.proofs.AskLemmas.{asks_none}
 use Rattle.run_course.proofs.AskLemmas.{command_for, script_for}
@@ -54,11 +53,6 @@ returns-clause-err g c =
     (sym c.in_ok-asked.ensures ∙ ap (option_map asked_in) c.in-Some.is, c.in_ok-program.ensures.ok)
     c.in_ok-program.ensures.files c.in_ok-program.ensures.later why stops)
     c.carried_out.ensures.stop
-
-pub carried_out-requires-clause-graph : goal.carried_out-requires-clause-graph
-carried_out-requires-clause-graph g c = λ κs within.
-    let loaded = c.in_ok-program.ensures.ok in
-    accepted_graph loaded.0 c.in_ok-program.program.script loaded.2
 
 pub returns-in_err-asked-clause-grew : goal.returns-in_err-asked-clause-grew
 returns-in_err-asked-clause-grew g c =

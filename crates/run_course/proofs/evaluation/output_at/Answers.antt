@@ -18,7 +18,7 @@ returns c =
     = sym c.members_at.ensures ∙ ap (option_map (λ b. b.now)) c.in-Some.is in
     IfOk-weaker c.file_of.result _ _ (λ file is.
     file_of_bag c.args.bags.now outputs c.args.number c.output.result.now bag (output_file file)
-    c.output.ensures held
+    (rw c.as_program-held.ensures.is at c.output.ensures) held
     (subst (λ (l : List Value). (output : NamedOutput)
     → slice_get outputs c.args.number ≡ Some output → output_file file ≡ file_with output l)
     c.as_slice.ensures is)) c.file_of.ensures

@@ -9,15 +9,17 @@ pub trapped-requires : goal.trapped-requires
 trapped-requires c =
     let first : slice_get c.in_ok-bags.field-0.traps.items 0 ≡ Some c.in-Some.trap = cc in
     record {
-      within = within c.args.program.now.script c.args.inputs c.in_ok-bags.field-0
+      within = within c.as_program-held.result.now.script c.args.inputs c.in_ok-bags.field-0
           c.in_ok-bags.ensures c.in-Some.trap first;
     }
 
 pub returns-in-Some-clause-stop : goal.returns-in-Some-clause-stop
 returns-in-Some-clause-stop c =
     let first : slice_get c.in_ok-bags.field-0.traps.items 0 ≡ Some c.in-Some.trap = cc in
-    stops c.args.program.now.script c.args.inputs c.in_ok-bags.field-0 c.in_ok-bags.ensures
-    c.in-Some.trap c.in_ok-trapped-in-Some.field-0 first c.in_ok-trapped-in-Some.ensures
+    let held = c.as_program-held in
+    rw (← held.ensures.is)
+    (stops held.result.now.script c.args.inputs c.in_ok-bags.field-0 c.in_ok-bags.ensures
+    c.in-Some.trap c.in_ok-trapped-in-Some.field-0 first c.in_ok-trapped-in-Some.ensures)
 
 pub returns-clause-written :
     goal.returns-clause-written
@@ -28,7 +30,8 @@ returns-clause-written c =
     let none : slice_get c.in_ok-bags.field-0.traps.items 0 ≡ None = cc in
     let bags : c.deref.result.now ≡ c.in_ok-bags.field-0.bags.items = cc in
     let sizes : c.deref-in-None.result.now ≡ c.in_ok-bags.field-0.sizes.items = cc in
-    gives c.args.program.now.script c.args.inputs it c.in_ok-bags.ensures out.screen.items
+    gives c.args.program.now.script c.args.inputs it
+    (rw c.as_program-held.ensures.is at c.in_ok-bags.ensures) out.screen.items
     files none
     (subst (λ l. AreFiles l c.args.program.now.script.outputs files) bags
     c.in_ok-write_out-in-None.ensures.files)

@@ -7,4 +7,5 @@ pub unreachable-requires : goal.unreachable-requires
 unreachable-requires c =
     c.in_default.ensures.cases.0
     (subst IsUtf8 (sym c.as_bytes.ensures)
-    (name_ready c.args.program.now.script c.args.number _ c.requires.ready c.output_file.ensures))
+    (name_ready c.as_program-held.result.now.script c.args.number _
+    c.as_program-held.ensures.ready c.output_file.ensures))

@@ -1,4 +1,4 @@
-use Rattle.std.proofs.Common.{◌≡◌, ◌<◌, Some, length, map, ap, sym, ◌∙◌, rules, slice_get, subst, ℕ}
+use Rattle.std.proofs.Common.{◌≡◌, ◌<◌, Some, length, map, ap, sym, ◌∙◌, slice_get, subst, ℕ}
 use Rattle.std.proofs.lemmas.List.{map-append}
 use Rattle.std.proofs.lemmas.Option.{slice_get-get_or}
 use Rattle.outside.specs.Saves.{output_file}
@@ -10,7 +10,9 @@ loop-number-preserved c =
     let outputs = c.args.program.now.script.outputs in
     let members = c.args.members.now in
     let number = c.loop-number.number in
-    let within : number < length outputs = search rules in
+    let within : number < length outputs
+    = rw (c.output_count-number-end.ensures, c.as_program-held.ensures.is)
+    at c.loop-number-test.true in
     let own = c.index-members-number.result in
     let found : slice_get members number ≡ Some c.as_slice.result.now
     = slice_get-get_or members number own

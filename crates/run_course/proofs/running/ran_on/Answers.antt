@@ -25,7 +25,8 @@ pub returns-clause-fault : goal.returns-clause-fault
 returns-clause-fault g c =
     let f : g.row.H.Denot → Account = g.H.Host.account in
     let s = c.args.settings.now in
-    let script = c.args.program.now.script in
+    let held = c.as_program-held in
+    let script = held.result.now.script in
     let r = c.run_script.result in
     let cut = c.split_at_mut-lent in
     let first = c.run_script.new.hosts in
@@ -38,7 +39,8 @@ returns-clause-fault g c =
     = ap (λ l. lent s (map f l)) cut.ensures.value
     ∙ front_map f s.workers cut.result.0.now cut.result.1.now long in
     let news = front_map f s.workers first cut.result.1.now size in
-    subst
+    rw (← held.ensures.is)
+    (subst
     (λ (l : List Account). IfErr r
     (IsRunFault s script c.args.inputs c.args.plan.now l
     (lent s (map f (first ++ cut.result.1.now)))))
@@ -46,4 +48,4 @@ returns-clause-fault g c =
     (subst
     (λ (l : List Account). IfErr r
     (IsRunFault s script c.args.inputs c.args.plan.now (map f cut.result.0.now) l))
-    (sym news) c.run_script.ensures.fault)
+    (sym news) c.run_script.ensures.fault))

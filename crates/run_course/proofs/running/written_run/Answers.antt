@@ -7,8 +7,10 @@ use Rattle.run_course.specs.Lent.{lent}
 use Rattle.run_course.proofs.RunLemmas.{as_many, given, within}
 use Rattle.run_course.proofs.running.written_run.Goals as goal
 
-pub write_out-requires-clause-count : goal.write_out-requires-clause-count
-write_out-requires-clause-count g c = as_many _ _ _ c.in-Ok.ensures.ran.written
+pub write_out-requires : goal.write_out-requires
+write_out-requires g c = record {
+  count = as_many _ _ _ c.in-Ok.ensures.ran.written;
+}
 
 pub returns-in-Ok-clause-written : goal.returns-in-Ok-clause-written
 returns-in-Ok-clause-written g c =
@@ -29,7 +31,8 @@ trapped-requires g c =
     let news : List Account
     = lent s (map g.H.Host.account c.ran_on.new.hosts) in
     record {
-      within = within s script c.args.inputs c.args.shown.plan olds news c.in-Err-Trap.trap
+      within = rw c.as_program-held.ensures.is
+          (within s script c.args.inputs c.args.shown.plan olds news c.in-Err-Trap.trap
           (subst (λ (f : RunFault). IsRunFault s script c.args.inputs c.args.shown.plan olds news f)
-          c.in-Err-Trap.field-0-is c.in-Err-Trap.ensures.fault);
+          c.in-Err-Trap.field-0-is c.in-Err-Trap.ensures.fault));
     }

@@ -3,11 +3,13 @@ use Rattle.run_course.proofs.showing.plan_shown.Goals as goal
 
 pub returns-clause-of_script : goal.returns-clause-of_script
 returns-clause-of_script c =
-    let script = c.args.program.now.script in
-    record {
+    let held = c.as_program-held in
+    let script = held.result.now.script in
+    rw (← held.ensures.is)
+    (record {
       well_formed = c.in_ok-plan.ensures.well_formed;
       typed = c.in_ok-plan.ensures.types (signatures_of script)
-          (c.types_law.ensures.well_formed script c.requires.well_formed);
+          (c.types_law.ensures.well_formed script held.ensures.well_formed);
       same = c.in_ok-plan.ensures.same;
       sources = c.in_ok-plan.ensures.sources;
-    }
+    })

@@ -1,23 +1,35 @@
 use Rattle.std.proofs.Common.{subst, sym}
 use Rattle.script_loading.specs.of_build_law.Signatures.{signatures_of}
+use Rattle.outer_plans.specs.Plans.{IsTaken}
 use Rattle.run_texts.specs.declared.status.Status.{Status}
+use Rattle.script_program.specs.Program.{Numbered}
 use Rattle.run_course.specs.inner.Course.{IsTakingStop}
 use Rattle.run_course.proofs.PlanLemmas.{taking_stop}
 use Rattle.run_course.proofs.showing.plan_taken.Goals as goal
 
+pub returns-in-Ok-clause-taken : goal.returns-in-Ok-clause-taken
+returns-in-Ok-clause-taken c =
+    subst (λ (p : Numbered). IsTaken p.script c.args.bytes.now c.in-Ok.plan)
+    c.as_program-held.ensures.is c.in-Ok.ensures.answer
+
 pub returns-in-Ok-clause-of_script : goal.returns-in-Ok-clause-of_script
 returns-in-Ok-clause-of_script c =
-    let script = c.args.program.now.script in
-    record {
+    let held = c.as_program-held in
+    let script = held.result.now.script in
+    rw (← held.ensures.is)
+    (record {
       well_formed = c.in-Ok.ensures.well_formed;
       typed = c.in-Ok.ensures.types (signatures_of script)
-          (c.types_law.ensures.well_formed script c.requires.well_formed);
+          (c.types_law.ensures.well_formed script held.ensures.well_formed);
       same = c.in-Ok.ensures.same;
       sources = c.in-Ok.ensures.sources;
-    }
+    })
 
 pub returns-in-Err-clause-stop : goal.returns-in-Err-clause-stop
 returns-in-Err-clause-stop c =
-    let script = c.args.program.now.script in
-    subst (λ (s : Status). IsTakingStop script c.args.bytes.now s) (sym c.refusal.ensures)
-    (taking_stop script c.args.bytes.now c.in-Err.fault c.in-Err.ensures.answer)
+    let held = c.as_program-held in
+    let script = held.result.now.script in
+    subst (λ (p : Numbered). IsTakingStop p.script c.args.bytes.now c.refusal.result)
+    held.ensures.is
+    (subst (λ (s : Status). IsTakingStop script c.args.bytes.now s) (sym c.refusal.ensures)
+    (taking_stop script c.args.bytes.now c.in-Err.fault c.in-Err.ensures.answer))

@@ -1,4 +1,4 @@
-use Rattle.std.proofs.Common.{◌≡◌, true, false, Some, ap, sym, ◌∙◌, refl, rules, arith}
+use Rattle.std.proofs.Common.{◌≡◌, true, false, Some, ap, sym, ◌∙◌, refl, arith}
 use Rattle.std.proofs.lemmas.Result.{err_from_is_err_and}
 use Rattle.script_program.specs.Needed.{is_needed}
 use Rattle.run_texts.specs.declared.status.Status.TheVariants.{WantOfMemory}
@@ -9,7 +9,8 @@ use Rattle.script_loading.proofs.inputs.add_rows.Goals as goal
 pub returns-then-not-is_needed-clause-read : goal.returns-then-not-is_needed-clause-read
 returns-then-not-is_needed-clause-read g c =
     let script = c.args.program.now.script in
-    let unneeded : is_needed script c.args.number ≡ false = search rules in
+    let told = rw c.as_program-held.ensures.is at c.is_needed.ensures in
+    let unneeded : is_needed script c.args.number ≡ false = sym told ∙ c.if-not-is_needed.true in
     let at = there script.nodes c.args.number c.requires.within in
     behind_unneeded (g.R.Source.seen c.args.source.now).files script c.args.number c.args.rows.now
     at.0 at.1 unneeded c.requires.read
@@ -17,7 +18,8 @@ returns-then-not-is_needed-clause-read g c =
 pub returns-then-not-is_needed-clause-asked : goal.returns-then-not-is_needed-clause-asked
 returns-then-not-is_needed-clause-asked g c =
     let script = c.args.program.now.script in
-    let unneeded : is_needed script c.args.number ≡ false = search rules in
+    let told = rw c.as_program-held.ensures.is at c.is_needed.ensures in
+    let unneeded : is_needed script c.args.number ≡ false = sym told ∙ c.if-not-is_needed.true in
     asks_unneeded c.args.tries script c.args.number (g.R.Source.seen c.args.source.now) unneeded
 
 pub rows_of_file-requires-clause-named : goal.rows_of_file-requires-clause-named
@@ -25,17 +27,24 @@ rows_of_file-requires-clause-named g c κs within =
     let script = c.args.program.now.script in
     let file = c.in-Input.file in
     let columns = c.in-Input.columns in
-    let at = input_at script c.args.number _ file columns c.node.ensures.is c.in-Input.is in
-    its_file script c.args.number file columns at c.requires.ready
+    let is = rw c.as_program-held.ensures.is at c.node.ensures.is in
+    let at = input_at script c.args.number _ file columns is c.in-Input.is in
+    let held = c.as_program-held.ensures in
+    let ready = rw held.is at held.ready in
+    its_file script c.args.number file columns at ready
 
 pub returns-in_err-own-in-Input-clause-err : goal.returns-in_err-own-in-Input-clause-err
 returns-in_err-own-in-Input-clause-err g c =
     let script = c.args.program.now.script in
-    let needed : is_needed script c.args.number ≡ true = search rules in
+    let told = rw c.as_program-held.ensures.is at c.is_needed.ensures in
+    let needed : is_needed script c.args.number ≡ true = sym told ∙ c.if-not-is_needed.false in
     let file = c.in-Input.file in
     let columns = c.in-Input.columns in
-    let at = input_at script c.args.number _ file columns c.node.ensures.is c.in-Input.is in
-    let fits = its_columns script c.args.number file columns at c.requires.well_formed
+    let is = rw c.as_program-held.ensures.is at c.node.ensures.is in
+    let at = input_at script c.args.number _ file columns is c.in-Input.is in
+    let held = c.as_program-held.ensures in
+    let well = rw held.is at held.well_formed in
+    let fits = its_columns script c.args.number file columns at well
     ∙ ap Some (sym c.as_slice.ensures) in
     let end = c.from_residual in
     let p = err_from_is_err_and end.result end.ensures.1 in
@@ -49,10 +58,12 @@ returns-in_err-own-in-Input-clause-err g c =
 pub returns-in_err-own-in-Input-clause-asked : goal.returns-in_err-own-in-Input-clause-asked
 returns-in_err-own-in-Input-clause-asked g c =
     let script = c.args.program.now.script in
-    let needed : is_needed script c.args.number ≡ true = search rules in
+    let told = rw c.as_program-held.ensures.is at c.is_needed.ensures in
+    let needed : is_needed script c.args.number ≡ true = sym told ∙ c.if-not-is_needed.false in
     let file = c.in-Input.file in
     let columns = c.in-Input.columns in
-    let at = input_at script c.args.number _ file columns c.node.ensures.is c.in-Input.is in
+    let is = rw c.as_program-held.ensures.is at c.node.ensures.is in
+    let at = input_at script c.args.number _ file columns is c.in-Input.is in
     asks_input c.args.tries script c.args.number (g.R.Source.seen c.args.source.now)
     (g.R.Source.seen c.rows_of_file.new.source) at.entry
     (its_wanted script c.args.number file columns at) at.found needed
@@ -61,10 +72,12 @@ returns-in_err-own-in-Input-clause-asked g c =
 pub returns-in-Ok-clause-asked : goal.returns-in-Ok-clause-asked
 returns-in-Ok-clause-asked g c =
     let script = c.args.program.now.script in
-    let needed : is_needed script c.args.number ≡ true = search rules in
+    let told = rw c.as_program-held.ensures.is at c.is_needed.ensures in
+    let needed : is_needed script c.args.number ≡ true = sym told ∙ c.if-not-is_needed.false in
     let file = c.in-Input.file in
     let columns = c.in-Input.columns in
-    let at = input_at script c.args.number _ file columns c.node.ensures.is c.in-Input.is in
+    let is = rw c.as_program-held.ensures.is at c.node.ensures.is in
+    let at = input_at script c.args.number _ file columns is c.in-Input.is in
     asks_input c.args.tries script c.args.number (g.R.Source.seen c.args.source.now)
     (g.R.Source.seen c.rows_of_file.new.source) at.entry
     (its_wanted script c.args.number file columns at) at.found needed
@@ -73,10 +86,12 @@ returns-in-Ok-clause-asked g c =
 pub returns-in-Err-clause-asked : goal.returns-in-Err-clause-asked
 returns-in-Err-clause-asked g c =
     let script = c.args.program.now.script in
-    let needed : is_needed script c.args.number ≡ true = search rules in
+    let told = rw c.as_program-held.ensures.is at c.is_needed.ensures in
+    let needed : is_needed script c.args.number ≡ true = sym told ∙ c.if-not-is_needed.false in
     let file = c.in-Input.file in
     let columns = c.in-Input.columns in
-    let at = input_at script c.args.number _ file columns c.node.ensures.is c.in-Input.is in
+    let is = rw c.as_program-held.ensures.is at c.node.ensures.is in
+    let at = input_at script c.args.number _ file columns is c.in-Input.is in
     asks_input c.args.tries script c.args.number (g.R.Source.seen c.args.source.now)
     (g.R.Source.seen c.rows_of_file.new.source) at.entry
     (its_wanted script c.args.number file columns at) at.found needed
@@ -85,11 +100,15 @@ returns-in-Err-clause-asked g c =
 pub returns-in-Ok-clause-read : goal.returns-in-Ok-clause-read
 returns-in-Ok-clause-read g c =
     let script = c.args.program.now.script in
-    let needed : is_needed script c.args.number ≡ true = search rules in
+    let told = rw c.as_program-held.ensures.is at c.is_needed.ensures in
+    let needed : is_needed script c.args.number ≡ true = sym told ∙ c.if-not-is_needed.false in
     let file = c.in-Input.file in
     let columns = c.in-Input.columns in
-    let at = input_at script c.args.number _ file columns c.node.ensures.is c.in-Input.is in
-    let fits = its_columns script c.args.number file columns at c.requires.well_formed
+    let is = rw c.as_program-held.ensures.is at c.node.ensures.is in
+    let at = input_at script c.args.number _ file columns is c.in-Input.is in
+    let held = c.as_program-held.ensures in
+    let well = rw held.is at held.well_formed in
+    let fits = its_columns script c.args.number file columns at well
     ∙ ap Some (sym c.as_slice.ensures) in
     behind_input (g.R.Source.seen c.args.source.now).files script c.args.number c.args.rows.now
     c.push.new.self at.entry (its_wanted script c.args.number file columns at)
@@ -100,10 +119,12 @@ returns-in-Ok-clause-read g c =
 pub returns-in-Err-clause-err : goal.returns-in-Err-clause-err
 returns-in-Err-clause-err g c =
     let script = c.args.program.now.script in
-    let needed : is_needed script c.args.number ≡ true = search rules in
+    let told = rw c.as_program-held.ensures.is at c.is_needed.ensures in
+    let needed : is_needed script c.args.number ≡ true = sym told ∙ c.if-not-is_needed.false in
     let file = c.in-Input.file in
     let columns = c.in-Input.columns in
-    let at = input_at script c.args.number _ file columns c.node.ensures.is c.in-Input.is in
+    let is = rw c.as_program-held.ensures.is at c.node.ensures.is in
+    let at = input_at script c.args.number _ file columns is c.in-Input.is in
     stops_at c.args.tries (g.R.Source.seen c.args.source.now)
     (g.R.Source.seen c.rows_of_file.new.source) script c.args.number
     c.args.rows.now at.entry (its_wanted script c.args.number file columns at) WantOfMemory at.found
@@ -112,8 +133,10 @@ returns-in-Err-clause-err g c =
 pub returns-in_default : goal.returns-in_default
 returns-in_default g c =
     let script = c.args.program.now.script in
-    let needed : is_needed script c.args.number ≡ true = search rules in
-    let at = at_place script.nodes c.args.number _ c.node.ensures.is in
+    let told = rw c.as_program-held.ensures.is at c.is_needed.ensures in
+    let needed : is_needed script c.args.number ≡ true = sym told ∙ c.if-not-is_needed.false in
+    let is = rw c.as_program-held.ensures.is at c.node.ensures.is in
+    let at = at_place script.nodes c.args.number _ is in
     let other = other_wants at.0 _ at.2 c.in_default.not-Input in
     let read = behind_other (g.R.Source.seen c.args.source.now).files script c.args.number
     c.args.rows.now at.0 at.1 needed other c.requires.read in

@@ -23,7 +23,8 @@ returns-in_err-add_rows-clause-asked_front g c =
     let before = g.R.Source.seen c.args.source.now in
     let middle = g.R.Source.seen c.loop-number.source in
     let after = g.R.Source.seen c.add_rows.new.source in
-    let within = rw c.node_count-number-end.ensures at c.loop-number-test.true in
+    let many = rw c.as_program-held.ensures.is at c.node_count-number-end.ensures in
+    let within = rw many at c.loop-number-test.true in
     let p = err_from_is_err_and c.from_residual.result c.from_residual.ensures.1 in
     rw p.1
     (front_asked c.args.tries script (c.loop-number.number + 1) before after
@@ -36,7 +37,8 @@ loop-number-preserved g c =
     let before = g.R.Source.seen c.args.source.now in
     let middle = g.R.Source.seen c.loop-number.source in
     let after = g.R.Source.seen c.add_rows.new.source in
-    let within = rw c.node_count-number-end.ensures at c.loop-number-test.true in (
+    let many = rw c.as_program-held.ensures.is at c.node_count-number-end.ensures in
+    let within = rw many at c.loop-number-test.true in (
       c.in_ok-add_rows.ensures.files ∙ c.loop-number.invariant.0,
       omega (arith, c.in_ok-add_rows.ensures.later, c.loop-number.invariant.1),
       rw c.loop-number.invariant.0 at c.in_ok-add_rows.ensures.read,
@@ -49,11 +51,12 @@ returns-clause-typed g c =
     let script = c.args.program.now.script in
     let told = (g.R.Source.seen c.args.source.now).files in
     let rows = c.loop-number.rows in
+    let many = rw c.as_program-held.ensures.is at c.node_count-number-end.ensures in
     let end : c.loop-number.number ≡ length script.nodes = omega (
       arith,
       c.loop-number-test.false,
       c.loop-number.auto.number-end,
-      c.node_count-number-end.ensures,
+      many,
     ) in
     c.inputs_law.ensures.inputs told script rows c.requires.written
     (all_read told script rows
