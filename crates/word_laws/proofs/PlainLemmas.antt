@@ -1,4 +1,4 @@
--- Words without a cache for the run that words of a cached run ask for: the options that these have.
+-- Words without a cache for the run that words of a cached run ask for: the options of these.
 use Rattle.std.proofs.Common.{◌≡◌, ◌≢◌, ◌∙◌, ◌++◌, Bool, ℕ, zero, suc, true, false, List, [], ◌∷◌, Option, Some, None, refl, sym, ap, subst, arith, codes, true≢false}
 use Rattle.std.specs.Prelude.{All, if◌then◌else◌, option_and_then}
 use Rattle.std.specs.List.{AllPairs, flat_map}
