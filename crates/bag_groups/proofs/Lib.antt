@@ -1,7 +1,6 @@
 pub mod BagParts
 pub mod CombiningLemmas
 pub mod Grouping
-pub mod LastRuns
 pub mod MemberLemmas
 pub mod PairLemmas
 pub mod PairOrder

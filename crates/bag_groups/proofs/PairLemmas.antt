@@ -1,10 +1,12 @@
 -- Pairs and their parts.
-use Rattle.std.proofs.Common.{◌≡◌, List, [], ◌∷◌, map, Option, Some, None, refl, sym, ap, ◌∙◌}
+use Rattle.std.proofs.Common.{◌≡◌, List, [], ◌∷◌, ◌++◌, map, Option, Some, None, refl, sym, ap, ◌∙◌}
 use Rattle.std.specs.Prelude.{IsSome, option_map}
 use Rattle.std.specs.List.{AllByRecursion as Each, cons_option}
+use Rattle.std.proofs.lemmas.List.{map-append}
+use Rattle.std.proofs.lemmas.List.Elements.{filter_map-append}
 use Rattle.flume_value.specs.declared.value.Value.{Value, Value-F, out-Value, roll-Value, roll-out-Value}
 use Rattle.flume_value.specs.declared.value.Value.TheVariants as value
-use Rattle.bag_groups.specs.Pairs.{pair, parts_at, parts_of, IsPair, key_of, pairs_of}
+use Rattle.bag_groups.specs.Pairs.{pair, parts_at, parts_of, IsPair, held_by, key_of, pairs_of, value_of}
 
 abbrev pub Parts : Type 0
 Parts = Value × Value
@@ -44,6 +46,16 @@ parts_by p v (Some parts) is e =
     (parts.0, pair_is p parts is ∙ ap (pair parts.0) same, refl)
 
 -- ---- lists of pairs
+
+pub held-push : (xs : List Value) (p v : Value) → value_of p ≡ Some v
+    → held_by (xs ++ p ∷ []) ≡ held_by xs ++ v ∷ []
+held-push xs p v e =
+    let (k, is, keyed) = parts_by p v (parts_of p) refl e in
+    let only : pairs_of (p ∷ []) ≡ (k, v) ∷ []
+    = ap (λ o. cons_option o []) (ap parts_of is ∙ parts_of-pair k v) in
+    ap (map (λ (q : Parts). q.1)) (filter_map-append parts_of xs (p ∷ [])
+    ∙ ap (λ l. pairs_of xs ++ l) only)
+    ∙ map-append (λ (q : Parts). q.1) (pairs_of xs) ((k, v) ∷ [])
 
 pub pairs_of-packed : (ps : List Parts) → pairs_of (map packed ps) ≡ ps
 pairs_of-packed [] = refl

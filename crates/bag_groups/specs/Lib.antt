@@ -1,5 +1,4 @@
 pub mod Combining
 pub mod Groups
 pub mod Pairs
-pub mod inner
 pub use Rattle.flume_value.specs as of_flume_value

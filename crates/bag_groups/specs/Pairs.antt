@@ -1,5 +1,5 @@
 -- A pair, a member of a table: the record of its key and its value.
-use Rattle.std.specs.Prelude.{List, [], ◌∷◌, Option, Some, None, IsSome, option_map, filter_map}
+use Rattle.std.specs.Prelude.{List, [], ◌∷◌, Option, Some, None, IsSome, map, option_map, filter_map}
 use Rattle.flume_value.specs.declared.value.Value.{Value, Value-F, out-Value}
 use Rattle.flume_value.specs.declared.value.Value.TheVariants as value
 
@@ -28,3 +28,7 @@ value_of p = option_map (λ parts. parts.1) (parts_of p)
 -- the pairs among the values, in order
 abbrev pub pairs_of : List Value → List (Value × Value)
 pairs_of values = filter_map parts_of values
+
+-- the values of the pairs, in order
+abbrev pub held_by : List Value → List Value
+held_by pairs = map (λ parts. parts.1) (pairs_of pairs)

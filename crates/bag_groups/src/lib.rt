@@ -7,16 +7,11 @@
 //!
 //! `combined_each` says what pairs of a key and a list come to where each list is combined, by
 //! a function of bags that may trap; `traps_of_each` names the keys where it traps.
-//!
-//! `group_borrowed` leaves the pairs where they are: it sorts references to them once, by key and
-//! then by value, as the order of pairs is, and copies each value into its list.
 #![tactic(auto)]
 
-mod groups;
 mod laws;
 mod pairs;
 
 pub use flume_value;
-pub use groups::{group, group_borrowed};
 pub use laws::{combining_law, groups_law};
-pub use pairs::{key, pair, value};
+pub use pairs::{into_parts, key, pair, value};

@@ -1,6 +1,6 @@
 // A pair of a key and a value, and its parts.
 ghost use Rattle.std.specs.Prelude.{◌≡◌, Some, IfOk};
-ghost use Rattle.bag_groups.specs.Pairs.{IsPair, key_of, value_of, pair as pair_of};
+ghost use Rattle.bag_groups.specs.Pairs.{IsPair, key_of, parts_of, value_of, pair as pair_of};
 
 use flume_value::{Pile, Value};
 use std::alloc::{AllocError, Global};
@@ -35,4 +35,20 @@ pub fn value(pair: &Value) -> &Value
         Value::Rec(fields) => &fields.as_slice()[1],
         _ => unreachable!(),
     }
+}
+
+/// The key and the value of a pair; no other value has them.
+pub fn into_parts(pair: Value) -> Option<(Value, Value)>
+    ensures { result ≡ parts_of pair }
+{
+    let Value::Rec(fields) = pair else {
+        return None;
+    };
+    if fields.len() != 2 {
+        return None;
+    }
+    let mut fields = fields.into_vec();
+    let value = fields.pop()?;
+    let key = fields.pop()?;
+    Some((key, value))
 }

@@ -14,24 +14,20 @@ use Rattle.flume_value.proofs.EachLemmas.{Each-filter, Each-map}
 use Rattle.bag_groups.specs.Pairs.{pairs_of}
 use Rattle.bag_groups.specs.Groups.{distinct, grouped, keys_of, values_of}
 use Rattle.bag_groups.specs.Combining.{combined_each, combined_pair, trapped_key, traps_of_each}
-use Rattle.bag_groups.proofs.PairLemmas.{Parts, packed, pairs_of-packed}
+use Rattle.bag_groups.proofs.PairLemmas.{Parts}
 use Rattle.combine_table.specs.declared.comb.Comb.TheVariants as by
 use Rattle.combine_table.specs.Contents.{int_or_zero}
 use Rattle.combine_table.specs.Combinations.{combined, int_or_overflow, total, wrapped}
 use Rattle.bag_steps.specs.Counts.{counted, counted_traps}
 use Rattle.bag_steps.proofs.RunLemmas.{times-cons}
 use Rattle.bag_step_laws.specs.Derived.{pair_with_one}
-use Rattle.bag_step_laws.proofs.GroupRows.{combined-grouped, map_map, traps-grouped}
+use Rattle.bag_step_laws.proofs.GroupRows.{combined-grouped, made_parts, traps-grouped}
 
 abbrev one : Value
 one = value.Int (pos 1)
 
 abbrev one_under : Value → Parts
 one_under v = (v, one)
-
-ones-parts : (xs : List Value) → pairs_of (map pair_with_one xs) ≡ map one_under xs
-ones-parts xs =
-    ap pairs_of (sym (map_map packed one_under xs)) ∙ pairs_of-packed (map one_under xs)
 
 keys-ones : (xs : List Value) → map (λ (p : Parts). p.0) (map one_under xs) ≡ xs
 keys-ones [] = refl
@@ -90,8 +86,8 @@ rows-of-ones : {B : Type 0} (H : Value → Result Value Kind → List B) (xs : L
     (keys_of (pairs_of (map pair_with_one xs)))
     ≡ flat_map (λ k. H k (int_or_overflow (wrapped (pos (times xs k))))) (distinct (bag_of xs))
 rows-of-ones H xs =
-    (λ i. flat_map (λ k. H k (combined by.Sum (values_of k (ones-parts xs i))))
-    (keys_of (ones-parts xs i)))
+    (λ i. flat_map (λ k. H k (combined by.Sum (values_of k (made_parts one_under xs i))))
+    (keys_of (made_parts one_under xs i)))
     ∙ (λ i. flat_map (λ k. H k (int_or_overflow (wrapped (total-values k xs i))))
     (distinct (bag_of (keys-ones xs i))))
 

@@ -1,5 +1,5 @@
 -- Groups that are combined, or taken apart, key by key.
-use Rattle.std.proofs.Common.{◌≡◌, List, [], ◌∷◌, ◌++◌, map, Some, refl, ap, ◌∙◌}
+use Rattle.std.proofs.Common.{◌≡◌, List, [], ◌∷◌, ◌++◌, map, Some, refl, sym, ap, ◌∙◌}
 use Rattle.std.specs.Prelude.{filter, option_map}
 use Rattle.std.specs.List.{flat_map, cons_option}
 use Rattle.flume_value.specs.declared.value.Value.{Value}
@@ -12,13 +12,18 @@ use Rattle.bag_groups.specs.Pairs.{pair, pairs_of}
 use Rattle.bag_groups.specs.Groups.{grouped, keys_of, values_of}
 use Rattle.bag_groups.specs.Combining.{combined_each, combined_pair, group_of, groups_in, trapped_key, traps_of_each}
 use Rattle.bag_groups.proofs.CombiningLemmas.{Combiner, Group, group_by}
-use Rattle.bag_groups.proofs.PairLemmas.{Parts, parts_of-pair}
+use Rattle.bag_groups.proofs.PairLemmas.{Parts, packed, pairs_of-packed, parts_of-pair}
 use Rattle.bag_steps.proofs.RowOrder.{rows_sorted}
 
 pub map_map : {A B C : Type 0} (f : B → C) (g : A → B) (xs : List A)
     → map f (map g xs) ≡ map (λ x. f (g x)) xs
 map_map f g [] = refl
 map_map f g (x ∷ xs) = ap (λ l. f (g x) ∷ l) (map_map f g xs)
+
+-- the parts of pairs that are made of such
+pub made_parts : (make : Value → Parts) (xs : List Value)
+    → pairs_of (map (λ v. packed (make v)) xs) ≡ map make xs
+made_parts make xs = ap pairs_of (sym (map_map packed make xs)) ∙ pairs_of-packed (map make xs)
 
 -- a pair of a key and a list is a group
 pub group_of-pair : (k : Value) (vs : List Value) → group_of (pair k (value.List vs)) ≡ Some (k, vs)

@@ -12,23 +12,19 @@ use Rattle.bag_groups.specs.Pairs.{pair, pairs_of}
 use Rattle.bag_groups.specs.Groups.{distinct, grouped, keys_of, values_of}
 use Rattle.bag_groups.specs.Combining.{combined_each, combined_pair, trapped_key, traps_of_each}
 use Rattle.bag_groups.proofs.MemberLemmas.{filter_all}
-use Rattle.bag_groups.proofs.PairLemmas.{Parts, packed, pairs_of-packed}
+use Rattle.bag_groups.proofs.PairLemmas.{Parts}
 use Rattle.bag_groups.proofs.PairOrder.{value_eq-same}
 use Rattle.combine_table.specs.declared.comb.Comb.TheVariants as by
 use Rattle.combine_table.specs.Combinations.{combined, greatest}
 use Rattle.bag_steps.proofs.RunLemmas.{AreAll, distinct_bag-ahead}
 use Rattle.bag_step_laws.specs.Derived.{listed, pair_under_zero}
-use Rattle.bag_step_laws.proofs.GroupRows.{combined-grouped, group_of-pair, map_map, traps-grouped}
+use Rattle.bag_step_laws.proofs.GroupRows.{combined-grouped, group_of-pair, made_parts, traps-grouped}
 
 abbrev pub zero_key : Value
 zero_key = value.Int (pos 0)
 
 abbrev parts_under : Value → Parts
 parts_under v = (zero_key, v)
-
-parts-under : (xs : List Value) → pairs_of (map pair_under_zero xs) ≡ map parts_under xs
-parts-under xs =
-    ap pairs_of (sym (map_map packed parts_under xs)) ∙ pairs_of-packed (map parts_under xs)
 
 all_zero : (xs : List Value) → AreAll zero_key (map (λ (p : Parts). p.0) (map parts_under xs))
 all_zero [] = tt
@@ -39,7 +35,7 @@ pub keys-under : (x : Value) (xs : List Value)
     → keys_of (pairs_of (map pair_under_zero (x ∷ xs))) ≡ zero_key ∷ []
 keys-under x xs =
     let keys = map (λ (p : Parts). p.0) (map parts_under (x ∷ xs)) in
-    ap keys_of (parts-under (x ∷ xs))
+    ap keys_of (made_parts parts_under (x ∷ xs))
     ∙ ap (λ l. distinct (bag_of l)) (sym (append-nil keys))
     ∙ distinct_bag-ahead zero_key keys [] (all_zero (x ∷ xs)) tt tt (omega arith)
 
@@ -55,7 +51,7 @@ held-under (x ∷ xs) = ap (λ l. x ∷ l) (held-under xs)
 pub values-under : (xs : List Value)
     → values_of zero_key (pairs_of (map pair_under_zero xs)) ≡ bag_of xs
 values-under xs =
-    ap (values_of zero_key) (parts-under xs)
+    ap (values_of zero_key) (made_parts parts_under xs)
     ∙ ap (λ l. bag_of (map (λ (p : Parts). p.1) l))
     (filter_all (λ (p : Parts). value_eq p.0 zero_key) (map parts_under xs) (all_keyed xs))
     ∙ ap bag_of (held-under xs)

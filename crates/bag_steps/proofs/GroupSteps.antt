@@ -7,10 +7,9 @@ use Rattle.std.proofs.lemmas.List.{drop_all, drop-drop, take_rest}
 use Rattle.flume_value.specs.declared.value.Value.{Value}
 use Rattle.flume_value.specs.declared.value.Value.TheVariants as value
 use Rattle.flume_value.specs.Order.{value_cmp}
-use Rattle.flume_value.specs.Bag.{bag_of}
 use Rattle.flume_value.proofs.EachLemmas.{each_from, Each-drop}
 use Rattle.flume_value.proofs.RisesLemmas.{Rises-drop}
-use Rattle.flume_value.proofs.BagLemmas.{NotBelow, Rises, bag_of-settled, rises_from}
+use Rattle.flume_value.proofs.BagLemmas.{NotBelow, Rises, rises_from}
 use Rattle.keyed_steps.specs.of_bag_groups.Pairs.{pair, IsPair, key_of, pairs_of}
 use Rattle.keyed_steps.specs.of_bag_groups.Groups.{grouped, grouped_pairs}
 use Rattle.bag_steps.specs.inner.Runs.{IsRun, first_key, held_by}
@@ -96,7 +95,3 @@ nothing_left made xs rows i none end all =
 pub sorted_as : (rows all : List Value) → rows ≡ all → IsSorted value_cmp all
     → IsSorted value_cmp rows
 sorted_as rows all e up = subst (IsSorted value_cmp) (sym e) up
-
-pub settled_as : (rows all : List Value) → rows ≡ all → IsSorted value_cmp all
-    → bag_of rows ≡ rows
-settled_as rows all e up = bag_of-settled rows (sorted_as rows all e up)

@@ -1,13 +1,12 @@
 -- The loops over runs, step by step.
-use Rattle.std.proofs.Common.{◌≡◌, ◌<◌, ◌≤◌, ◌+◌, ℕ, zero, suc, Some, List, [], ◌∷◌, ◌++◌, get_or, length, map, take, refl, sym, ap, ◌∙◌, subst, arith}
+use Rattle.std.proofs.Common.{◌≡◌, ◌<◌, ◌≤◌, ◌+◌, ℕ, zero, suc, Some, List, [], ◌∷◌, ◌++◌, get_or, length, take, sym, ap, ◌∙◌, subst, arith}
 use Rattle.std.specs.Prelude.{All, slice_get}
-use Rattle.std.specs.List.{cons_option}
-use Rattle.std.proofs.lemmas.List.{map-append, take_more}
-use Rattle.std.proofs.lemmas.List.Elements.{All-more, filter_map-append}
+use Rattle.std.proofs.lemmas.List.{take_more}
+use Rattle.std.proofs.lemmas.List.Elements.{All-more}
 use Rattle.std.proofs.lemmas.Option.{get_or_from_slice_get}
 use Rattle.flume_value.specs.declared.value.Value.{Value}
-use Rattle.keyed_steps.specs.of_bag_groups.Pairs.{parts_of, pairs_of, value_of}
-use Rattle.keyed_steps.proofs.of_bag_groups.PairLemmas.{Parts, parts_by, parts_of-pair}
+use Rattle.keyed_steps.specs.of_bag_groups.Pairs.{value_of}
+use Rattle.keyed_steps.proofs.of_bag_groups.PairLemmas.{held-push}
 use Rattle.bag_steps.specs.inner.Runs.{IsRun, held_by}
 
 -- ---- runs
@@ -41,16 +40,6 @@ run_whole f k xs n end within all = record {
 }
 
 -- ---- the values of pairs
-
-held-push : (xs : List Value) (p v : Value) → value_of p ≡ Some v
-    → held_by (xs ++ p ∷ []) ≡ held_by xs ++ v ∷ []
-held-push xs p v e =
-    let (k, is, keyed) = parts_by p v (parts_of p) refl e in
-    let only : pairs_of (p ∷ []) ≡ (k, v) ∷ []
-    = ap (λ o. cons_option o []) (ap parts_of is ∙ parts_of-pair k v) in
-    ap (map (λ (q : Parts). q.1)) (filter_map-append parts_of xs (p ∷ [])
-    ∙ ap (λ l. pairs_of xs ++ l) only)
-    ∙ map-append (λ (q : Parts). q.1) (pairs_of xs) ((k, v) ∷ [])
 
 pub held_more : (xs : List Value) (i : ℕ) (p v : Value) (values grown : List Value)
     → i < length xs → p ≡ get_or xs i p → value_of p ≡ Some v → values ≡ held_by (take i xs)

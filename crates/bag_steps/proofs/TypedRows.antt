@@ -1,7 +1,7 @@
 -- The types of counts, of joins, and of the greatest members.
-use Rattle.std.proofs.Common.{◌-◌, ◌&&◌, ℕ, true, false, if◌then◌else◌, ℤ, pos, List, [], ◌∷◌, ◌++◌, length, map, Option, refl, sym, ◌∙◌, subst}
+use Rattle.std.proofs.Common.{◌-◌, ◌&&◌, ℕ, true, false, if◌then◌else◌, ℤ, pos, List, [], ◌∷◌, ◌++◌, length, map, refl, ◌∙◌}
 use Rattle.std.specs.Prelude.{Ok, Err, codes, filter}
-use Rattle.std.specs.List.{AllByRecursion as Each, cons_option, flat_map}
+use Rattle.std.specs.List.{AllByRecursion as Each, flat_map}
 use Rattle.std.proofs.lemmas.List.Elements.{All-from_recursion}
 use Rattle.flume_value.specs.declared.fault.Kind.TheVariants.{Overflow}
 use Rattle.flume_value.specs.declared.value.Value.{Value}
@@ -24,7 +24,7 @@ use Rattle.keyed_steps.specs.of_bag_groups.Combining.{combined_pair}
 use Rattle.keyed_steps.proofs.of_bag_groups.MemberLemmas.{Each-distinct}
 use Rattle.keyed_steps.proofs.of_bag_groups.PairLemmas.{Parts}
 use Rattle.keyed_steps.specs.of_combine_table.Combinations.{greatest, int_or_overflow, wrapped}
-use Rattle.keyed_steps.proofs.TypedFacts.{Has-pair, table_pair}
+use Rattle.keyed_steps.proofs.TypedFacts.{HaveParts, Has-pair, pairs_have}
 use Rattle.bag_steps.specs.Counts.{counted, number_of}
 use Rattle.bag_steps.specs.Joins.{joined, sides}
 use Rattle.bag_steps.specs.Sides.{sides_of}
@@ -58,17 +58,6 @@ counted-typed t bag all =
 
 -- ---- joins
 
-abbrev HaveParts : Ty → Ty → Parts → Type 0
-HaveParts key value p = Has key p.0 × Has value p.1
-
-parts_have : (key value : Ty) (xs : List Value) → Each (Has (table_of key value)) xs
-    → Each (HaveParts key value) (pairs_of xs)
-parts_have key value [] e = tt
-parts_have key value (x ∷ xs) e =
-    let (k, v, is, typed, held) = table_pair key value x e.0 in
-    subst (λ (o : Option Parts). Each (HaveParts key value) (cons_option o (pairs_of xs))) (sym is)
-    ((typed, held), parts_have key value xs e.1)
-
 values_have : (key value : Ty) (k : Value) (ps : List Parts) → Each (HaveParts key value) ps
     → Each (Has value) (values_of k ps)
 values_have key value k ps e =
@@ -101,10 +90,10 @@ module _ (key left right : Ty) (xs ys : List Value)
   qs = pairs_of ys
 
   lefts : Each (HaveParts key left) ps
-  lefts = parts_have key left xs (each_from (Has (table_of key left)) xs all)
+  lefts = pairs_have key left xs (each_from (Has (table_of key left)) xs all)
 
   rights : Each (HaveParts key right) qs
-  rights = parts_have key right ys (each_from (Has (table_of key right)) ys all')
+  rights = pairs_have key right ys (each_from (Has (table_of key right)) ys all')
 
   all_keys : Each (Has key) (keys_of (ps ++ qs))
   all_keys =

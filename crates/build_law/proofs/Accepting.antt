@@ -23,7 +23,6 @@ use Rattle.combine_table.specs.declared.comb.Comb.{Comb}
 use Rattle.written_types.specs.Answer.{Checked, unless, or_fault}
 use Rattle.written_types.specs.Named.{Named, fresh}
 use Rattle.written_types.specs.Written.{whole_type}
-use Rattle.direct_meaning.specs.of_body_check.Bodies.{body_of}
 use Rattle.graph_build.specs.of_script_program.Limits.{most_collections, most_files}
 use Rattle.graph_build.specs.of_script_program.declared.made.Made.{Made}
 use Rattle.graph_build.specs.of_script_program.declared.made.Made.TheVariants as made
@@ -37,7 +36,7 @@ use Rattle.direct_meaning.specs.of_script_rules.Repeats.{turn_nodes, turn_to, un
 use Rattle.direct_meaning.specs.of_script_rules.Rules as rules_
 use Rattle.direct_meaning.proofs.of_script_rules.CheckedLemmas.{both, ok-same}
 use Rattle.direct_meaning.proofs.of_script_rules.StateLemmas.{nodes-hidden}
-use Rattle.direct_meaning.proofs.of_script_rules.FoundLemmas.{before, found, own}
+use Rattle.direct_meaning.proofs.of_script_rules.FoundLemmas.{before, found, own, ruled}
 use Rattle.build_law.specs.Limits.{AreShort, HasShortFlattens, IsShort, IsShortForm, IsShortOperation}
 
 -- no operation puts more together than are written
@@ -245,20 +244,10 @@ fine_behind (suc n) [] fine = tt
 fine_behind (suc n) (entry ∷ nodes) fine = fine_behind n nodes fine.1
 
 renumbered_short : (to : ℕ → ℕ) (how : Made) → IsShort how → IsShort (renumbered to how)
-renumbered_short to (made.Input file columns) short = tt
-renumbered_short to (made.Do source function output) short = tt
-renumbered_short to (made.Group source) short = tt
-renumbered_short to (made.Combine source by) short = tt
 renumbered_short to (made.Flatten sources) short =
     let same = length-map sources to in
     omega (arith, short, same)
-renumbered_short to (made.Count source) short = tt
-renumbered_short to (made.Join left right_) short = tt
-renumbered_short to (made.Top many source) short = tt
-renumbered_short to (made.CombineAll source by) short = tt
-renumbered_short to (made.Operate objects function) short = tt
-renumbered_short to (made.DoWith source function object) short = tt
-renumbered_short to (made.Saved is_object call) short = tt
+renumbered_short to _ short = tt
 
 copies_fine : (turn : ℕ) (to : ℕ → ℕ) (nodes : Named Node) → AllByRecursion IsFine nodes
     → AllByRecursion IsFine (map (copied turn to) nodes)
@@ -298,13 +287,7 @@ module _ (line : ℕ) (s after : State) (fine : AllFine s) where
   function_fine : (function : Written) → rules_.rule_function line function s ≡ Ok after
       → AllFine after
   function_fine function e =
-      let signature = both (rules_.signature_of line function s) _ after e in
-      let takes = signature.part.takes in
-      let gives = signature.part.gives in
-      let body =
-      both (body_of s.types function.argument takes gives function.body) _ after
-      signature.then in
-      subst AllFine (ok-same _ after body.then) fine
+      subst AllFine (ruled line function s after e).is fine
 
   named_fine : (names : List (List ℕ)) (by : Operation) → IsShortOperation by
       → rules_.named line names by s ≡ Ok after → AllFine after

@@ -139,18 +139,8 @@ module _ (script : Script) (inputs : List (List Value)) (made_ : List (Option Co
     other_by : (number source : ℕ) (how : Made) → IsOther how
         → IsMadeBy script (script_world script inputs) (at_of made_) number source how
         → IsBuiltBy script (script_world script inputs) (at_of made_) number source how
-    other_by number source (made.Input file columns) apart h = h
     other_by number source (made.Do input f o) apart h = absurd apart
-    other_by number source (made.Group input) apart h = h
-    other_by number source (made.Combine input k) apart h = h
-    other_by number source (made.Flatten sources) apart h = h
-    other_by number source (made.Count input) apart h = h
-    other_by number source (made.Join left right) apart h = h
-    other_by number source (made.Top many input) apart h = h
-    other_by number source (made.CombineAll input k) apart h = h
-    other_by number source (made.Operate objects f) apart h = h
-    other_by number source (made.DoWith input f object) apart h = h
-    other_by number source (made.Saved is_object call) apart h = h
+    other_by number source _ apart h = h
 
     fed : (t number : ℕ) {mk : Made} → Kind mk
         → get_or (built script) t None ≡ Some (built_of number mk) → IsFed t number mk

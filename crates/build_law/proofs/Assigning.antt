@@ -1,6 +1,7 @@
 -- All collections of a script meet their equations.
-use Rattle.std.proofs.Common.{◌≡◌, ℕ, zero, suc, ◌+◌, ◌<◌, Bool, true, false, List, [], ◌∷◌, ◌++◌, drop, get_or, length, Option, Some, None, refl, sym, ap, ◌∙◌, subst, append_assoc, add-zero, add-one}
+use Rattle.std.proofs.Common.{◌≡◌, ℕ, zero, suc, ◌+◌, ◌<◌, Bool, true, false, List, [], ◌∷◌, ◌++◌, drop, get_or, length, Option, Some, None, refl, sym, ap, ◌∙◌, subst, append_assoc, add-zero}
 use Rattle.std.specs.Prelude.{option_and_then, if◌then◌else◌}
+use Rattle.std.proofs.lemmas.List.{drop-drop}
 use Rattle.flume_value.specs.declared.value.Value.{Value}
 use Rattle.flume_value.proofs.EachLemmas.{Each-weaker}
 use Rattle.flume_collection.specs.Collection.{Collection}
@@ -49,34 +50,17 @@ settled_without (Some d ∷ table) s = (s.0, settled_without table s.1)
 
 -- ---- the inputs to come
 
-one_dropped : {A : Type 0} (n : ℕ) (xs : List A) → drop 1 (drop n xs) ≡ drop (suc n) xs
-one_dropped zero xs = refl
-one_dropped (suc n) [] = refl
-one_dropped (suc n) (x ∷ xs) = one_dropped n xs
-
 rows_behind : (script : Script) (all : List (List Value)) (n source : ℕ) (mk : Made)
     (rem : List (List Value)) (table : List (Option Collection)) (c : Collection)
     → rem ≡ drop source all → made_as script n mk rem table ≡ Some c
     → inputs_behind mk rem ≡ drop (source + sources_made mk) all
 rows_behind script all n source (made.Input file columns) [] table c ahead h = cc
 rows_behind script all n source (made.Input file columns) (rows ∷ rem) table c ahead h =
-    ap (drop 1) ahead ∙ rw add-one (one_dropped source all)
+    ap (drop 1) ahead ∙ drop-drop 1 source all
 rows_behind script all n source (made.Saved is_object call) [] table c ahead h = cc
 rows_behind script all n source (made.Saved is_object call) (rows ∷ rem) table c ahead h =
-    ap (drop 1) ahead ∙ rw add-one (one_dropped source all)
-rows_behind script all n source (made.Do input f output) rem table c ahead h =
-    rw add-zero ahead
-rows_behind script all n source (made.Group input) rem table c ahead h = rw add-zero ahead
-rows_behind script all n source (made.Combine input k) rem table c ahead h = rw add-zero ahead
-rows_behind script all n source (made.Flatten inputs) rem table c ahead h = rw add-zero ahead
-rows_behind script all n source (made.Count input) rem table c ahead h = rw add-zero ahead
-rows_behind script all n source (made.Join left right) rem table c ahead h = rw add-zero ahead
-rows_behind script all n source (made.Top many input) rem table c ahead h = rw add-zero ahead
-rows_behind script all n source (made.CombineAll input k) rem table c ahead h =
-    rw add-zero ahead
-rows_behind script all n source (made.Operate objects f) rem table c ahead h = rw add-zero ahead
-rows_behind script all n source (made.DoWith input f object) rem table c ahead h =
-    rw add-zero ahead
+    ap (drop 1) ahead ∙ drop-drop 1 source all
+rows_behind script all n source _ rem table c ahead h = rw add-zero ahead
 
 -- ---- all nodes
 

@@ -74,10 +74,10 @@ module _ (script : Script) (well : IsWellFormed script) where
       kept_at_call : (is_object : Bool) (it : Emitted)
           → get_or (wanted script) j None ≡ Some (made.Saved is_object (Some it))
           → (n : HasKept script well j is_object it) → (j < a.first) ⊎ (a.first ≤ j)
-          → kept_slot script n.first it.output < t
+          → kept_slot script n.name.first it.output < t
       kept_at_call is_object it at n (inl before) =
-          let few = few_kept script n.first it.output in
-          let place = n.place in
+          let few = few_kept script n.name.first it.output in
+          let place = n.name.place in
           let slot = a.slot in
           omega arith
       kept_at_call is_object it at n (inr inside) =
@@ -85,16 +85,18 @@ module _ (script : Script) (well : IsWellFormed script) where
           let is = a.is in
           let below = a.below in
           let slot = a.slot in
-          let place = n.place in
+          let place = n.name.place in
           let e : a.first + (j - a.first) ≡ j = omega arith in
-          let same = same_place script well a.first n.first a.source n.source a.f it.function
-          (j - a.first) it.output a.call n.call (omega arith) n.below (e ∙ sym n.place) in
+          let same =
+          same_place script well a.first n.name.first a.source n.name.source a.f it.function
+          (j - a.first) it.output a.call n.name.call (omega arith) n.name.below
+          (e ∙ sym n.name.place) in
           let here = same.1 in
-          let first : n.first ≡ a.first = omega arith in
+          let first : n.name.first ≡ a.first = omega arith in
           let fewer = kept_before script a.first (suc (other_names script a.f)) (j - a.first)
           (omega arith)
           (ap (kept_at script) e ∙ how_kept script j is_object (Some it) at) in
-          let size : kept_slot script n.first it.output
+          let size : kept_slot script n.name.first it.output
           ≡ kept_slot script a.first (j - a.first) =
           (λ i. kept_slot script (first i) (sym here i)) in
           omega arith
@@ -145,15 +147,15 @@ module _ (script : Script) (well : IsWellFormed script) where
 
     pub kept_early : (is_object : Bool) (it : Emitted)
         → get_or (wanted script) j None ≡ Some (made.Saved is_object (Some it))
-        → (n : HasKept script well j is_object it) → kept_slot script n.first it.output < t
+        → (n : HasKept script well j is_object it) → kept_slot script n.name.first it.output < t
     kept_early is_object it at n = by (slot_of script well t number mk found)
       where
-        by : IsSlot script well t number mk → kept_slot script n.first it.output < t
+        by : IsSlot script well t number mk → kept_slot script n.name.first it.output < t
         by (inl a) =
             let low = early in
             let same = a.place in
-            let few = few_kept script n.first it.output in
-            let place = n.place in
+            let few = few_kept script n.name.first it.output in
+            let place = n.name.place in
             omega arith
         by (inr (inl a)) = absurd (no_reads a)
         by (inr (inr a)) = kept_at_call a is_object it at n (either j a.first)

@@ -120,7 +120,6 @@ module _ (g : Graph) where
 
     pub block_ok : (made : Made) → IsLastRead made
         → Inner made → FlattenFits made → Ok (made_nodes script gives origin source n made)
-    block_ok (made.Input file columns) last inner fits = (tt, tt)
     block_ok (made.Do input f output) last inner fits = (
       call_ok n
           (call_branch (origin - output) f (emitted_at script (origin - output))
@@ -128,7 +127,6 @@ module _ (g : Graph) where
           (names_needed script (origin - output) f) last,
       tt,
     )
-    block_ok (made.Group input) last inner fits = (tt, tt)
     block_ok (made.Combine input k) last inner fits = (last_ok n _ _ _ last, tt)
     block_ok (made.Flatten inputs) last inner fits =
         let same : length (map gives inputs) ≡ length inputs = length-map inputs gives in
@@ -167,6 +165,4 @@ module _ (g : Graph) where
         (step_ok (n + 2) _ _ _ (inner (first_of (n + 2)) (whole_read input k)), (tt, tt)),
       ),
     )
-    block_ok (made.Operate objects f) last inner fits = (tt, tt)
-    block_ok (made.DoWith input f object) last inner fits = (tt, tt)
-    block_ok (made.Saved is_object call) last inner fits = (tt, tt)
+    block_ok _ last inner fits = (tt, tt)

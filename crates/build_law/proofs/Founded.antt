@@ -46,7 +46,6 @@ ReadsLow P e = AllByRecursion (IsLow P e.number) (reads e.node)
 module _ (script : Script) (gives : ℕ → Place) (origin source n : ℕ) where
   block_plain : (mk : Made) → IsCalled script origin mk
       → AllByRecursion IsPlain (made_nodes script gives origin source n mk)
-  block_plain (made.Input file columns) h = ((refl, refl), tt)
   block_plain (made.Do input f o) h =
       let first : ℕ = origin - o in
       let b = call_branch first f (emitted_at script first)
@@ -58,9 +57,6 @@ module _ (script : Script) (gives : ℕ → Place) (origin source n : ℕ) where
         ),
         tt,
       )
-  block_plain (made.Group input) h = ((refl, refl), tt)
-  block_plain (made.Combine input k) h = ((refl, refl), tt)
-  block_plain (made.Flatten inputs) h = ((refl, refl), tt)
   block_plain (made.Count input) h = ((refl, refl), ((refl, refl), ((refl, refl), tt)))
   block_plain (made.Join left right) h =
       ((refl, refl), ((refl, refl), ((refl, refl), ((refl, refl), ((refl, refl), tt)))))
@@ -68,9 +64,7 @@ module _ (script : Script) (gives : ℕ → Place) (origin source n : ℕ) where
       ((refl, refl), ((refl, refl), ((refl, refl), ((refl, refl), tt))))
   block_plain (made.CombineAll input k) h =
       ((refl, refl), ((refl, refl), ((refl, refl), ((refl, refl), tt))))
-  block_plain (made.Operate objects f) h = ((refl, refl), tt)
-  block_plain (made.DoWith input f object) h = ((refl, refl), tt)
-  block_plain (made.Saved is_object call) h = ((refl, refl), tt)
+  block_plain _ h = ((refl, refl), tt)
 
   module _ (P : Place → Type 0) where
     -- each node of the collection is there
@@ -91,6 +85,22 @@ module _ (script : Script) (gives : ℕ → Place) (origin source n : ℕ) where
     next : (mk : Made) → AreThere mk → (k m : ℕ) → k ≤ n + before_last mk → k < m
         → AllByRecursion (IsLow P m) (first_of k ∷ [])
     next mk there k m within below = ((there k within, below), tt)
+
+    -- the nodes of an operation that takes a collection whole read each the one before
+    whole_low : (many input : ℕ) → AreThere (made.Top many input) → IsLow P n (gives input)
+        → AllByRecursion (ReadsLow P)
+        (made_nodes script gives origin source n (made.Top many input))
+    whole_low many input there h =
+        let mk = made.Top many input in (
+          (h, tt),
+          (
+            next mk there n (n + 1) (omega arith) (omega arith),
+            (
+              next mk there (n + 1) (n + 2) (omega arith) (omega arith),
+              (next mk there (n + 2) (n + 3) (omega arith) (omega arith), tt),
+            ),
+          ),
+        )
 
     block_low : (mk : Made) → AreThere mk
         → AllByRecursion (λ j. IsLow P n (gives j)) (operands mk)
@@ -124,28 +134,8 @@ module _ (script : Script) (gives : ℕ → Place) (origin source n : ℕ) where
             ),
           ),
         )
-    block_low (made.Top many input) there h =
-        let mk = made.Top many input in (
-          (h.0, tt),
-          (
-            next mk there n (n + 1) (omega arith) (omega arith),
-            (
-              next mk there (n + 1) (n + 2) (omega arith) (omega arith),
-              (next mk there (n + 2) (n + 3) (omega arith) (omega arith), tt),
-            ),
-          ),
-        )
-    block_low (made.CombineAll input k) there h =
-        let mk = made.CombineAll input k in (
-          (h.0, tt),
-          (
-            next mk there n (n + 1) (omega arith) (omega arith),
-            (
-              next mk there (n + 1) (n + 2) (omega arith) (omega arith),
-              (next mk there (n + 2) (n + 3) (omega arith) (omega arith), tt),
-            ),
-          ),
-        )
+    block_low (made.Top many input) there h = whole_low many input there h.0
+    block_low (made.CombineAll input k) there h = whole_low 0 input there h.0
     block_low (made.Operate objects f) there h = (all_low objects h, tt)
     block_low (made.DoWith input f object) there h = ((h.0, (h.1.0, tt)), tt)
     block_low (made.Saved is_object call) there h = (tt, tt)
@@ -173,18 +163,8 @@ module _ (script : Script) (well : IsWellFormed script) where
   is_called t number (other mk apart) found = by_other mk apart
     where
       by_other : (how : Made) → IsOther how → IsCalled script number how
-      by_other (made.Input file columns) h = tt
       by_other (made.Do input f o) h = absurd h
-      by_other (made.Group input) h = tt
-      by_other (made.Combine input k) h = tt
-      by_other (made.Flatten inputs) h = tt
-      by_other (made.Count input) h = tt
-      by_other (made.Join left right) h = tt
-      by_other (made.Top many input) h = tt
-      by_other (made.CombineAll input k) h = tt
-      by_other (made.Operate objects f) h = tt
-      by_other (made.DoWith input f object) h = tt
-      by_other (made.Saved is_object call) h = tt
+      by_other _ h = tt
 
   pub plains : AllByRecursion IsPlain (nodes_of script)
   plains =
@@ -264,9 +244,9 @@ module _ (script : Script) (well : IsWellFormed script) where
   kept_placed j is_object it found =
       let how : Made = made.Saved is_object (Some it) in
       let n = has_kept script well j is_object it found in
-      let e = kept_place script j is_object it n.first found n.place n.built_ in
+      let e = kept_place script j is_object it n.name.first found n.name.place n.built_ in
       record {
-        home = kept_slot script n.first it.output;
+        home = kept_slot script n.name.first it.output;
         number = j;
         how = how;
         built_ = n.built_;
@@ -274,8 +254,8 @@ module _ (script : Script) (well : IsWellFormed script) where
             kept_early script well t m mk there j reads is_object it found n;
         node = ap (λ (c : Place). c.node) e;
         there = subst (IsThere (nodes_of script)) (sym e)
-            (inner_there (kept_slot script n.first it.output) j how n.built_
-            (start script (kept_slot script n.first it.output) + 0) (omega arith));
+            (inner_there (kept_slot script n.name.first it.output) j how n.built_
+            (start script (kept_slot script n.name.first it.output) + 0) (omega arith));
       }
 
   call_placed : (j input f o : ℕ) → get_or (wanted script) j None ≡ Some (made.Do input f o)

@@ -95,6 +95,15 @@ module _ (script : Script) (lists all : List (List Value))
       ∙ ap (λ k. get_or all k []) (sym (add-zero source)) ∙ sym (get_or-drop source all 0 [])
       ∙ ap (λ xs. get_or xs 0 []) (sym ahead)
 
+  by_rows : (rows : List Value) (rest : List (List Value)) → rows ∷ rest ≡ drop source all
+      → Some (rows_as rows) ≡ Some c
+      → (at n ≡ rows_as (get_or lists (source_number script source) [])) × IsSettled c
+  by_rows rows rest ahead h =
+      let e : rows_as rows ≡ c = cc in (
+        here ∙ sym e ∙ ap rows_as (sym (rows_here rows rest ahead)),
+        subst IsSettled e (rows_settled rows),
+      )
+
   by_function : (input f output : ℕ)
       → option_and_then (λ function. done_at (n - output) output function input table)
       (function_at script.functions f) ≡ Some c
@@ -239,20 +248,10 @@ module _ (script : Script) (lists all : List (List Value))
       → made_as script n mk rem table ≡ Some c → Is mk
   is_made (made.Input file columns) [] ahead h = cc
   is_made (made.Input file columns) (rows ∷ rem) ahead h =
-      let e : rows_as rows ≡ c = cc in
-      record {
-        is = here ∙ sym e ∙ ap rows_as (sym (rows_here rows rem ahead));
-        settled = subst IsSettled e (rows_settled rows);
-        read = tt;
-      }
+      let it = by_rows rows rem ahead h in record { is = it.0; settled = it.1; read = tt }
   is_made (made.Saved is_object call) [] ahead h = cc
   is_made (made.Saved is_object call) (rows ∷ rem) ahead h =
-      let e : rows_as rows ≡ c = cc in
-      record {
-        is = here ∙ sym e ∙ ap rows_as (sym (rows_here rows rem ahead));
-        settled = subst IsSettled e (rows_settled rows);
-        read = tt;
-      }
+      let it = by_rows rows rem ahead h in record { is = it.0; settled = it.1; read = tt }
   is_made (made.Do input f output) rem ahead h = by_function input f output h
   is_made (made.Group input) rem ahead h = by_group input h
   is_made (made.Combine input k) rem ahead h = by_combining input k h

@@ -135,16 +135,9 @@ module _ (script : Script) (inputs : List (List Value)) (made_ : List (Option Co
   own_node : (how : Made) → HasOwn how → IsOther how → HasOwnNode how
   own_node (made.Input file columns) has apart = has
   own_node (made.Do input f o) has apart = absurd apart
-  own_node (made.Group input) has apart = tt
-  own_node (made.Combine input k) has apart = tt
   own_node (made.Flatten sources) has apart = has
-  own_node (made.Count input) has apart = tt
-  own_node (made.Join left right) has apart = tt
-  own_node (made.Top many input) has apart = tt
-  own_node (made.CombineAll input k) has apart = tt
-  own_node (made.Operate objects f) has apart = tt
-  own_node (made.DoWith input f object) has apart = tt
   own_node (made.Saved is_object call) has apart = has
+  own_node _ has apart = tt
 
   own_of_call : (j input f o : ℕ) → get_or (wanted script) j None ≡ Some (made.Do input f o)
       → own_bag w m (nodes_of script) j ≡ (at_of made_ j).bag
@@ -287,8 +280,8 @@ module _ (script : Script) (inputs : List (List Value)) (made_ : List (Option Co
   kept_in_nodes j is_object it found =
       let how : Made = made.Saved is_object (Some it) in
       let n = has_kept script well j is_object it found in
-      in_nodes (kept_slot script n.first it.output) j how n.built_ (at_of made_ j)
-      (other_traps (kept_slot script n.first it.output) j how tt n.built_)
+      in_nodes (kept_slot script n.name.first it.output) j how n.built_ (at_of made_ j)
+      (other_traps (kept_slot script n.name.first it.output) j how tt n.built_)
 
   wanted_in : (j : ℕ) {how : Made} → Stand how → get_or (wanted script) j None ≡ Some how
       → AreIn (at_of made_ j).traps (trapped script w m (gives script) (nodes_of script))

@@ -38,16 +38,7 @@ pub name_emission : (source f k : ℕ) (how : Made) → IsNameOf source f k how
     → emitted_as how ≡ Some (emission f k)
 name_emission source f k (made.Do input g o) h = ap emitted_as h
 name_emission source f k (made.Saved is_object call) h = h
-name_emission source f k (made.Input file columns) h = absurd h
-name_emission source f k (made.Group input) h = absurd h
-name_emission source f k (made.Combine input by) h = absurd h
-name_emission source f k (made.Flatten inputs) h = absurd h
-name_emission source f k (made.Count input) h = absurd h
-name_emission source f k (made.Join left right) h = absurd h
-name_emission source f k (made.Top many input) h = absurd h
-name_emission source f k (made.CombineAll input by) h = absurd h
-name_emission source f k (made.Operate objects g) h = absurd h
-name_emission source f k (made.DoWith input g object) h = absurd h
+name_emission source f k _ h = absurd h
 
 -- an output of a call has the type that its function gives to it
 pub emitted_fits : (functions : Named Function) (before : Named Node) (how : Made) (it : Emitted)
@@ -58,16 +49,7 @@ emitted_fits functions before (made.Do input f o) it type h fit =
     (record { function = fit.function; calls = fit.calls; gives = fit.gives })
 emitted_fits functions before (made.Saved is_object call) it type h fit =
     subst (λ o. IsKept functions o type) h fit
-emitted_fits functions before (made.Input file columns) it type h fit = cc
-emitted_fits functions before (made.Group input) it type h fit = cc
-emitted_fits functions before (made.Combine input by) it type h fit = cc
-emitted_fits functions before (made.Flatten inputs) it type h fit = cc
-emitted_fits functions before (made.Count input) it type h fit = cc
-emitted_fits functions before (made.Join left right) it type h fit = cc
-emitted_fits functions before (made.Top many input) it type h fit = cc
-emitted_fits functions before (made.CombineAll input by) it type h fit = cc
-emitted_fits functions before (made.Operate objects f) it type h fit = cc
-emitted_fits functions before (made.DoWith input f object) it type h fit = cc
+emitted_fits functions before _ it type h fit = cc
 
 -- the collections from a number on are the names of a call of that function on a source
 pub record IsCall (script : Script) (first source f : ℕ) : Type 0 where

@@ -106,25 +106,10 @@ at_counts n (e ∷ es) h = (
 block_length : (script : Script) (gives : ℕ → Place) (origin source n : ℕ) (made : Made)
     → length (made_nodes script gives origin source n made) ≡ before_last made + 1
 block_length script gives origin source n (made.Input file columns) = refl
-block_length script gives origin source n (made.Do input f output) = refl
-block_length script gives origin source n (made.Group input) = refl
-block_length script gives origin source n (made.Combine input k) = refl
-block_length script gives origin source n (made.Flatten inputs) = refl
-block_length script gives origin source n (made.Count input) = refl
-block_length script gives origin source n (made.Join left right) = refl
-block_length script gives origin source n (made.Top many input) = refl
-block_length script gives origin source n (made.CombineAll input k) = refl
-block_length script gives origin source n (made.Operate objects f) = refl
-block_length script gives origin source n (made.DoWith input f object) = refl
-block_length script gives origin source n (made.Saved is_object call) = refl
+block_length script gives origin source n _ = refl
 
 block_counts : (script : Script) (gives : ℕ → Place) (origin source n : ℕ) (made : Made)
     → Counts n (made_nodes script gives origin source n made)
-block_counts script gives origin source n (made.Input file columns) = (refl, tt)
-block_counts script gives origin source n (made.Do input f output) = (refl, tt)
-block_counts script gives origin source n (made.Group input) = (refl, tt)
-block_counts script gives origin source n (made.Combine input k) = (refl, tt)
-block_counts script gives origin source n (made.Flatten inputs) = (refl, tt)
 block_counts script gives origin source n (made.Count input) =
     (refl, (omega arith, (omega arith, tt)))
 block_counts script gives origin source n (made.Join left right) =
@@ -133,9 +118,7 @@ block_counts script gives origin source n (made.Top many input) =
     (refl, (omega arith, (omega arith, (omega arith, tt))))
 block_counts script gives origin source n (made.CombineAll input k) =
     (refl, (omega arith, (omega arith, (omega arith, tt))))
-block_counts script gives origin source n (made.Operate objects f) = (refl, tt)
-block_counts script gives origin source n (made.DoWith input f object) = (refl, tt)
-block_counts script gives origin source n (made.Saved is_object call) = (refl, tt)
+block_counts script gives origin source n _ = (refl, tt)
 
 part_counts : (script : Script) (gives : ℕ → Place) (source n : ℕ) (w : Option Built)
     (ys : List Entry) → Counts (behind n w) ys → Counts n (nodes_at script gives source n w ++ ys)
@@ -166,17 +149,7 @@ one_each (e ∷ es) h =
 
 few_before : (made : Made) → before_last made ≤ 4
 few_before (made.Input file columns) = omega arith
-few_before (made.Do input f output) = omega arith
-few_before (made.Group input) = omega arith
-few_before (made.Combine input k) = omega arith
-few_before (made.Flatten inputs) = omega arith
-few_before (made.Count input) = omega arith
-few_before (made.Join left right) = omega arith
-few_before (made.Top many input) = omega arith
-few_before (made.CombineAll input k) = omega arith
-few_before (made.Operate objects f) = omega arith
-few_before (made.DoWith input f object) = omega arith
-few_before (made.Saved is_object call) = omega arith
+few_before _ = omega arith
 
 pub few_nodes : (script : Script) (gives : ℕ → Place) (source n : ℕ)
     (ws : List (Option Built)) → length (nodes_from script gives source n ws) ≤ 5 * length ws

@@ -88,11 +88,6 @@ module _ (es : List Entry) (script : Script) (gives : ℕ → Place) (origin sou
   pub block_objects : (mk : Made) → AreAt (made_nodes script gives origin source n mk)
       → ReadsObjects mk
       → Each (λ e. has_objects es e.node ≡ true) (made_nodes script gives origin source n mk)
-  block_objects (made.Input file columns) at h = (refl, tt)
-  block_objects (made.Do input f output) at h = (refl, tt)
-  block_objects (made.Group input) at h = (refl, tt)
-  block_objects (made.Combine input k) at h = (refl, tt)
-  block_objects (made.Flatten inputs) at h = (refl, tt)
   block_objects (made.Count input) at h = (refl, (refl, (refl, tt)))
   block_objects (made.Join left right) at h = (refl, (refl, (refl, (refl, (refl, tt)))))
   block_objects (made.Top many input) at h = (refl, (refl, (refl, (refl, tt))))
@@ -100,7 +95,7 @@ module _ (es : List Entry) (script : Script) (gives : ℕ → Place) (origin sou
       (refl, (refl, (refl, (ap (λ o. not (is_object o)) at.1.1.0, tt))))
   block_objects (made.Operate objects f) at h = operate_objects f objects h.0 h.1
   block_objects (made.DoWith input f object) at h = (h, tt)
-  block_objects (made.Saved is_object call) at h = (refl, tt)
+  block_objects _ at h = (refl, tt)
 
 -- ---- all nodes
 
@@ -127,22 +122,14 @@ module _ (script : Script) (well : IsWellFormed script) where
       let how : Made = made.Saved true (Some it) in
       let n = has_kept script well j true it found in
       ap (is_object_at (nodes_of script))
-      (kept_place script j true it n.first found n.place n.built_)
+      (kept_place script j true it n.name.first found n.name.place n.built_)
       ∙ ap (λ k. is_object (node_at (nodes_of script) k))
-      (add-zero (start script (kept_slot script n.first it.output)))
-      ∙ ap is_object (block_at (kept_slot script n.first it.output) j how n.built_).0
+      (add-zero (start script (kept_slot script n.name.first it.output)))
+      ∙ ap is_object (block_at (kept_slot script n.name.first it.output) j how n.built_).0
 
   object_there : (j : ℕ) (how : Made) → gives_object how ≡ true
       → get_or (wanted script) j None ≡ Some how
       → is_object_at (nodes_of script) (gives script j) ≡ true
-  object_there j (made.Input file columns) is found = absurd (false≢true is)
-  object_there j (made.Do input f output) is found = absurd (false≢true is)
-  object_there j (made.Group input) is found = absurd (false≢true is)
-  object_there j (made.Combine input k) is found = absurd (false≢true is)
-  object_there j (made.Flatten inputs) is found = absurd (false≢true is)
-  object_there j (made.Count input) is found = absurd (false≢true is)
-  object_there j (made.Join left right) is found = absurd (false≢true is)
-  object_there j (made.Top many input) is found = absurd (false≢true is)
   object_there j (made.CombineAll input k) is found =
       let how = made.CombineAll input k in
       ap (is_object_at (nodes_of script)) (other_place script j how refl found)
@@ -152,10 +139,10 @@ module _ (script : Script) (well : IsWellFormed script) where
       ap (is_object_at (nodes_of script)) (other_place script j how refl found)
       ∙ ap (λ k. is_object (node_at (nodes_of script) k)) (add-zero (start script j))
       ∙ ap is_object (block_at j j how (alone_built script j how refl found)).0
-  object_there j (made.DoWith input f object) is found = absurd (false≢true is)
   object_there j (made.Saved is_object call) is found =
       kept_there j call
       (subst (λ b. get_or (wanted script) j None ≡ Some (made.Saved b call)) is found)
+  object_there j _ is found = absurd (false≢true is)
 
   -- what a collection reads where it stands
   record KindsAt (how : Made) : Type 0 where
@@ -212,15 +199,6 @@ module _ (script : Script) (well : IsWellFormed script) where
 
   objects_read : (number s n : ℕ) (mk : Made) → get_or (wanted script) number None ≡ Some mk
       → ReadsObjects (nodes_of script) script (gives script) number s n mk
-  objects_read number s n (made.Input file columns) found = tt
-  objects_read number s n (made.Do input f output) found = tt
-  objects_read number s n (made.Group input) found = tt
-  objects_read number s n (made.Combine input k) found = tt
-  objects_read number s n (made.Flatten inputs) found = tt
-  objects_read number s n (made.Count input) found = tt
-  objects_read number s n (made.Join left right) found = tt
-  objects_read number s n (made.Top many input) found = tt
-  objects_read number s n (made.CombineAll input k) found = tt
   objects_read number s n (made.Operate objects f) found =
       let how = made.Operate objects f in
       let fit = fits_at script well number how (needed_as script number how found).made in
@@ -235,7 +213,7 @@ module _ (script : Script) (well : IsWellFormed script) where
       let it = kinds_at number how found in
       read_object number how found it.before it.rest it.is object
       (at_tail input (object ∷ []) object (at_head object [])) it.kinds.values.0
-  objects_read number s n (made.Saved is_object call) found = tt
+  objects_read number s n _ found = tt
 
   pub have_objects : HaveObjects (graph_of script).nodes
   have_objects =

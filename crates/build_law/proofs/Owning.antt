@@ -110,18 +110,8 @@ module _ (script : Script) (w : World) (m : Place → Collection) (gives : ℕ �
     block_other i (made.Saved is_object call) differ = refl
 
     pub by_other : (i : ℕ) (made : Made) → IsOther made → (origin ≡ i → ⊥) → Apart i made
-    by_other i (made.Input file columns) apart differ = differ
     by_other i (made.Do input f o) apart differ = absurd apart
-    by_other i (made.Group input) apart differ = differ
-    by_other i (made.Combine input k) apart differ = differ
-    by_other i (made.Flatten inputs) apart differ = differ
-    by_other i (made.Count input) apart differ = differ
-    by_other i (made.Join left right) apart differ = differ
-    by_other i (made.Top many input) apart differ = differ
-    by_other i (made.CombineAll input k) apart differ = differ
-    by_other i (made.Operate objects f) apart differ = differ
-    by_other i (made.DoWith input f object) apart differ = differ
-    by_other i (made.Saved is_object call) apart differ = differ
+    by_other i _ apart differ = differ
 
     -- a call adds to each of its names what it gives to it
     pub call_adds : (i input f o k : ℕ) (c : Collection) → k < suc (other_names script f)

@@ -17,7 +17,7 @@ use Rattle.direct_meaning.specs.of_script_laws.WellFormed.{IsWellFormed}
 use Rattle.build_law.proofs.Blocks.{last_number, rows_found, rows_from, source_at, start_at}
 use Rattle.build_law.proofs.Calling.{alone_built, built_wanted, how_emitted, needed_as}
 use Rattle.build_law.proofs.Names.{length_needed, split_at}
-use Rattle.build_law.proofs.Naming.{IsCall, name_is, named, named_as}
+use Rattle.build_law.proofs.Naming.{IsCall, IsNamed, name_is, named, named_as}
 use Rattle.build_law.proofs.MadeKinds.{IsOther, Stand, alone, built_of, by_call, emission, kept_name, stand_of}
 use Rattle.build_law.proofs.Outputs.{kept, kept_at}
 use Rattle.build_law.proofs.Slots.{IsFirstName, IsKeptName, IsSlot, call_is_built, call_slot, kept_built, kept_slot, slot_of}
@@ -128,12 +128,8 @@ module _ (script : Script) (well : IsWellFormed script) where
 
   -- where the source stands that gives a kept name of a call
   pub record HasKept (j : ℕ) (is_object : Bool) (it : Emitted) : Type 0 where
-    pub first : ℕ
-    pub source : ℕ
-    pub call : IsCall script first source it.function
-    pub below : it.output < suc (other_names script it.function)
-    pub place : first + it.output ≡ j
-    pub built_ : get_or (built script) (kept_slot script first it.output) None
+    pub name : IsNamed script well j it.function it.output
+    pub built_ : get_or (built script) (kept_slot script name.first it.output) None
         ≡ Some (built_of j (made.Saved is_object (Some it)))
 
   pub has_kept : (j : ℕ) (is_object : Bool) (it : Emitted)
@@ -141,14 +137,9 @@ module _ (script : Script) (well : IsWellFormed script) where
       → HasKept j is_object it
   has_kept j is_object it found =
       let how : Made = made.Saved is_object (Some it) in
-      let is = (needed_as script j how found).made in
-      let n = named_as script well j how it is refl in
+      let n = named_as script well j how it (needed_as script j how found).made refl in
       record {
-        first = n.first;
-        source = n.source;
-        call = n.call;
-        below = n.below;
-        place = n.place;
+        name = n;
         built_ =
             kept_built script well n.first n.source it.function n.call it.output is_object (Some it)
             n.below (ap (λ k. get_or (wanted script) k None) n.place ∙ found)
@@ -201,18 +192,8 @@ module _ {X : Type 0} (script : Script) (d : X) (at : ℕ → X)
   told c = get_or (get_or whole c.node []) c.out d
 
   other_row : (number : ℕ) (mk : Made) → IsOther mk → last_row number mk ≡ at number ∷ []
-  other_row number (made.Input file columns) h = refl
   other_row number (made.Do input f o) h = absurd h
-  other_row number (made.Group input) h = refl
-  other_row number (made.Combine input by) h = refl
-  other_row number (made.Flatten inputs) h = refl
-  other_row number (made.Count input) h = refl
-  other_row number (made.Join left right) h = refl
-  other_row number (made.Top many input) h = refl
-  other_row number (made.CombineAll input by) h = refl
-  other_row number (made.Operate objects f) h = refl
-  other_row number (made.DoWith input f object) h = refl
-  other_row number (made.Saved is_object call) h = refl
+  other_row number _ h = refl
 
   module _ (sized : (t number : ℕ) (mk : Made)
       → get_or (built script) t None ≡ Some (built_of number mk)
@@ -262,8 +243,8 @@ module _ {X : Type 0} (script : Script) (d : X) (at : ℕ → X)
           → told (gives script j) ≡ at j
       kept_told j is_object it found =
           let n = has_kept script well j is_object it found in
-          ap told (kept_place script j is_object it n.first found n.place n.built_)
-          ∙ last_told (kept_slot script n.first it.output) j (made.Saved is_object (Some it)) 0
+          ap told (kept_place script j is_object it n.name.first found n.name.place n.built_)
+          ∙ last_told (kept_slot script n.name.first it.output) j (made.Saved is_object (Some it)) 0
           n.built_
 
       call_told : (j input f o : ℕ) → get_or (wanted script) j None ≡ Some (made.Do input f o)

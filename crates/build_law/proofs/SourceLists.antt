@@ -85,16 +85,7 @@ sorts_one (made.Input file columns) type rest =
     an_input (record { type = type; is_object = false }) rest
 sorts_one (made.Saved is_object call) type rest =
     a_kept (record { type = type; is_object = is_object }) rest
-sorts_one (made.Do source f output) type rest = rest
-sorts_one (made.Group source) type rest = rest
-sorts_one (made.Combine source by) type rest = rest
-sorts_one (made.Flatten sources) type rest = rest
-sorts_one (made.Count source) type rest = rest
-sorts_one (made.Join left right) type rest = rest
-sorts_one (made.Top many source) type rest = rest
-sorts_one (made.CombineAll source by) type rest = rest
-sorts_one (made.Operate objects f) type rest = rest
-sorts_one (made.DoWith source f object) type rest = rest
+sorts_one _ type rest = rest
 
 sorts_all : (nodes : List (ℕ × (List ℕ × Node)))
     → Sorts (flat_map (λ it. source_kind it.1.1.made) nodes)
@@ -243,16 +234,7 @@ module _ (script : Script) where
   taken n (made.Input file columns) (rows ∷ rem) table c h = omega arith
   taken n (made.Saved is_object call) [] table c h = cc
   taken n (made.Saved is_object call) (rows ∷ rem) table c h = omega arith
-  taken n (made.Do source f output) rem table c h = omega arith
-  taken n (made.Group source) rem table c h = omega arith
-  taken n (made.Combine source by) rem table c h = omega arith
-  taken n (made.Flatten sources) rem table c h = omega arith
-  taken n (made.Count source) rem table c h = omega arith
-  taken n (made.Join left right) rem table c h = omega arith
-  taken n (made.Top many source) rem table c h = omega arith
-  taken n (made.CombineAll source by) rem table c h = omega arith
-  taken n (made.Operate objects f) rem table c h = omega arith
-  taken n (made.DoWith source f object) rem table c h = omega arith
+  taken n _ rem table c h = omega arith
 
   taken_of : (b : Bool) (entry : List ℕ × Node) (nodes : Named Node)
       (rem : List (List Value)) (table all : List (Option Collection))

@@ -26,17 +26,7 @@ use Rattle.build_law.proofs.Values.{regrouped}
 -- as many sources as nodes read
 as_many_sources : (how : Made) (t : Ty) → length (sourced_by how t) ≡ sources_made how
 as_many_sources (made.Input file columns) t = refl
-as_many_sources (made.Do input f output) t = refl
-as_many_sources (made.Group input) t = refl
-as_many_sources (made.Combine input k) t = refl
-as_many_sources (made.Flatten inputs) t = refl
-as_many_sources (made.Count input) t = refl
-as_many_sources (made.Join left right) t = refl
-as_many_sources (made.Top many input) t = refl
-as_many_sources (made.CombineAll input k) t = refl
-as_many_sources (made.Operate objects f) t = refl
-as_many_sources (made.DoWith input f object) t = refl
-as_many_sources (made.Saved is_object call) t = refl
+as_many_sources _ t = refl
 
 module _ (script : Script) where
   abbrev sources_from : ℕ → Named Node → List Sourced
@@ -120,30 +110,22 @@ module _ (script : Script) (well : IsWellFormed script) where
       let fit = fits_at script well number mk (built_made script t number mk found) in
       by mk found is fit.type fit.has
     where
+      source_of : (how : Made) (x : Sourced) → IsOther how
+          → get_or (built script) t None ≡ Some (built_of number how)
+          → members_at script.nodes number ≡ Some x.type → sourced_by how x.type ≡ x ∷ []
+          → is_object ≡ x.is_object → HasSource t is_object
+      source_of how x apart at has one is = record {
+        it = x;
+        at = source_is t number how x.type x apart at has one;
+        kind = sym is;
+      }
+
       by : (how : Made) → get_or (built script) t None ≡ Some (built_of number how)
           → IsSource how is_object → (u : Ty) → members_at script.nodes number ≡ Some u
           → HasSource t is_object
       by (made.Input file columns) at is u has =
-          let x : Sourced = record { type = u; is_object = false } in
-          record {
-            it = x;
-            at = source_is t number (made.Input file columns) u x tt at has refl;
-            kind = sym is;
-          }
+          source_of (made.Input file columns) (record { type = u; is_object = false }) tt at has
+          refl is
       by (made.Saved own call) at is u has =
-          let x : Sourced = record { type = u; is_object = own } in
-          record {
-            it = x;
-            at = source_is t number (made.Saved own call) u x tt at has refl;
-            kind = sym is;
-          }
-      by (made.Do input f o) at is u has = absurd is
-      by (made.Group input) at is u has = absurd is
-      by (made.Combine input k) at is u has = absurd is
-      by (made.Flatten inputs) at is u has = absurd is
-      by (made.Count input) at is u has = absurd is
-      by (made.Join left right) at is u has = absurd is
-      by (made.Top many input) at is u has = absurd is
-      by (made.CombineAll input k) at is u has = absurd is
-      by (made.Operate objects f) at is u has = absurd is
-      by (made.DoWith input f object) at is u has = absurd is
+          source_of (made.Saved own call) (record { type = u; is_object = own }) tt at has refl is
+      by _ at is u has = absurd is

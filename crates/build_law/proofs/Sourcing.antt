@@ -60,17 +60,7 @@ built_next source (w ∷ ws) (suc t) = built_next (next_source source w) ws t
 counted_as : (how : Made) (it : Emitted) (s name : ℕ) → emitted_as how ≡ Some it
     → next_wanted s (Some how) ≡ s + length (if is_kept (Some how) then name ∷ [] else [])
 counted_as (made.Input file columns) it s name h = cc
-counted_as (made.Do source f o) it s name h = refl
-counted_as (made.Group source) it s name h = refl
-counted_as (made.Combine source by) it s name h = refl
-counted_as (made.Flatten sources) it s name h = refl
-counted_as (made.Count source) it s name h = refl
-counted_as (made.Join left right) it s name h = refl
-counted_as (made.Top many source) it s name h = refl
-counted_as (made.CombineAll source by) it s name h = refl
-counted_as (made.Operate objects f) it s name h = refl
-counted_as (made.DoWith source f object) it s name h = refl
-counted_as (made.Saved is_object call) it s name h = refl
+counted_as _ it s name h = refl
 
 module _ (script : Script) (well : IsWellFormed script) where
   -- how many sources stand before a collection, and before a place

@@ -71,6 +71,11 @@ value_in w o k c =
 step_list : (xs zs : List Trap) → AreIn xs zs → AreIn (xs ++ []) zs
 step_list xs zs h = both_in xs [] zs h (none_in zs)
 
+-- as many in one list as in the other
+pub record AreSame (xs ys : List Trap) : Type 0 where
+  pub from : AreIn xs ys
+  pub into : AreIn ys xs
+
 module _ (script : Script) (w : World) (m : Place → Collection) (gives : ℕ → Place) where
   abbrev pub trapped : List Entry → List Trap
   trapped es = flat_map (λ e. traps w m e.node) es
@@ -122,6 +127,25 @@ module _ (script : Script) (w : World) (m : Place → Collection) (gives : ℕ �
         → c.traps ≡ d.traps
     last_traps k c d holds is = ap (λ (x : Collection). x.traps) (sym holds ∙ is)
 
+    -- two steps with groups between them, and what stands behind
+    two_steps : (one two : Collection) (rest : List Trap) (d : Collection)
+        → AreIn one.traps d.traps → Behind (first_of n) d → AreIn two.traps d.traps
+        → rest ≡ d.traps
+        → AreSame ((one.traps ++ []) ++ ((m (first_of n)).traps ++ ((two.traps ++ []) ++ rest)))
+        d.traps
+    two_steps one two rest d first group second same =
+        let groups : List Trap = (m (first_of n)).traps in
+        record {
+          from = both_in (one.traps ++ []) (groups ++ ((two.traps ++ []) ++ rest)) d.traps
+              (step_list one.traps d.traps first)
+              (both_in groups ((two.traps ++ []) ++ rest) d.traps group
+              (both_in (two.traps ++ []) rest d.traps (step_list two.traps d.traps second)
+              (same_in same)));
+          into = into_behind (one.traps ++ []) (groups ++ ((two.traps ++ []) ++ rest)) d.traps
+              (into_behind groups ((two.traps ++ []) ++ rest) d.traps
+              (into_behind (two.traps ++ []) rest d.traps (same_in (sym same))));
+        }
+
     count_traps : (input : ℕ) (d : Collection)
         → Meets w (made_nodes script gives origin source n (made.Count input)) m
         → m (first_of (n + 2)) ≡ d
@@ -165,19 +189,9 @@ module _ (script : Script) (w : World) (m : Place → Collection) (gives : ℕ �
         let first : Behind (first_of n) d = group_behind (n + 1) (first_of n) d h.1.0 second in
         let same : (last.traps ++ []) ++ [] ≡ d.traps =
         one_step_traps last.traps d (last_traps (n + 3) last d h.1.1.1.0.0 is) in
-        let rest : List Trap = (last.traps ++ []) ++ [] in
-        let group : List Trap = (m (first_of n)).traps in
-        record {
-          from = both_in (one.traps ++ []) (group ++ ((most.traps ++ []) ++ rest)) d.traps
-              (step_list one.traps d.traps (given_in n one d h.0.0 first))
-              (both_in group ((most.traps ++ []) ++ rest) d.traps first
-              (both_in (most.traps ++ []) rest d.traps
-              (step_list most.traps d.traps (given_in (n + 2) most d h.1.1.0.0 third))
-              (same_in same)));
-          into = into_behind (one.traps ++ []) (group ++ ((most.traps ++ []) ++ rest)) d.traps
-              (into_behind group ((most.traps ++ []) ++ rest) d.traps
-              (into_behind (most.traps ++ []) rest d.traps (same_in (sym same))));
-        }
+        let all = two_steps one most ((last.traps ++ []) ++ []) d (given_in n one d h.0.0 first)
+        first (given_in (n + 2) most d h.1.1.0.0 third) same in
+        record { from = all.from; into = all.into }
 
     whole_traps : (input : ℕ) (k : Comb) (d : Collection)
         → Meets w (made_nodes script gives origin source n (made.CombineAll input k)) m
@@ -197,19 +211,9 @@ module _ (script : Script) (w : World) (m : Place → Collection) (gives : ℕ �
         let first : Behind (first_of n) d = group_behind (n + 1) (first_of n) d h.1.0 second in
         let same : last.traps ++ [] ≡ d.traps =
         append-nil last.traps ∙ last_traps (n + 3) last d h.1.1.1.0 is in
-        let rest : List Trap = last.traps ++ [] in
-        let group : List Trap = (m (first_of n)).traps in
-        record {
-          from = both_in (one.traps ++ []) (group ++ ((whole.traps ++ []) ++ rest)) d.traps
-              (step_list one.traps d.traps (given_in n one d h.0.0 first))
-              (both_in group ((whole.traps ++ []) ++ rest) d.traps first
-              (both_in (whole.traps ++ []) rest d.traps
-              (step_list whole.traps d.traps (given_in (n + 2) whole d h.1.1.0.0 third))
-              (same_in same)));
-          into = into_behind (one.traps ++ []) (group ++ ((whole.traps ++ []) ++ rest)) d.traps
-              (into_behind group ((whole.traps ++ []) ++ rest) d.traps
-              (into_behind (whole.traps ++ []) rest d.traps (same_in (sym same))));
-        }
+        let all = two_steps one whole (last.traps ++ []) d (given_in n one d h.0.0 first) first
+        (given_in (n + 2) whole d h.1.1.0.0 third) same in
+        record { from = all.from; into = all.into }
 
     -- the traps behind two collections together
     left_in : (a b : List Trap) → AreIn a (trap_set (a ++ (b ++ [])))
@@ -351,11 +355,6 @@ traps_made (None ∷ made) (suc j) c h = traps_made made j c h
 traps_made (Some d ∷ made) (suc j) c h =
     λ t is. Contains-append_right d.traps (flat_map traps_behind made) t
     (traps_made made j c h t is)
-
--- as many in one list as in the other
-pub record AreSame (xs ys : List Trap) : Type 0 where
-  pub from : AreIn xs ys
-  pub into : AreIn ys xs
 
 pub same_traps : (xs ys : List Trap) → AreSame xs ys → trap_set xs ≡ trap_set ys
 same_traps xs ys h = same_set trap_le trap_order xs ys (λ t. (h.from t, h.into t))

@@ -27,11 +27,6 @@ use Rattle.build_law.proofs.TypedObjects.{beside_typed, operate_typed, types_rea
 module _ (functions : Named Function) (before : Named Node) where
   -- the types of the nodes before the last
   abbrev pub inner_types : (made : Made) (t : Ty) → Fits functions before made t → List Ty
-  inner_types (made.Input file columns) t fit = []
-  inner_types (made.Do input f output) t fit = []
-  inner_types (made.Group input) t fit = []
-  inner_types (made.Combine input k) t fit = []
-  inner_types (made.Flatten inputs) t fit = []
   inner_types (made.Count input) t fit =
       table_of fit.member type.Int ∷ table_of fit.member (type.List type.Int) ∷ []
   inner_types (made.Join left right) t fit =
@@ -45,9 +40,7 @@ module _ (functions : Named Function) (before : Named Node) where
   inner_types (made.CombineAll input k) t fit =
       table_of type.Int fit.member ∷ table_of type.Int (type.List fit.member)
       ∷ table_of type.Int t ∷ []
-  inner_types (made.Operate objects f) t fit = []
-  inner_types (made.DoWith input f object) t fit = []
-  inner_types (made.Saved is_object call) t fit = []
+  inner_types _ t fit = []
 
   abbrev pub inner_rows_of : (made : Made) (t : Ty) → Fits functions before made t → List (List Ty)
   inner_rows_of made t fit = map (λ u. u ∷ []) (inner_types made t fit)
@@ -55,17 +48,7 @@ module _ (functions : Named Function) (before : Named Node) where
   pub inner_count : (made : Made) (t : Ty) (fit : Fits functions before made t)
       → length (inner_types made t fit) ≡ before_last made
   inner_count (made.Input file columns) t fit = refl
-  inner_count (made.Do input f output) t fit = refl
-  inner_count (made.Group input) t fit = refl
-  inner_count (made.Combine input k) t fit = refl
-  inner_count (made.Flatten inputs) t fit = refl
-  inner_count (made.Count input) t fit = refl
-  inner_count (made.Join left right) t fit = refl
-  inner_count (made.Top many input) t fit = refl
-  inner_count (made.CombineAll input k) t fit = refl
-  inner_count (made.Operate objects f) t fit = refl
-  inner_count (made.DoWith input f object) t fit = refl
-  inner_count (made.Saved is_object call) t fit = refl
+  inner_count _ t fit = refl
 
 module _ (script : Script) (s : Signatures) (functions : Named Function) (before : Named Node)
     (τ : Place → Ty) (gives : ℕ → Place) (typ : ℕ → Ty) where

@@ -220,18 +220,8 @@ module _ (script : Script) (well : IsWellFormed script) where
     row_is : (how : Made) → last_row script type.Int typ inner number how
         ≡ row_of script (signatures_of script) script.functions f.it.before τ (gives script) typ
         number how f.it.type
-    row_is (made.Input file columns) = ap (λ u. u ∷ []) typ_is
     row_is (made.Do input g output) = refl
-    row_is (made.Group input) = ap (λ u. u ∷ []) typ_is
-    row_is (made.Combine input k) = ap (λ u. u ∷ []) typ_is
-    row_is (made.Flatten inputs) = ap (λ u. u ∷ []) typ_is
-    row_is (made.Count input) = ap (λ u. u ∷ []) typ_is
-    row_is (made.Join left right) = ap (λ u. u ∷ []) typ_is
-    row_is (made.Top many input) = ap (λ u. u ∷ []) typ_is
-    row_is (made.CombineAll input k) = ap (λ u. u ∷ []) typ_is
-    row_is (made.Operate objects g) = ap (λ u. u ∷ []) typ_is
-    row_is (made.DoWith input g object) = ap (λ u. u ∷ []) typ_is
-    row_is (made.Saved is_object call) = ap (λ u. u ∷ []) typ_is
+    row_is _ = ap (λ u. u ∷ []) typ_is
 
     abbrev NamesOf : Made → Type 0
     NamesOf how =
@@ -244,18 +234,8 @@ module _ (script : Script) (well : IsWellFormed script) where
     names_of (other how apart) at = none how apart
       where
         none : (how : Made) → IsOther how → NamesOf how
-        none (made.Input file columns) h = tt
         none (made.Do input g o) h = absurd h
-        none (made.Group input) h = tt
-        none (made.Combine input k) h = tt
-        none (made.Flatten inputs) h = tt
-        none (made.Count input) h = tt
-        none (made.Join left right) h = tt
-        none (made.Top many input) h = tt
-        none (made.CombineAll input k) h = tt
-        none (made.Operate objects g) h = tt
-        none (made.DoWith input g object) h = tt
-        none (made.Saved is_object call) h = tt
+        none _ h = tt
 
     abbrev InputOf : Made → Type 0
     InputOf how =
@@ -268,20 +248,11 @@ module _ (script : Script) (well : IsWellFormed script) where
         ap source_type
         (source_is script well t number (made.Input file columns) f.it.type
         (record { type = f.it.type; is_object = false }) tt at f.type refl)
-    input_of (made.Do input g output) at = tt
-    input_of (made.Group input) at = tt
-    input_of (made.Combine input k) at = tt
-    input_of (made.Flatten inputs) at = tt
-    input_of (made.Count input) at = tt
-    input_of (made.Join left right) at = tt
-    input_of (made.Top many input) at = tt
-    input_of (made.CombineAll input k) at = tt
-    input_of (made.Operate objects g) at = tt
-    input_of (made.DoWith input g object) at = tt
     input_of (made.Saved is_object call) at =
         ap source_type
         (source_is script well t number (made.Saved is_object call) f.it.type
         (record { type = f.it.type; is_object = is_object }) tt at f.type refl)
+    input_of _ at = tt
 
     the_typed : AllByRecursion (λ e. NodeTyped (signatures_of script) τ e.number e.node)
         (made_nodes script (gives script) number (source script t) (start script t) the)

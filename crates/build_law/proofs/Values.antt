@@ -41,11 +41,6 @@ greatest_of w origin many c = whole_of w origin (by.Top many) c
 module _ (w : World) (at : ℕ → Collection) where
   -- what the nodes before the last of a collection give
   abbrev pub inner_of : ℕ → Made → List Collection
-  inner_of origin (made.Input file columns) = []
-  inner_of origin (made.Do input function output) = []
-  inner_of origin (made.Group input) = []
-  inner_of origin (made.Combine input comb) = []
-  inner_of origin (made.Flatten inputs) = []
   inner_of origin (made.Count input) =
       ones w origin (at input) ∷ by_key (ones w origin (at input)) ∷ []
   inner_of origin (made.Join left right) =
@@ -61,9 +56,7 @@ module _ (w : World) (at : ℕ → Collection) where
       zeros w origin (at input)
       ∷ by_key (zeros w origin (at input))
       ∷ whole_of w origin comb (at input) ∷ []
-  inner_of origin (made.Operate objects function) = []
-  inner_of origin (made.DoWith input function object) = []
-  inner_of origin (made.Saved is_object call) = []
+  inner_of origin _ = []
 
   abbrev pub inner_rows : ℕ → Made → List (List Collection)
   inner_rows origin made = map (λ c. c ∷ []) (inner_of origin made)
@@ -71,17 +64,7 @@ module _ (w : World) (at : ℕ → Collection) where
   -- as many as nodes
   pub inner_length : (origin : ℕ) (made : Made) → length (inner_of origin made) ≡ before_last made
   inner_length origin (made.Input file columns) = refl
-  inner_length origin (made.Do input function output) = refl
-  inner_length origin (made.Group input) = refl
-  inner_length origin (made.Combine input comb) = refl
-  inner_length origin (made.Flatten inputs) = refl
-  inner_length origin (made.Count input) = refl
-  inner_length origin (made.Join left right) = refl
-  inner_length origin (made.Top many input) = refl
-  inner_length origin (made.CombineAll input comb) = refl
-  inner_length origin (made.Operate objects function) = refl
-  inner_length origin (made.DoWith input function object) = refl
-  inner_length origin (made.Saved is_object call) = refl
+  inner_length origin _ = refl
 
 -- the number that is so many behind a list
 pub behind_list : {A : Type 0} (xs ys : List A) (n k : ℕ) (d : A) → length xs ≡ n

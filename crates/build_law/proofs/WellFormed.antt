@@ -130,18 +130,8 @@ module _ (script : Script) (well : IsWellFormed script) where
   other_read : (t number : ℕ) (how : Made) → IsOther how
       → is_read (graph_of script) (first_of (start script t + before_last how)) ≡ true
       → LastRead t number how
-  other_read t number (made.Input file columns) apart h = h
   other_read t number (made.Do input f o) apart h = absurd apart
-  other_read t number (made.Group input) apart h = h
-  other_read t number (made.Combine input k) apart h = h
-  other_read t number (made.Flatten inputs) apart h = h
-  other_read t number (made.Count input) apart h = h
-  other_read t number (made.Join left right) apart h = h
-  other_read t number (made.Top many input) apart h = h
-  other_read t number (made.CombineAll input k) apart h = h
-  other_read t number (made.Operate objects f) apart h = h
-  other_read t number (made.DoWith input f object) apart h = h
-  other_read t number (made.Saved is_object call) apart h = h
+  other_read t number _ apart h = h
 
   last_read : (t number : ℕ) {mk : Made} → Kind mk
       → get_or (built script) t None ≡ Some (built_of number mk) → LastRead t number mk
@@ -208,18 +198,8 @@ module _ (script : Script) (well : IsWellFormed script) where
 
   flatten_fits : (before : Named Node) (made : Made) (type : Ty)
       → Fits script.functions before made type → IsShort made → FlattenFits made
-  flatten_fits before (made.Input file columns) type fit short = tt
-  flatten_fits before (made.Do input f output) type fit short = tt
-  flatten_fits before (made.Group input) type fit short = tt
-  flatten_fits before (made.Combine input k) type fit short = tt
   flatten_fits before (made.Flatten inputs) type fit short = (fit.some, short)
-  flatten_fits before (made.Count input) type fit short = tt
-  flatten_fits before (made.Join left right) type fit short = tt
-  flatten_fits before (made.Top many input) type fit short = tt
-  flatten_fits before (made.CombineAll input k) type fit short = tt
-  flatten_fits before (made.Operate objects f) type fit short = tt
-  flatten_fits before (made.DoWith input f object) type fit short = tt
-  flatten_fits before (made.Saved is_object call) type fit short = tt
+  flatten_fits before _ type fit short = tt
 
   fits_short : (before nodes : Named Node) (i : ℕ) (made : Made)
       → AllFit script.functions before nodes

@@ -21,7 +21,7 @@ use Rattle.run_course.specs.declared.stop.Trapped.{Trapped as NamedTrap}
 use Rattle.run_texts.specs.Lines.{trap_line}
 use Rattle.run_texts.specs.declared.status.Place.TheVariants.{File, Screen}
 use Rattle.run_texts.specs.declared.status.Status.{Status}
-use Rattle.run_texts.specs.declared.status.Status.TheVariants.{Done, GaveUp, Usage, ScriptRefused, InputRefused, Trap, ReadFault, WriteFault, WantOfMemory, TooLong, NoFile, PlanRefused}
+use Rattle.run_texts.specs.declared.status.Status.TheVariants.{Done, GaveUp, Trap, WriteFault}
 use Rattle.saved_results.specs.declared.saved.Saved.{Saved}
 use Rattle.script_program.specs.Script.{Script}
 use Rattle.cached_course.specs.Answers.{Answers, AsksHosts, AsksRun, HasLooked, IsKept, WasReused}
@@ -37,22 +37,7 @@ may_deliver : (files : List NamedBytes) (text : List ℕ) (kept : List CacheEntr
     → MayHaveRun status
 may_deliver files text kept shelf shelf' screen screen' cache later Done is = tt
 may_deliver files text kept shelf shelf' screen screen' cache later (WriteFault place) is = tt
-may_deliver files text kept shelf shelf' screen screen' cache later Usage is = absurd is
-may_deliver files text kept shelf shelf' screen screen' cache later
-    (ScriptRefused line kind) is = absurd is
-may_deliver files text kept shelf shelf' screen screen' cache later
-    (InputRefused name row column kind) is = absurd is
-may_deliver files text kept shelf shelf' screen screen' cache later
-    (Trap origin kind element) is = tt
-may_deliver files text kept shelf shelf' screen screen' cache later (ReadFault name) is = absurd is
-may_deliver files text kept shelf shelf' screen screen' cache later
-    (GaveUp stage phase task) is = tt
-may_deliver files text kept shelf shelf' screen screen' cache later WantOfMemory is = tt
-may_deliver files text kept shelf shelf' screen screen' cache later
-    (TooLong name limit) is = absurd is
-may_deliver files text kept shelf shelf' screen screen' cache later (NoFile name) is = absurd is
-may_deliver files text kept shelf shelf' screen screen' cache later
-    (PlanRefused step kind) is = absurd is
+may_deliver files text kept shelf shelf' screen screen' cache later _ is = absurd is
 
 -- all files that the run reads were asked for
 pub delivered_for : (words : List (List ℕ)) (source source' : SeenSource)
@@ -64,26 +49,8 @@ delivered_for words source source' files text kept shelf shelf' screen screen' c
     Done is all = all
 delivered_for words source source' files text kept shelf shelf' screen screen' cache later
     (WriteFault place) is all = all
-delivered_for words source source' files text kept shelf shelf' screen screen' cache later
-    Usage is all = absurd is
-delivered_for words source source' files text kept shelf shelf' screen screen' cache later
-    (ScriptRefused line kind) is all = absurd is
-delivered_for words source source' files text kept shelf shelf' screen screen' cache later
-    (InputRefused name row column kind) is all = absurd is
-delivered_for words source source' files text kept shelf shelf' screen screen' cache later
-    (Trap origin kind element) is all = all
-delivered_for words source source' files text kept shelf shelf' screen screen' cache later
-    (ReadFault name) is all = absurd is
-delivered_for words source source' files text kept shelf shelf' screen screen' cache later
-    (GaveUp stage phase task) is all = all
-delivered_for words source source' files text kept shelf shelf' screen screen' cache later
-    WantOfMemory is all = absurd is
-delivered_for words source source' files text kept shelf shelf' screen screen' cache later
-    (TooLong name limit) is all = absurd is
-delivered_for words source source' files text kept shelf shelf' screen screen' cache later
-    (NoFile name) is all = absurd is
-delivered_for words source source' files text kept shelf shelf' screen screen' cache later
-    (PlanRefused step kind) is all = all
+delivered_for words source source' files text kept shelf shelf' screen screen' cache later _ is all =
+    absurd is
 
 -- ---- a cache that was to keep some entries
 
@@ -204,16 +171,7 @@ module _ (cache middle later : SeenCache) (same : middle.entries ≡ cache.entri
         (files, text, was_reused, left.0, ap (λ (c : SeenCache). c.entries) left.1 ∙ same, left.2)
     delivered (WriteFault Screen) left =
         (files, text, was_reused, left.0, is_kept left.1, left.2)
-    delivered Usage left = absurd left
-    delivered (NoFile name) left = absurd left
-    delivered (PlanRefused step kind) left = absurd left
-    delivered (TooLong name limit) left = absurd left
-    delivered (ReadFault name) left = absurd left
-    delivered (GaveUp stage phase task) left = absurd left
-    delivered (ScriptRefused line kind) left = absurd left
-    delivered (InputRefused name row column kind) left = absurd left
-    delivered WantOfMemory left = absurd left
-    delivered (Trap origin kind element) left = absurd left
+    delivered _ left = absurd left
 
   -- hosts were asked for what they were asked for before
   asks_then : (words : List (List ℕ)) (told : Option (List NamedBytes)) (olds news : List Account)
@@ -267,19 +225,10 @@ module _ (words : List (List ℕ)) (before after : World) (cache later : SeenCac
         refused = left;
         entries = same;
       }
-  refusal Usage why left = record { cause = why; refused = left; entries = same }
-  refusal (NoFile name) why left = record { cause = why; refused = left; entries = same }
-  refusal (PlanRefused step kind) why left = record { cause = why; refused = left; entries = same }
-  refusal (TooLong name limit) why left = record { cause = why; refused = left; entries = same }
-  refusal (ReadFault name) why left = record { cause = why; refused = left; entries = same }
-  refusal (ScriptRefused line kind) why left =
-      record { cause = why; refused = left; entries = same }
-  refusal (InputRefused name row column kind) why left =
-      record { cause = why; refused = left; entries = same }
-  refusal WantOfMemory why left = record { cause = why; refused = left; entries = same }
   refusal Done why left = absurd why
   refusal (WriteFault place) why left = absurd why
   refusal (Trap origin kind element) why left = absurd why
+  refusal _ why left = record { cause = why; refused = left; entries = same }
 
   pub trapped : (trap : NamedTrap)
       → IsStop words before.source after.source before.hosts after.hosts cache later (Trapped trap)

@@ -14,22 +14,22 @@ use Rattle.kept_results.specs.of_direct_meaning.Inputs.{inputs_of}
 use Rattle.key_meaning.specs.Keyed.{IsShort}
 use Rattle.keyed_loading.specs.Files.{AreFilesOf}
 use Rattle.keyed_loading.specs.Keyed.{LoadsKeyed}
-use Rattle.outside.specs.Asked.{Asks, AsksFront}
+use Rattle.outside.specs.Asked.{Asks}
 use Rattle.outside.specs.Seen.{SeenSource}
 use Rattle.outside.specs.declared.file.File.{File}
-use Rattle.run_course.specs.Answers.{IsCause}
 use Rattle.run_course.specs.Asked.{AskFor}
 use Rattle.run_course.specs.Asks.{AsksFor}
 use Rattle.run_course.specs.Written.{text_shown}
 use Rattle.run_course.specs.declared.stop.Stop.{Stop}
 use Rattle.run_course.specs.declared.stop.Stop.TheVariants.{Refused}
 use Rattle.run_course.specs.inner.Course.{AsksInCall, AsksUntil, MayHaveCome, files_with}
+use Rattle.run_course.specs.of_script_loading.Asks.{AsksToStop}
 use Rattle.run_course.specs.of_script_loading.Causes.{IsInputsCause, IsLoaded, IsScriptCause}
 use Rattle.run_course.specs.of_script_loading.Loads.{file_names}
 use Rattle.run_course.specs.of_script_plans.Plans.{IsScriptPlan}
 use Rattle.run_course.specs.of_script_run.Runs.{IsRan}
 use Rattle.run_course.specs.of_script_run.declared.run.Ran.{Ran}
-use Rattle.run_course.proofs.AskLemmas.{command_for, front_more, inputs_with, run_until, whole_front}
+use Rattle.run_course.proofs.AskLemmas.{command_for, inputs_with, run_until, whole_front}
 use Rattle.run_course.proofs.CauseLemmas.{inputs_cause, reads, script_cause}
 use Rattle.run_course.proofs.HostLemmas.{may_stop}
 use Rattle.run_course.proofs.RunLemmas.{files_at}
@@ -37,7 +37,7 @@ use Rattle.run_course.proofs.of_script_loading.SinceLemmas.{inputs_since}
 use Rattle.run_settings.specs.Settings.{RunSettings}
 use Rattle.run_texts.specs.Texts.{size_lines}
 use Rattle.run_texts.specs.declared.status.Status.{Status}
-use Rattle.run_texts.specs.declared.status.Status.TheVariants.{Done, GaveUp, Usage, ScriptRefused, InputRefused, Trap, ReadFault, WriteFault, WantOfMemory, TooLong, NoFile, PlanRefused}
+use Rattle.run_texts.specs.declared.status.Status.TheVariants.{GaveUp, WantOfMemory}
 use Rattle.script_keys.specs.declared.outline.Outline.{Outline}
 use Rattle.script_program.specs.Script.{Script}
 use Rattle.script_program.specs.declared.made.Output.{Output}
@@ -86,50 +86,20 @@ module _ (words : List (List ℕ)) (before middle after : SeenSource) (olds news
     (asks : AskFor words (Run s None) name) where
   pub script_stops : (status : Status) → IsScriptCause s.tries before after name status
       → IsStop words before after olds news cache later (Refused status)
-  script_stops (ScriptRefused line kind) cause =
-      script_cause words before after olds news (Run s None) name (ScriptRefused line kind) asks
-      cause
-  script_stops (NoFile other) cause =
-      script_cause words before after olds news (Run s None) name (NoFile other) asks cause
-  script_stops (ReadFault other) cause =
-      script_cause words before after olds news (Run s None) name (ReadFault other) asks cause
-  script_stops (TooLong other most) cause =
-      script_cause words before after olds news (Run s None) name (TooLong other most) asks cause
-  script_stops WantOfMemory cause = tt
-  script_stops Usage cause = absurd cause
-  script_stops Done cause = absurd cause
-  script_stops (InputRefused other row column kind) cause = absurd cause
-  script_stops (WriteFault place) cause = absurd cause
   script_stops (GaveUp stage phase task) cause = absurd cause
-  script_stops (Trap origin kind element) cause = absurd cause
-  script_stops (PlanRefused step kind) cause = absurd cause
+  script_stops status cause =
+      script_cause words before after olds news (Run s None) name status asks cause
 
   module _ (script : Script) (loaded : IsLoaded before.files name script)
       (told : middle.files ≡ before.files) (since : before.faults ≤ middle.faults) where
-    inputs_for : (status : Status)
-        → IsInputsCause s.tries middle after (inputs_of script) status
-        → IsCause words before after olds news status
-    inputs_for status cause =
-        inputs_cause words before after olds news (Run s None) script status
-        (reads words before.files (Run s None) name script (asks, loaded))
-        (inputs_since s.tries before middle after (inputs_of script) status told since cause)
-
     pub inputs_stop : (status : Status)
         → IsInputsCause s.tries middle after (inputs_of script) status
         → IsStop words before after olds news cache later (Refused status)
-    inputs_stop (InputRefused other row column kind) cause =
-        inputs_for (InputRefused other row column kind) cause
-    inputs_stop (NoFile other) cause = inputs_for (NoFile other) cause
-    inputs_stop (ReadFault other) cause = inputs_for (ReadFault other) cause
-    inputs_stop (TooLong other most) cause = inputs_for (TooLong other most) cause
-    inputs_stop WantOfMemory cause = tt
-    inputs_stop (ScriptRefused line kind) cause = absurd cause.6
-    inputs_stop Usage cause = absurd cause.6
-    inputs_stop Done cause = absurd cause.6
-    inputs_stop (WriteFault place) cause = absurd cause.6
     inputs_stop (GaveUp stage phase task) cause = absurd cause.6
-    inputs_stop (Trap origin kind element) cause = absurd cause.6
-    inputs_stop (PlanRefused step kind) cause = absurd cause.6
+    inputs_stop status cause =
+        inputs_cause words before after olds news (Run s None) script status
+        (reads words before.files (Run s None) name script (asks, loaded))
+        (inputs_since s.tries before middle after (inputs_of script) status told since cause)
 
 -- ---- what its source was asked for
 
@@ -141,14 +111,11 @@ module _ (words : List (List ℕ)) (before middle after : SeenSource) (s : RunSe
   names = file_names (inputs_of script)
 
   -- not all inputs have rows
-  pub inputs_asked : (status : Status)
-      → IsInputsCause s.tries middle after (inputs_of script) status
-      → AsksFront s.tries names middle after → AsksFor words before after status
-  inputs_asked status cause front =
+  pub inputs_asked : (status : Status) → AsksToStop s.tries names middle after status
+      → AsksFor words before after status
+  inputs_asked status front =
       command_for words (Run s None) name script before middle after asks loaded first
-      {T = Status} (Err (Refused status))
-      (inputs_with s.tries (names ++ []) middle after s.tries middle after (inputs_of script)
-      status cause (front_more s.tries names [] middle after front))
+      {T = Status} (Err (Refused status)) (inputs_with s.tries names middle after [] status front)
 
   -- all have
   module _ (rest : Asks s.tries names middle after) where

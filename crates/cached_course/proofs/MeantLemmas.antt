@@ -1,6 +1,6 @@
 -- A run over a sound cache means what the script means, and leaves a sound cache.
 use Rattle.std.proofs.Common.{◌≡◌, ◌∙◌, ℕ, List, [], ◌∷◌, map, Option, Some, None, refl, sym, ap, subst, true≢false}
-use Rattle.std.specs.Prelude.{IfSome, IsSome, IsSomeAnd}
+use Rattle.std.specs.Prelude.{IfSome, IsSomeAnd}
 use Rattle.std.specs.List.{AllByRecursion as Each, Contains}
 use Rattle.cache_store.specs.declared.entry.CacheEntry.{CacheEntry}
 use Rattle.cache_store.specs.Seen.{SeenCache}
@@ -43,6 +43,7 @@ use Rattle.cached_course.specs.Sound.{AreSound, IsSound, line_size, saved_of, va
 use Rattle.cached_course.proofs.AskedLemmas.{keyed_read, same_firsts}
 use Rattle.cached_course.proofs.KeyedLemmas.{IsKeyedBy, IsMeantBy, all_keyed, found_meant, has_members, is_clean, keyed_here}
 use Rattle.cached_course.proofs.SoundLemmas.{files_same, sizes_same, table_same, value_same}
+use Rattle.cached_course.specs.inner.Laws.{MeantLaw, SoundLaw}
 use Rattle.cached_course.proofs.EntryLemmas.{IsSoundEntry, each_first, not_found_all, told_sound}
 
 -- what the laws of the crates below say
@@ -275,11 +276,7 @@ told_entries : (o : Option (List CacheEntry)) → IsSomeAnd o AreSound
 told_entries None sound = absurd sound
 told_entries (Some entries) sound = (entries, refl, sound)
 
-pub meant_for : Laws → (words : List (List ℕ)) (told : Option (List File))
-    (cache later : SeenCache) (it : HasLooked words told cache later) (rows : List (List Value))
-    (table : Table) → IsSome told → IsSound cache
-    → IsReused told it.script (found it) rows table
-    → IsAsMeant told it.script (found it) rows table
+pub meant_for : Laws → MeantLaw
 meant_for laws words None cache later it rows table some sound reused =
     absurd (true≢false (sym some))
 meant_for laws words (Some files) cache later it rows table some sound reused =
@@ -289,13 +286,7 @@ meant_for laws words (Some files) cache later it rows table some sound reused =
 pub sound_for : Laws → ((one other : Keyed) → key one ≡ key other → IsSameFor one other)
     → ((one other : Keyed) (alike : IsSameFor one other) → alike.here.traps ≡ []
     → alike.there.traps ≡ [])
-    → (words : List (List ℕ)) (told : Option (List File)) (cache later : SeenCache)
-    (it : HasLooked words told cache later) (rows : List (List Value)) (table : Table)
-    → IsSome told → IsSound cache → IsReused told it.script (found it) rows table
-    → traps_of table ≡ []
-    → Each (λ (x : ℕ × List ℕ). IsHeld (value_kept it.script (found it) table x.0))
-    (not_found it.asked it.looked)
-    → HasKept (entries_kept it.script it.asked it.looked table) cache later → IsSound later
+    → SoundLaw
 sound_for laws key_law clean_law words None cache later it rows table some sound reused none held
     kept =
     absurd (true≢false (sym some))

@@ -1,12 +1,10 @@
 -- What a call promises, from what its answer says.
 use Rattle.std.proofs.Common.{◌≡◌, ◌≤◌, ◌⊎◌, inl, inr, ℕ, false, List, [], Option, None, is_some, refl, arith, sym, subst}
 use Rattle.std.specs.Prelude.{IsSome, IsSomeAnd}
-use Rattle.std.specs.List.{AllByRecursion}
 use Rattle.cache_store.specs.declared.entry.CacheEntry.{CacheEntry}
 use Rattle.cache_store.specs.Seen.{SeenCache}
 use Rattle.command_words.specs.declared.words.Command.{Command}
 use Rattle.command_words.specs.declared.words.Command.TheVariants.{Run}
-use Rattle.flume_value.specs.Ranges.{IsHeld}
 use Rattle.flume_value.specs.declared.value.Value.{Value}
 use Rattle.kept_results.specs.of_direct_meaning.Direct.{traps_of}
 use Rattle.kept_results.specs.of_direct_meaning.Inputs.{inputs_of}
@@ -39,30 +37,11 @@ use Rattle.run_texts.specs.declared.status.Status.{Status}
 use Rattle.run_texts.specs.declared.status.Status.TheVariants.{Done, GaveUp, Usage, ScriptRefused, InputRefused, Trap, ReadFault, WriteFault, WantOfMemory, TooLong, NoFile, PlanRefused}
 use Rattle.script_program.specs.Script.{Script}
 use Rattle.cached_course.specs.Answers.{Answers, AsksHosts, HasLooked, IsGaveUp, IsKept, WasReused, found, lists_run, script_run}
-use Rattle.cached_course.specs.Kept.{HasKept, entries_kept, value_kept}
-use Rattle.cached_course.specs.Looked.{not_found}
-use Rattle.cached_course.specs.Promises.{CanRun, Ends, IsAsMeant, Promises}
+use Rattle.cached_course.specs.Promises.{CanRun, Ends, Promises}
 use Rattle.cached_course.specs.Reused.{IsReused}
 use Rattle.cached_course.specs.Sound.{AreSound, IsSound}
+use Rattle.cached_course.specs.inner.Laws.{MeantLaw, SoundLaw}
 use Rattle.cached_course.proofs.ReadLemmas.{looked_reads}
-
--- what the laws of a sound cache say
-abbrev pub MeantLaw : Type 0
-MeantLaw =
-    (words : List (List ℕ)) (told : Option (List NamedBytes)) (cache later : SeenCache)
-    (it : HasLooked words told cache later) (rows : List (List Value)) (table : Table)
-    → IsSome told → IsSound cache → IsReused told it.script (found it) rows table
-    → IsAsMeant told it.script (found it) rows table
-
-abbrev pub SoundLaw : Type 0
-SoundLaw =
-    (words : List (List ℕ)) (told : Option (List NamedBytes)) (cache later : SeenCache)
-    (it : HasLooked words told cache later) (rows : List (List Value)) (table : Table)
-    → IsSome told → IsSound cache → IsReused told it.script (found it) rows table
-    → traps_of table ≡ []
-    → AllByRecursion (λ (one : ℕ × List ℕ). IsHeld (value_kept it.script (found it) table one.0))
-    (not_found it.asked it.looked)
-    → HasKept (entries_kept it.script it.asked it.looked table) cache later → IsSound later
 
 -- settings of one command
 settings_of : (s t : RunSettings) → Run s None ≡ Run t None → s ≡ t
@@ -85,24 +64,7 @@ module _ (words : List (List ℕ)) (before after : World) (cache later : SeenCac
   ended (WriteFault (File name)) none answers = tt
   ended (WriteFault Screen) none answers =
       begun_then answers.0 before.shelf after.shelf none answers.3.begun
-  ended Usage none answers =
-      same_begun before.shelf after.shelf none answers.refused.shelf
-  ended (NoFile name) none answers =
-      same_begun before.shelf after.shelf none answers.refused.shelf
-  ended (TooLong name limit) none answers =
-      same_begun before.shelf after.shelf none answers.refused.shelf
-  ended (ReadFault name) none answers =
-      same_begun before.shelf after.shelf none answers.refused.shelf
-  ended (ScriptRefused line kind) none answers =
-      same_begun before.shelf after.shelf none answers.refused.shelf
-  ended (InputRefused name row column kind) none answers =
-      same_begun before.shelf after.shelf none answers.refused.shelf
-  ended (PlanRefused step kind) none answers =
-      same_begun before.shelf after.shelf none answers.refused.shelf
-  ended (GaveUp stage phase task) none answers =
-      same_begun before.shelf after.shelf none answers.refused.shelf
-  ended WantOfMemory none answers =
-      same_begun before.shelf after.shelf none answers.refused.shelf
+  ended _ none answers = same_begun before.shelf after.shelf none answers.refused.shelf
 
   left : (status : Status) → before.shelf.begun ≡ false → Says status
       → after.shelf.left ≡ before.shelf.left
@@ -112,19 +74,7 @@ module _ (words : List (List ℕ)) (before after : World) (cache later : SeenCac
       left_then answers.0 before.shelf after.shelf none answers.3.4.left
   left (WriteFault Screen) none answers =
       left_then answers.0 before.shelf after.shelf none answers.3.left
-  left Usage none answers = same_left before.shelf after.shelf answers.refused.shelf
-  left (NoFile name) none answers = same_left before.shelf after.shelf answers.refused.shelf
-  left (TooLong name limit) none answers = same_left before.shelf after.shelf answers.refused.shelf
-  left (ReadFault name) none answers = same_left before.shelf after.shelf answers.refused.shelf
-  left (ScriptRefused line kind) none answers =
-      same_left before.shelf after.shelf answers.refused.shelf
-  left (InputRefused name row column kind) none answers =
-      same_left before.shelf after.shelf answers.refused.shelf
-  left (PlanRefused step kind) none answers =
-      same_left before.shelf after.shelf answers.refused.shelf
-  left (GaveUp stage phase task) none answers =
-      same_left before.shelf after.shelf answers.refused.shelf
-  left WantOfMemory none answers = same_left before.shelf after.shelf answers.refused.shelf
+  left _ none answers = same_left before.shelf after.shelf answers.refused.shelf
 
   -- ---- refusals
 
@@ -291,16 +241,7 @@ module _ (words : List (List ℕ)) (before after : World) (cache later : SeenCac
     sound Done answers = kept_sound answers.0 answers.1 answers.2 answers.4
     sound (WriteFault (File name)) answers = same_sound answers.4
     sound (WriteFault Screen) answers = kept_sound answers.0 answers.1 answers.2 answers.4
-    sound (Trap origin kind element) answers = same_sound answers.entries
-    sound Usage answers = same_sound answers.entries
-    sound (NoFile name) answers = same_sound answers.entries
-    sound (TooLong name limit) answers = same_sound answers.entries
-    sound (ReadFault name) answers = same_sound answers.entries
-    sound (ScriptRefused line kind) answers = same_sound answers.entries
-    sound (InputRefused name row column kind) answers = same_sound answers.entries
-    sound (PlanRefused step kind) answers = same_sound answers.entries
-    sound (GaveUp stage phase task) answers = same_sound answers.entries
-    sound WantOfMemory answers = same_sound answers.entries
+    sound _ answers = same_sound answers.entries
 
   -- ---- all of it
 

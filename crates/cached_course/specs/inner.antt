@@ -1,3 +1,4 @@
 pub mod Found
 pub mod Course
 pub mod Missing
+pub mod Laws

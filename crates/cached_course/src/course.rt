@@ -12,7 +12,7 @@ ghost use Rattle.cached_course.specs.Kept.{HasKept};
 ghost use Rattle.cached_course.specs.Promises.{Promises};
 ghost use Rattle.cached_course.specs.inner.Course.{DeliversKept};
 
-use crate::laws::{meant_law, sound_law};
+use crate::laws::reuse_law;
 use crate::saving::{Reused, prepare};
 use cache_store::{Cache, CacheEntry};
 use flume_value::Str;
@@ -45,8 +45,7 @@ pub fn run_cached<X: Threads + Sync, R: Source, H: Host + Send, K: Shelf, P: Scr
         (C.seen cache.old) (C.seen cache.new) result }
     ensures hosts { drop settings.now.workers hosts.new ≡ drop settings.now.workers hosts.old }
 {
-    meant_law();
-    sound_law();
+    reuse_law();
     answer(
         rt, alloc, settings, name, source, hosts, shelf, screen, cache,
     )

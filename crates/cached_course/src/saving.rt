@@ -10,7 +10,7 @@ ghost use Rattle.run_course.specs.Lent.{lent};
 ghost use Rattle.run_course.specs.Written.{text_shown};
 ghost use Rattle.run_course.specs.inner.Course.{AsksInCall, IsRunStop, files_with};
 ghost use Rattle.run_course.specs.of_script_plans.Plans.{IsScriptPlan};
-ghost use Rattle.run_course.specs.of_script_run.Runs.{AsksSomePhases, IsPlanOf, IsRan, phases_of};
+ghost use Rattle.run_course.specs.of_script_run.Runs.{AsksSomePhases, IsPlanOf, phases_of};
 ghost use Rattle.run_texts.specs.Texts.{size_lines};
 ghost use Rattle.kept_results.specs.of_direct_meaning.Inputs.{AreInputs};
 ghost use Rattle.kept_results.specs.Keyed as spec;
@@ -30,12 +30,10 @@ use flume_value::{Items, Pile, Str};
 use kept_results::{given_law, given_lists, nodes_needed, push_counted, sizes_told};
 use keyed_loading::{KeyedInputs, KeyedScript, keyed_inputs, keyed_script};
 use outside::{Host, Source};
-use plan_phases::RunFault;
 use run_course::script_loading::ReadyProgram;
 use run_course::script_run::Ran;
-use run_course::{ShownPlan, Stop, Written, output_files, plan_shown, ran_on, trapped, with_sizes};
+use run_course::{ShownPlan, Stop, Written, output_files, plan_shown, ran_through, with_sizes};
 use run_settings::Settings;
-use run_texts::Status;
 use script_program::Program;
 use std::alloc::{AllocError, Global};
 use std::thread::Threads;
@@ -60,6 +58,7 @@ pub struct Given {
 }
 
 /// Does all of a run but its writing and keeping. Every growth of it is here.
+#[tactic(auto, using(crew::proofs::Accounts::all_grew_not))]
 pub fn prepare<X: Threads + Sync, R: Source, H: Host + Send, C: Cache>(
     rt: &X,
     alloc: Global,
@@ -173,6 +172,7 @@ fn taken_for(
 }
 
 // Runs what is given, by the plan of its program.
+#[tactic(auto, using(crew::proofs::Accounts::all_grew_not))]
 fn run_given<X: Threads + Sync, H: Host + Send>(
     rt: &X,
     alloc: Global,
@@ -237,43 +237,6 @@ fn carried_out<X: Threads + Sync, H: Host + Send>(
     match ran_through(rt, alloc, &program, &plan, lists, hosts, settings) {
         Ok(ran) => Ok(written_out(alloc, &program, &ran, text, known, missing, wanted)?),
         Err(why) => Err(why),
-    }
-}
-
-// Runs a plan of the program, over these lists.
-fn ran_through<X: Threads + Sync, H: Host + Send>(
-    rt: &X,
-    alloc: Global,
-    program: &ReadyProgram,
-    plan: &Plan,
-    lists: Pile<Items>,
-    hosts: &mut [H],
-    settings: &Settings,
-) -> Result<Ran, Stop>
-    requires inputs { AreInputs program.now.script lists }
-    requires of_script { IsPlanOf program.now.script plan.now }
-    requires sixteen { length hosts.old ≡ 16 }
-    ensures ran { IfOk result (IsRan settings.now program.now.script lists plan.now
-        (lent settings.now (map H.account hosts.old))
-        (lent settings.now (map H.account hosts.new))) }
-    ensures stop { IfErr result (IsRunStop settings.now program.now.script lists plan.now
-        (lent settings.now (map H.account hosts.old))
-        (lent settings.now (map H.account hosts.new))) }
-    ensures asked { AsksSomePhases settings.now
-        (phases_of settings.now program.now.script lists plan.now)
-        (lent settings.now (map H.account hosts.old))
-        (lent settings.now (map H.account hosts.new)) }
-    ensures grew { AllZip Grew (map H.account hosts.old) (map H.account hosts.new) }
-    ensures hosts { drop settings.now.workers hosts.new ≡ drop settings.now.workers hosts.old }
-{
-    let held = program.as_program();
-    match ran_on(rt, alloc, program, plan, lists, hosts, settings) {
-        Ok(ran) => Ok(ran),
-        Err(RunFault::Trap(trap)) => Err(trapped(alloc, held, trap)?),
-        Err(RunFault::GaveUp { stage, phase, task }) => {
-            Err(Stop::Refused(Status::GaveUp { stage, phase, task }))
-        }
-        Err(RunFault::Memory) => Err(Stop::Refused(Status::WantOfMemory)),
     }
 }
 

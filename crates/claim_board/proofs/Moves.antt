@@ -22,7 +22,8 @@ use Rattle.claim_board.specs.Told.{draw_of}
 use Rattle.claim_board.proofs.Placing.{before_next}
 use Rattle.std.proofs.lemmas.List.Sums.{sum_by_push, sum_by-cons}
 use Rattle.claim_board.proofs.Totals.{times-cons, total_at, all_at, all_map, one_if_eq}
-use Rattle.claim_board.proofs.Ruling.{place, total_all, total_ones, total_least, total_same, next_set, rest_set_next, next_set_rest, rest_set, rest_at, pass_step}
+use Rattle.claim_board.proofs.Ruling.{place, total_all, total_ones, total_least, total_same, rest_at}
+use Rattle.claim_board.proofs.Stepping.{draw_steps, look_steps, win_steps, lose_steps}
 
 -- each number of a list is one that the list has
 each_member : (xs : List ℕ) → All (λ x. 0 < times x xs) xs
@@ -34,7 +35,7 @@ each_member (x ∷ xs) =
     (λ y h. omega (arith, times-cons y x xs)) (each_member xs))
 
 -- a total that is not 0 has a part that is not
-part : {A : Type 0} (P : A → Type 0) (f : A → ℕ) (xs : List A) → All P xs → 0 < sum_by f xs
+pub part : {A : Type 0} (P : A → Type 0) (f : A → ℕ) (xs : List A) → All P xs → 0 < sum_by f xs
     → (a : A) × P a × (0 < f a)
 part P f [] h l = absurd (omega arith)
 part P f (x ∷ xs) h l =
@@ -65,12 +66,6 @@ word_low tasks tries s t small h = dite (ℕ_discrete (get_or s.words t 0) 0) (�
     ∙ d.1.1 in
     let low : d.0 / tasks < tries = div_lt tasks tries d.0 (omega arith) d.1.0 in omega arith)
 
-pub room_after : (n l x y : ℕ) → n ≤ l + x → y + 0 ≡ x + one_if (leb l n) → n + 1 ≤ l + y
-room_after n l x y before change =
-    ⊎_elim (λ (t : (leb l n ≡ true) × (l ≤ n)). let z : one_if (leb l n)
-    ≡ 1 = ap one_if t.0 in omega arith) (λ (t : (leb l n ≡ false) × (n < l)). omega arith)
-    (leb_tells l n)
-
 module _ (k : Size) (p : PassState) (slots id : ℕ) where
   pub draws : p.ended ≡ false → Allows (Rule k) slots id (pass_view k p, []) 0
       (λ n. (n + 1) % 2 ^ 64) (λ n w. Steps (pass_view k p, []) w (λ k p q. Drawing k p n q))
@@ -78,7 +73,6 @@ module _ (k : Size) (p : PassState) (slots id : ℕ) where
       let n : ℕ = get_or s.words 0 0 in
       let m : ℕ = steps_of (all_passes s.views) in
       let q : PassState = drawn (limit_at k) p m n in
-      let not_yet : one_if p.ended ≡ 0 = ap one_if going in
       let wide = h.wide in
       let room = h.room in
       let size = h.size in
@@ -108,23 +102,9 @@ module _ (k : Size) (p : PassState) (slots id : ℕ) where
         pass_view k q,
         keeps,
         tt,
-        pass_step k s id p q (set s.words 0 ((n + 1) % 18446744073709551616)) (λ j. Draw j) h at
-            refl (length-set s.words 0 _)
-            (λ j e. (
-              p,
-              e,
-              going,
-              λ i. record {
-                next = (next_set s.words ((n + 1) % 18446744073709551616) (omega arith) ∙ sum) i;
-                words = rest_set_next s.words ((n + 1) % 18446744073709551616) i;
-                passes =
-                    set (all_passes s.views) j q;
-              },
-            ))
-            (λ x y before change. subst (λ (z : ℕ). z ≤ limit_at k + y)
-            (sym (next_set s.words ((n + 1) % 18446744073709551616) (omega arith) ∙ sum))
-            (room_after n (limit_at k) x y before
-            (subst (λ (z : ℕ). y + z ≡ x + one_if (leb (limit_at k) n)) not_yet change))),
+        subst (λ (x : ℕ). Rule k record
+            { words = set s.words 0 x; homes = s.homes; views = set s.views id (pass_view k q) })
+            (sym sum) (draw_steps k s id p h at going).0,
         (
           refl,
           (
@@ -165,26 +145,13 @@ module _ (k : Size) (p : PassState) (slots id : ℕ) where
       let pl = place s.views id (pass_view k p) p at refl in
       let good = h.good in
       let later = before_next k.tasks k.tries _ pl.0 p good.order pl.1 in
-      let back = sym (rest_at s.words t) in
       let same : set s.words (t + 1) n ≡ s.words = set-get_or s.words (t + 1) 0 in (
         pass_view k q,
         keeps,
         tt,
         subst (λ (ws : List ℕ). Rule k record
             { words = ws; homes = s.homes; views = set s.views id (pass_view k q) }) (sym same)
-            (pass_step k s id p q s.words (λ j. Look j t) h at refl refl
-            (λ j e. (
-              p,
-              e,
-              small,
-              λ i. record {
-                next = get_or s.words 0 0;
-                words = task_words s.words;
-                passes =
-                    set (all_passes s.views) j (looked p m t (back i));
-              },
-            ))
-            (λ x y before change. omega arith)),
+            (look_steps t k s id p h at small).0,
         (
           refl,
           (
@@ -212,30 +179,13 @@ module _ (k : Size) (p : PassState) (slots id : ℕ) where
       let later = before_next k.tasks k.tries _ pl.0 p good.order pl.1 in
       dite (ℕ_discrete n 0)
       (λ hit. let q : PassState = winning p m d in
-      let yes : eqb n 0 ≡ true = eq-eqb n 0 hit in
-      let ws : List ℕ = set s.words (t + 1) a in
-      let next = next_set_rest s.words t a in
-      let rest = rest_set s.words t a in (
+      let yes : eqb n 0 ≡ true = eq-eqb n 0 hit in (
         pass_view k q,
         keeps,
         tt,
         subst (λ (b : Bool). Rule k (stepped s (t + 1) (either b a n) id [] (pass_view k q) keeps))
             (sym yes)
-            (pass_step k s id p q ws (λ j. Win j d) h at refl (length-set s.words (t + 1) a)
-            (λ j e. (
-              p,
-              e,
-              may,
-              rest_at s.words t
-                  ∙ hit,
-              λ i. record {
-                next = next i;
-                words = rest i;
-                passes =
-                    set (all_passes s.views) j q;
-              },
-            ))
-            (λ x y before change. subst (λ (z : ℕ). z ≤ limit_at k + y) (sym next) (omega arith))),
+            (win_steps d k s id p h at (may, hit)).0,
         (
           refl,
           (
@@ -246,8 +196,7 @@ module _ (k : Size) (p : PassState) (slots id : ℕ) where
         ),
       ))
       (λ miss. let q : PassState = losing p m d n in
-      let no : eqb n 0 ≡ false = ne_eqb n 0 miss in
-      let back = sym (rest_at s.words t) in (
+      let no : eqb n 0 ≡ false = ne_eqb n 0 miss in (
         pass_view k q,
         keeps,
         tt,
@@ -256,20 +205,7 @@ module _ (k : Size) (p : PassState) (slots id : ℕ) where
             (subst (λ (ws : List ℕ). Rule k record
             { words = ws; homes = s.homes; views = set s.views id (pass_view k q) })
             (sym (set-get_or s.words (t + 1) 0))
-            (pass_step k s id p q s.words (λ j. Lose j d) h at refl refl
-            (λ j e. (
-              p,
-              e,
-              may,
-              (λ z. miss (sym (rest_at s.words t) ∙ z)),
-              λ i. record {
-                next = get_or s.words 0 0;
-                words = task_words s.words;
-                passes =
-                    set (all_passes s.views) j (losing p m d (back i));
-              },
-            ))
-            (λ x y before change. omega arith))),
+            (lose_steps d k s id p h at (may, miss)).0),
         (
           refl,
           (

@@ -155,15 +155,23 @@ rest_at (w ∷ ws) t = rw add-one refl
 rest_same : (ws : List ℕ) (i : ℕ) → set ws i (get_or ws i 0) ≡ ws
 rest_same ws i = set-get_or ws i 0
 
+-- wherever the pass stands, p becomes q and the words ws by the event
+abbrev pub Goes : Size → Tab → PassState → PassState → List ℕ → (ℕ → Event) → Type 0
+Goes k s p q ws e =
+    (j : ℕ) → get_elem? (all_passes s.views) j ≡ some p
+    → Step k.tasks k.tries (state_of s.words s.views) (e j) record
+    { next = get_or ws 0 0; words = task_words ws; passes = set (all_passes s.views) j q }
+
+-- the draws past the limit stay as few as the passes that have ended
+abbrev pub StaysLow : Size → Tab → PassState → PassState → List ℕ → Type 0
+StaysLow k s p q ws =
+    (x y : ℕ) → get_or s.words 0 0 ≤ limit_at k + x → y + one_if p.ended ≡ x + one_if q.ended
+    → get_or ws 0 0 ≤ limit_at k + y
+
 -- a step of one pass
 pub pass_step : (k : Size) (s : Tab) (id : ℕ) (p q : PassState) (ws : List ℕ) (e : ℕ → Event)
-    → Rule k s → get_elem? s.views id ≡ some (pass_view k p) → q.number ≡ p.number → length ws
-    ≡ length s.words
-    → ((j : ℕ) → get_elem? (all_passes s.views) j ≡ some p
-    → Step k.tasks k.tries (state_of s.words s.views) (e j) record
-    { next = get_or ws 0 0; words = task_words ws; passes = set (all_passes s.views) j q })
-    → ((x y : ℕ) → get_or s.words 0 0 ≤ limit_at k + x → y + one_if p.ended ≡ x + one_if q.ended
-    → get_or ws 0 0 ≤ limit_at k + y)
+    → Rule k s → get_elem? s.views id ≡ some (pass_view k p) → q.number ≡ p.number
+    → length ws ≡ length s.words → Goes k s p q ws e → StaysLow k s p q ws
     → Rule k record { words = ws; homes = s.homes; views = set s.views id (pass_view k q) }
 pass_step k s id p q ws e h at number size goes room =
     let pl = place s.views id (pass_view k p) p at refl in

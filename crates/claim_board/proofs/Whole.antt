@@ -103,6 +103,12 @@ step_sized tasks tries old (Win p d) new s h = ap (λ (k : BoardState). length k
     ∙ (length-set old.words (d % tasks) (d / tasks + 1) ∙ h)
 step_sized tasks tries old (Lose p d) new s h = ap (λ (k : BoardState). length k.words) s.4 ∙ h
 
+-- where a word is as it was, so are the wins that are to come
+wins_on : (old new n : ℕ) → new ≡ old → (new ≡ 0 → n ≤ 1) × (new ≢ 0 → n ≡ 0)
+    → (old ≡ 0 → n ≤ 1) × (old ≢ 0 → n ≡ 0)
+wins_on old new n same later =
+    (λ z. later.0 (same ∙ z), λ m. later.1 (λ z. m (sym same ∙ z)))
+
 -- the wins that are to come
 wins_left : (tasks tries : ℕ) (old : BoardState) (events : List Event) (new : BoardState)
     (t : ℕ) → 0 < tasks
@@ -110,20 +116,17 @@ wins_left : (tasks tries : ℕ) (old : BoardState) (events : List Event) (new : 
     → (word old t ≡ 0 → wins tasks t events ≤ 1) × (word old t ≢ 0 → wins tasks t events ≡ 0)
 wins_left tasks tries old [] new t some_task size r = ((λ _. omega arith), λ _. refl)
 wins_left tasks tries old (Draw p ∷ es) new t some_task size r =
-    let later = wins_left tasks tries r.0 es new t some_task
-    (step_sized tasks tries old (Draw p) r.0 r.1 size) r.2 in
-    let same = ap (λ (k : BoardState). word k t) r.1.3 in
-    ((λ z. later.0 (same ∙ z)), λ n. later.1 (λ z. n (sym same ∙ z)))
+    wins_on _ _ _ (ap (λ (k : BoardState). word k t) r.1.3)
+    (wins_left tasks tries r.0 es new t some_task
+    (step_sized tasks tries old (Draw p) r.0 r.1 size) r.2)
 wins_left tasks tries old (Look p u ∷ es) new t some_task size r =
-    let later = wins_left tasks tries r.0 es new t some_task
-    (step_sized tasks tries old (Look p u) r.0 r.1 size) r.2 in
-    let same = ap (λ (k : BoardState). word k t) r.1.3 in
-    ((λ z. later.0 (same ∙ z)), λ n. later.1 (λ z. n (sym same ∙ z)))
+    wins_on _ _ _ (ap (λ (k : BoardState). word k t) r.1.3)
+    (wins_left tasks tries r.0 es new t some_task
+    (step_sized tasks tries old (Look p u) r.0 r.1 size) r.2)
 wins_left tasks tries old (Lose p d ∷ es) new t some_task size r =
-    let later = wins_left tasks tries r.0 es new t some_task
-    (step_sized tasks tries old (Lose p d) r.0 r.1 size) r.2 in
-    let same = ap (λ (k : BoardState). word k t) r.1.4 in
-    ((λ z. later.0 (same ∙ z)), λ n. later.1 (λ z. n (sym same ∙ z)))
+    wins_on _ _ _ (ap (λ (k : BoardState). word k t) r.1.4)
+    (wins_left tasks tries r.0 es new t some_task
+    (step_sized tasks tries old (Lose p d) r.0 r.1 size) r.2)
 wins_left tasks tries old (Win p d ∷ es) new t some_task size r =
     let later = wins_left tasks tries r.0 es new t some_task
     (step_sized tasks tries old (Win p d) r.0 r.1 size) r.2 in

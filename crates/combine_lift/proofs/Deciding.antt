@@ -111,11 +111,8 @@ combiner_lifts g n ok =
 
 marked_alike : (h i : Option Comb → Option Comb) (x : Node) → ((k : Option Comb) → h k ≡ i k)
     → marked h x ≡ marked i x
-marked_alike h i (Source r) e = refl
-marked_alike h i (Flatten ins) e = refl
-marked_alike h i (Pdo c f) e = refl
 marked_alike h i (Gbk c o l k) e = ap (λ m. Gbk c o l m) (e k)
-marked_alike h i (Barrier ins o l a) e = refl
+marked_alike h i _ e = refl
 
 -- The nodes with marks that are alike.
 pub marked_same : (s t : ℕ → Option Comb → Option Comb)

@@ -8,9 +8,10 @@ ghost use Rattle.keyed_steps.specs.Types.{TakesType};
 
 use crate::tables::table;
 use crate::wanted::is_int;
-use bag_groups::{group, pair};
+use bag_groups::pair;
+use bag_steps::group;
 use combine_table::Comb;
-use flume_value::{Kind, Pile, Value};
+use flume_value::{Kind, Pile, Value, sorted};
 use keyed_steps::{KeyFault, combine_each};
 use std::alloc::{AllocError, Global};
 use std::test::Fail;
@@ -64,7 +65,8 @@ fn steps(alloc: Global, comb: Comb, pairs: Vec<Value>) -> Result<Vec<Value>, Key
     requires typed { AllHave (table_of ty.Int ty.Int) pairs.items }
     requires takes { TakesType comb ty.Int }
 {
-    let groups = group(alloc, pairs)?;
+    let bag = sorted(pairs)?;
+    let groups = group(alloc, &bag)?;
     combine_each(alloc, comb, &groups)
 }
 

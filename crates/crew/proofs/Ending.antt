@@ -1,8 +1,9 @@
 -- What a phase has when its board is closed.
-use Rattle.std.proofs.Common.{◌≡◌, ◌≢◌, ℕ, zero, suc, ◌+◌, ◌-◌, ◌*◌, ◌/◌, ◌%◌, ◌^◌, ◌<◌, ◌≤◌, Bool, true, false, eqb, ltb, ◌&&◌, cond, ◌⊎◌, inl, inr, ⊎_elim, List, [], ◌∷◌, get_or, map, length, refl, sym, ap, ◌∙◌, subst, arith, mul_comm, true≢false}
+use Rattle.std.proofs.Common.{◌≡◌, ◌≢◌, ℕ, zero, suc, ◌+◌, ◌-◌, ◌*◌, ◌/◌, ◌%◌, ◌^◌, ◌<◌, ◌≤◌, Bool, true, false, eqb, ltb, ◌&&◌, cond, ◌⊎◌, inl, inr, ⊎_elim, List, [], ◌∷◌, get_or, map, take, drop, ◌++◌, length, refl, sym, ap, ◌∙◌, subst, arith, mul_comm, true≢false}
 use Rattle.std.specs.Prelude.{All, Contains, sum_by}
 use Rattle.std.specs.List.{filter}
 use Rattle.std.specs.List.Sorted.{IsPermutation, IsNonDecreasingBy}
+use Rattle.std.proofs.lemmas.List.{length-map}
 use Rattle.std.proofs.lemmas.Nat.{div-mul-add, mod-mul-add}
 use Rattle.std.proofs.lemmas.Bool.Decides.{eqb_tells, Decides-ltb}
 use Rattle.std.proofs.lemmas.List.Elements.{All-nil, All-cons, All-head, All-tail, All-append, All-weaker, All-map, All-filter, All-contains, filter_passes}
@@ -14,7 +15,7 @@ use mathlib.Core.Option.{some}
 use lib.ListN.{get_elem?}
 use Rattle.claim_board.specs.Counts.{one_if, times, times_first}
 use Rattle.claim_board.specs.Protocol.{PassState, limit, fresh, of_task, IsGood, IsGoodPass}
-use Rattle.claim_board.specs.Boards.{Board, Pass, Tally, states_of, AreOf, fresh_passes}
+use Rattle.claim_board.specs.Boards.{Board, Pass, Passes, Tally, states_of, AreOf, fresh_passes, new_passes}
 use Rattle.claim_board.specs.Laws.{UndecidedWereDrawn}
 use Rattle.claim_board.specs.Told.{closing_state}
 use Rattle.crew.specs.declared.kept.KeptOut.{KeptOut}
@@ -28,7 +29,8 @@ use Rattle.crew.specs.Phases.{IsClosed, IsLostTask, CanFinish, AreOuts, Settled,
 use Rattle.crew.specs.Workers.{IsFresh, CanStart, Phased, wons}
 use Rattle.crew.specs.inner.Fates.{Fate, Fated}
 use Rattle.crew.specs.inner.Fates.Fate.{Won, Lost, Taken, Drilled, WentDown}
-use Rattle.crew.proofs.Lists.{part, all_times, all_both, all_zero, all_of_map, one_if_ne}
+use Rattle.claim_board.proofs.Moves.{part}
+use Rattle.crew.proofs.Lists.{lent_back, all_times, all_both, all_zero, all_of_map, one_if_ne}
 use Rattle.crew.proofs.Fates.{fated}
 use Rattle.crew.proofs.InOrder.{outs_of, outs_of-cons, indexed}
 use Rattle.crew.proofs.Counting.{just, first_length, all_accounted, any_counts}
@@ -50,7 +52,7 @@ fresh_done_nothing b (suc n) =
     (fresh_done_nothing b n)
     (All-cons Q _ [] (record { won = refl; draws = refl; seen = refl; deeds = refl }) (All-nil Q))
 
-pub length_fresh : (b : Board) (n : ℕ) → length (fresh_passes b n) ≡ n
+length_fresh : (b : Board) (n : ℕ) → length (fresh_passes b n) ≡ n
 length_fresh b zero = refl
 length_fresh b (suc n) =
     let r = length_fresh b n in
@@ -68,6 +70,36 @@ can_start b count tries hosts ps is tasks try crew some_task some_host =
       tasks = (tasks, some_task);
       tries = try;
     }
+
+-- a board is closed with the passes that its workers, to whom they were lent, gave back
+module _ (b : Board) (ps : Passes) (lent new : List Pass) (fresh : ps ≡ new_passes b)
+    (all : lent ≡ ps.members) (same : length new ≡ length lent) where
+  abbrev Back : List Pass
+  Back = take (length ps.members) (new ++ drop (length new) ps.members)
+
+  back_is : Back ≡ new
+  back_is = lent_back (length ps.members) ps.members new (same ∙ ap length all)
+
+  as_many : length new ≡ b.crew
+  as_many =
+      same ∙ ap length all ∙ ap (λ (x : Passes). length x.members) fresh ∙ length_fresh b b.crew
+
+  pub can_close : AreOf b new → AreOf b Back × (length Back ≡ b.crew)
+  can_close are = (subst (AreOf b) (sym back_is) are, ap length back_is ∙ as_many)
+
+  module _ (told : Tally) {H : Type 0} (account : H → Account) (hosts : List H)
+      {tasks tries count most : ℕ}
+      (size : (b.tasks ≡ tasks) × (b.tries ≡ tries) × (b.crew ≡ length hosts))
+      (of_tasks : tasks ≡ count) (of_tries : tries ≡ most)
+      (good : IsGood b.tasks b.tries (closing_state told Back)) where
+    pub closed_well : IsGood count most (closing_state told new)
+        × (length (states_of new) ≡ length (map account hosts)) × (length new ≡ length hosts)
+    closed_well = (
+      subst (λ (x : ℕ × ℕ × List Pass). IsGood x.0 x.1 (closing_state told x.2))
+          (λ i. ((size.0 ∙ of_tasks) i, (size.1 ∙ of_tries) i, back_is i)) good,
+      length-map new (λ (p : Pass). p.state) ∙ as_many ∙ size.2 ∙ sym (length-map hosts account),
+      as_many ∙ size.2,
+    )
 
 -- the draws of a task that passes have won
 wins_of_all : (tasks t : ℕ) (ps : List Pass)

@@ -21,21 +21,13 @@ use Rattle.crew.proofs.Lists.{some_host_left, some_host_right, times_left, times
 
 module _ (tasks : ℕ) (s : Settings) where
   -- a fate stays one beside other downs
-  pub fate_left : (downs more : List ℕ) (q : PassState) (d : ℕ) → Fate tasks s downs q d
-      → Fate tasks s (downs ++ more) q d
-  fate_left downs more q d (Won h) = Won h
-  fate_left downs more q d (Lost h) = Lost h
-  fate_left downs more q d (Taken x full h) = Taken x full h
-  fate_left downs more q d (Drilled h) = Drilled h
-  fate_left downs more q d (WentDown h) = WentDown (times_left d downs more h)
-
-  pub fate_right : (downs more : List ℕ) (q : PassState) (d : ℕ) → Fate tasks s more q d
-      → Fate tasks s (downs ++ more) q d
-  fate_right downs more q d (Won h) = Won h
-  fate_right downs more q d (Lost h) = Lost h
-  fate_right downs more q d (Taken x full h) = Taken x full h
-  fate_right downs more q d (Drilled h) = Drilled h
-  fate_right downs more q d (WentDown h) = WentDown (times_right d downs more h)
+  fate_among : (downs all : List ℕ) (q : PassState) (d : ℕ)
+      → (0 < times d downs → 0 < times d all) → Fate tasks s downs q d → Fate tasks s all q d
+  fate_among downs all q d among (Won h) = Won h
+  fate_among downs all q d among (Lost h) = Lost h
+  fate_among downs all q d among (Taken x full h) = Taken x full h
+  fate_among downs all q d among (Drilled h) = Drilled h
+  fate_among downs all q d among (WentDown h) = WentDown (among h)
 
 -- the draw of a turn, as often as it was refused a place
 abbrev pub drops : Turn → List ℕ
@@ -227,12 +219,14 @@ module _ (tasks : ℕ) (s : Settings) where
             (All-weaker (HaveFate h.downs) (HaveFate downs)
             (λ p t. All-weaker (λ d. d < limit tasks s.tries → Fate tasks s h.downs p d)
             (λ d. d < limit tasks s.tries → Fate tasks s downs p d)
-            (λ d u l. fate_left tasks s h.downs k.downs p d (u l)) p.draws t)
+            (λ d u l. fate_among tasks s h.downs downs p d (times_left d h.downs k.downs) (u l))
+            p.draws t)
             ps h.fates)
             (All-weaker (HaveFate k.downs) (HaveFate downs)
             (λ p t. All-weaker (λ d. d < limit tasks s.tries → Fate tasks s k.downs p d)
             (λ d. d < limit tasks s.tries → Fate tasks s downs p d)
-            (λ d u l. fate_right tasks s h.downs k.downs p d (u l)) p.draws t)
+            (λ d u l. fate_among tasks s k.downs downs p d (times_right d h.downs k.downs) (u l))
+            p.draws t)
             qs k.fates);
         risen = subst (λ (n : ℕ). HaveRisen n (us ++ xs) (vs ++ ys))
             (sym (length-append h.downs k.downs))

@@ -9,7 +9,8 @@ use native.Mathlib.Decide.{ℕ_discrete}
 use mathlib.Core.Logic.{dite}
 use Rattle.claim_board.specs.Counts.{one_if}
 use Rattle.crew.specs.declared.kept.KeptOut.{KeptOut}
-use Rattle.crew.proofs.Lists.{part, all_both, all_zero, one_if_eq, one_if_ne}
+use Rattle.claim_board.proofs.Moves.{part}
+use Rattle.crew.proofs.Lists.{all_both, all_zero, one_if_eq, one_if_ne}
 
 module _ {O : Type 0} where
   -- how many of the outs are of the task

@@ -3,7 +3,7 @@ use Rattle.std.proofs.Common.{◌≡◌, ℕ, true, inl, List, [], ◌∷◌, �
 use Rattle.std.specs.Prelude.{All, Result, Ok, Err, IfOk, OnOk}
 use Rattle.std.specs.List.{AllZip}
 use Rattle.std.proofs.lemmas.List.{map-append}
-use Rattle.std.proofs.lemmas.List.Elements.{All-nil, All-cons, All-append, All-weaker, length_all_zip}
+use Rattle.std.proofs.lemmas.List.Elements.{All-nil, All-cons, All-head, All-append, All-weaker, length_all_zip}
 use Rattle.claim_board.specs.Protocol.{PassState, Deed, DrewNumber, fresh}
 use Rattle.claim_board.specs.Boards.{Pass, states_of}
 use Rattle.crew.specs.declared.kept.KeptOut.{KeptOut}
@@ -93,7 +93,7 @@ module _ (tasks : ℕ) (s : Settings) (places : ℕ → ℕ) where
         }) (All-nil T);
       }
 
-  pub took_alone : (old : PassState) (q : Pass) (a b : Account) → IsFresh old
+  took_alone : (old : PassState) (q : Pass) (a b : Account) → IsFresh old
       → Took tasks s places old q.state a b → AllTook tasks s places (q ∷ []) (a ∷ []) (b ∷ [])
   took_alone old q a b f w =
       let one : Worker = record { pass = q.state; before = a; after = b; turns = w.0 } in
@@ -149,19 +149,66 @@ module _ (tasks : ℕ) (s : Settings) {O : Type 0} (is_value : ℕ → O → Typ
       }
 
   -- the same whether or not there was memory
-  pub phased_alone : {E : Type 0} (r : Result (List (KeptOut O)) E) (old : PassState) (q : Pass)
+  phased_alone : {E : Type 0} (r : Result (List (KeptOut O)) E) (old : PassState) (q : Pass)
       (a b : Account) → IsFresh old
       → IfOk r (Worked tasks s is_value places old q.state a b) → OnOk r (q.state.ended ≡ true)
       → IfOk r (Phased tasks s is_value places (q ∷ []) (a ∷ []) (b ∷ []))
   phased_alone (Ok ks) old q a b f w ended = phased_one old q a b ks f w ended
   phased_alone (Err e) old q a b f w ended = tt
 
-pub set_alone : {A : Type 0} (xs : List A) (y : A) → length xs ≡ 1 → set xs 0 y ≡ y ∷ []
+set_alone : {A : Type 0} (xs : List A) (y : A) → length xs ≡ 1 → set xs 0 y ≡ y ∷ []
 set_alone [] y e = absurd (omega arith)
 set_alone (x ∷ []) y e = refl
 set_alone (x ∷ z ∷ xs) y e = absurd (omega arith)
 
-pub alone : {A : Type 0} (xs : List A) (x : A) → length xs ≡ 1 → x ≡ get_or xs 0 x → xs ≡ x ∷ []
+alone : {A : Type 0} (xs : List A) (x : A) → length xs ≡ 1 → x ≡ get_or xs 0 x → xs ≡ x ∷ []
 alone [] x e is = absurd (omega arith)
 alone (y ∷ []) x e is = ap (λ z. z ∷ []) (sym is)
 alone (y ∷ z ∷ xs) x e is = absurd (omega arith)
+
+-- one worker, with the only pass and the only host
+module _ (tasks : ℕ) (s : Settings) (places : ℕ → ℕ) {H : Type 0} (f : H → Account)
+    (ps : List Pass) (hs : List H) (p q : Pass) (h k : H) (one : length ps ≡ 1)
+    (one_host : length hs ≡ 1) (is_p : p ≡ get_or ps 0 p) (is_h : h ≡ get_or hs 0 h)
+    (fresh : All (λ r. IsFresh r.state) ps) where
+  was_fresh : IsFresh p.state
+  was_fresh =
+      let Fresh : Pass → Type 0 = λ r. IsFresh r.state in
+      All-head Fresh p [] (subst (All Fresh) (alone ps p one is_p) fresh)
+
+  of_all : (P : List Pass → List Account → List Account → Type 0)
+      → P (q ∷ []) (f h ∷ []) (f k ∷ []) → P (set ps 0 q) (map f hs) (map f (set hs 0 k))
+  of_all P =
+      subst (λ (x : List Pass × List H × List H). P x.0 (map f x.1) (map f x.2))
+      (λ i. (
+        sym (set_alone ps q one) i,
+        sym (alone hs h one_host is_h) i,
+        sym (set_alone hs k one_host) i,
+      ))
+
+  pub took_by_one : Took tasks s places (get_or ps 0 p).state q.state (f (get_or hs 0 h)) (f k)
+      → AllTook tasks s places (set ps 0 q) (map f hs) (map f (set hs 0 k))
+  took_by_one took =
+      of_all (AllTook tasks s places)
+      (took_alone tasks s places p.state q (f h) (f k) was_fresh
+      (subst (λ (x : Pass × H). Took tasks s places x.0.state q.state (f x.1) (f k))
+      (λ i. (sym is_p i, sym is_h i)) took))
+
+  pub phased_by_one : {O E : Type 0} (is_value : ℕ → O → Type 0) (r : Result (List (KeptOut O)) E)
+      → IfOk r (Worked tasks s is_value places (get_or ps 0 p).state q.state (f (get_or hs 0 h))
+      (f k)) → OnOk r (q.state.ended ≡ true)
+      → IfOk r (Phased tasks s is_value places (set ps 0 q) (map f hs) (map f (set hs 0 k)))
+  phased_by_one is_value r worked ended =
+      of_all (λ xs us vs. IfOk r (Phased tasks s is_value places xs us vs))
+      (phased_alone tasks s is_value places r p.state q (f h) (f k) was_fresh
+      (subst (λ (x : Pass × H). IfOk r (Worked tasks s is_value places x.0.state q.state (f x.1)
+      (f k))) (λ i. (sym is_p i, sym is_h i)) worked) ended)
+
+-- what holds of the accounts of hosts that are cut in two holds of the accounts of all
+pub of_both : {H : Type 0} (f : H → Account) (P : List Account → List Account → Type 0)
+    (hs us vs ys zs : List H) → hs ≡ us ++ vs → P (map f us ++ map f vs) (map f ys ++ map f zs)
+    → P (map f hs) (map f (ys ++ zs))
+of_both f P hs us vs ys zs cut = subst (λ (x : List Account × List Account). P x.0 x.1) (λ i. (
+  (sym (map-append f us vs) ∙ ap (map f) (sym cut)) i,
+  sym (map-append f ys zs) i,
+))

@@ -5,9 +5,8 @@ use Rattle.std.specs.Prelude.{All, sum_by}
 use Rattle.std.proofs.lemmas.Bool.Decides.{eqb_tells}
 use Rattle.std.proofs.lemmas.List.Elements.{All-nil, All-cons, All-head, All-tail}
 use Rattle.std.proofs.lemmas.List.Sums.{sum_by-cons, sum_by-append}
-use native.Mathlib.Decide.{ℕ_discrete}
-use mathlib.Core.Logic.{dite}
 use Rattle.claim_board.specs.Counts.{one_if, times, times_first}
+use Rattle.claim_board.proofs.Moves.{part}
 use Rattle.outside.specs.Accounts.{Account}
 use Rattle.crew.specs.Hosts.{SomeHost}
 
@@ -58,15 +57,6 @@ times_one d = let e = one_if_eq d d refl in omega arith
 
 pub times_first_one : (d x : ℕ) → 0 < times_first d ((d, x) ∷ [])
 times_first_one d x = let e = one_if_eq d d refl in omega arith
-
--- a sum that is not 0 has a part that is not
-pub part : {A : Type 0} (P : A → Type 0) (f : A → ℕ) (xs : List A) → All P xs → 0 < sum_by f xs
-    → (a : A) × P a × (0 < f a)
-part P f [] h l = absurd (omega arith)
-part P f (x ∷ xs) h l =
-    dite (ℕ_discrete (f x) 0)
-    (λ z. part P f xs (All-tail P x xs h) (omega (arith, sum_by-cons f x xs)))
-    (λ n. (x, All-head P x xs h, omega arith))
 
 -- what stands in a list has what each element has
 pub all_times : (P : ℕ → Type 0) (d : ℕ) (xs : List ℕ) → All P xs → 0 < times d xs → P d

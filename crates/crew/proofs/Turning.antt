@@ -1,5 +1,5 @@
 -- What comes of one turn, by the way it ends.
-use Rattle.std.proofs.Common.{◌≡◌, ◌≢◌, ℕ, ◌+◌, ◌-◌, ◌*◌, ◌/◌, ◌%◌, ◌<◌, ◌≤◌, true, false, List, [], ◌∷◌, ◌++◌, append-nil, inl, inr, refl, sym, ap, ◌∙◌, subst, arith, mul_comm, div-add-mod'}
+use Rattle.std.proofs.Common.{◌≡◌, ◌≢◌, ℕ, ◌+◌, ◌-◌, ◌*◌, ◌/◌, ◌%◌, ◌<◌, ◌≤◌, true, false, List, [], ◌∷◌, ◌++◌, append-nil, length, inl, inr, refl, sym, ap, ◌∙◌, subst, arith, mul_comm, div-add-mod'}
 use Rattle.std.specs.Prelude.{All}
 use Rattle.std.proofs.lemmas.List.Elements.{All-nil, All-cons}
 use Rattle.std.proofs.Math.Nat.{div-lt_iff_lt-mul}
@@ -9,11 +9,13 @@ use Rattle.claim_board.specs.Told.{draw_of}
 use Rattle.crew.specs.declared.kept.KeptOut.{KeptOut}
 use Rattle.crew.specs.declared.drill.Entry.{Entry}
 use Rattle.outside.specs.Accounts.{Account, Gains}
+use Rattle.outside.specs.Cause.{RoseBy}
+use Rattle.outside.specs.declared.host.At.{At}
 use Rattle.crew.specs.Hosts.{at_place, places_below}
 use Rattle.crew.specs.Drills.{Settings, attempt_in, is_drilled}
 use Rattle.crew.specs.Attempts.{Ran, StoppedDown, StoppedEarly}
 use Rattle.crew.specs.Outs.{IsOut, RanOn}
-use Rattle.crew.specs.Work.{Turn, HasDone, IsCommitted, IsMade, drawn_attempt}
+use Rattle.crew.specs.Work.{Turn, HasDone, IsAsked, IsCommitted, IsMade, drawn_attempt}
 use Rattle.crew.specs.Work.Cause.{Won, Lost, Taken, Drilled, WentDown}
 use Rattle.crew.specs.inner.Turns.{TookTurn, TookOne, Turned}
 use Rattle.crew.proofs.Accounts.{gains_nothing}
@@ -126,39 +128,47 @@ module _ (tasks : ℕ) (s : Settings) (places : ℕ → ℕ) where
     };
   }
 
+  -- the turn that ended behind its look, with what its host was asked
+  abbrev looked_turn : ℕ → ℕ → List At → List At → Turn
+  looked_turn d x passed downs =
+      record { draw = d; word = x; passed = passed; downs = downs; commit = [] }
+
+  took_looked : (m d task attempt x : ℕ) (old : PassState) (a b : Account) (passed downs : List At)
+      → Names tasks s.tries d task attempt → AreBefore m old → Gains a b passed downs
+      → RoseBy (length downs) a.losses b.losses
+      → IsAsked tasks s places (looked_turn d x passed downs)
+      → TookTurn tasks s places d old (looked old m task x) a b (looked_turn d x passed downs)
+  took_looked m d task attempt x old a b passed downs n before gains lost asked = record {
+    draw = refl;
+    draws = (refl, refl);
+    seen = ap (λ (t : ℕ). old.seen ++ (t, x) ∷ []) n.at;
+    deeds = done_looked tasks m d task x old n.at before;
+    won = ([], sym (append-nil old.won));
+    lost_to = ([], sym (append-nil old.lost));
+    gains = gains;
+    lost = lost;
+    asked = asked;
+  }
+
   -- want of memory ended the attempt
   pub took_early : (m d task attempt : ℕ) (old : PassState) (a b : Account)
       → Names tasks s.tries d task attempt → AreBefore m old
       → StoppedEarly (attempt_in s task attempt) (places task) a b
       → TookOne tasks s places d old (looked old m task 0) a b
   took_early m d task attempt old a b n before h =
-      let e = drawn_attempt tasks s d in
+      let passed = places_below (drawn_attempt tasks s d) h.place in
       let within = subst (λ (t : ℕ). h.place ≤ places t + 1) n.at h.within in (
-        record {
-          draw = d;
-          word = 0;
-          passed = places_below e h.place;
-          downs = [];
-          commit = [];
-        },
-        record {
-          draw = refl;
-          draws = (refl, refl);
-          seen = ap (λ (t : ℕ). old.seen ++ (t, 0) ∷ []) n.at;
-          deeds = done_looked tasks m d task 0 old n.at before;
-          won = ([], sym (append-nil old.won));
-          lost_to = ([], sym (append-nil old.lost));
-          gains = subst (λ (x : Entry). Gains a b (places_below x h.place) [])
-              (same_attempt d task attempt n) h.gains;
-          lost = let up = h.gains.later in omega arith;
-          asked = record {
-            through = h.place;
-            passed = refl;
-            downs = inl refl;
-            within = omega arith;
-            taken = λ full. absurd (full refl);
-          };
-        },
+        looked_turn d 0 passed [],
+        took_looked m d task attempt 0 old a b passed [] n before
+            (subst (λ (x : Entry). Gains a b (places_below x h.place) [])
+            (same_attempt d task attempt n) h.gains)
+            (let up = h.gains.later in omega arith) (record {
+              through = h.place;
+              passed = refl;
+              downs = inl refl;
+              within = omega arith;
+              taken = λ full. absurd (full refl);
+            }),
         inr refl,
       )
 
@@ -172,24 +182,15 @@ module _ (tasks : ℕ) (s : Settings) {O : Type 0} (is_value : ℕ → O → Typ
       → Names tasks s.tries d task attempt → AreBefore m old → x ≢ 0
       → Turned tasks s is_value places d old (looked old m task x) a a []
   turned_seen m d task attempt x old a n before full = record {
-    turn = record { draw = d; word = x; passed = []; downs = []; commit = [] };
-    took = record {
-      draw = refl;
-      draws = (refl, refl);
-      seen = ap (λ (t : ℕ). old.seen ++ (t, x) ∷ []) n.at;
-      deeds = done_looked tasks m d task x old n.at before;
-      won = ([], sym (append-nil old.won));
-      lost_to = ([], sym (append-nil old.lost));
-      gains = gains_nothing a;
-      lost = omega arith;
-      asked = record {
-        through = 0;
-        passed = refl;
-        downs = inl refl;
-        within = omega arith;
-        taken = λ _. (refl, refl);
-      };
-    };
+    turn = looked_turn tasks s places d x [] [];
+    took = took_looked tasks s places m d task attempt x old a a [] [] n before (gains_nothing a)
+        (omega arith) (record {
+          through = 0;
+          passed = refl;
+          downs = inl refl;
+          within = omega arith;
+          taken = λ _. (refl, refl);
+        });
     cause = Taken full refl refl refl;
     won = sym (append-nil old.won);
     kept = no_outs a a;
@@ -203,33 +204,18 @@ module _ (tasks : ℕ) (s : Settings) {O : Type 0} (is_value : ℕ → O → Typ
   turned_down m d task attempt old a b n before h =
       let e = drawn_attempt tasks s d in
       let within = subst (λ (t : ℕ). h.place ≤ places t) n.at h.within in
+      let passed = places_below e h.place in
       let here = at_place e h.place ∷ [] in record {
-        turn = record {
-          draw = d;
-          word = 0;
-          passed = places_below e h.place;
-          downs = here;
-          commit = [];
-        };
-        took = record {
-          draw = refl;
-          draws = (refl, refl);
-          seen = ap (λ (t : ℕ). old.seen ++ (t, 0) ∷ []) n.at;
-          deeds = done_looked tasks m d task 0 old n.at before;
-          won = ([], sym (append-nil old.won));
-          lost_to = ([], sym (append-nil old.lost));
-          gains = subst
-              (λ (x : Entry). Gains a b (places_below x h.place) (at_place x h.place ∷ []))
-              (same_attempt tasks s places d task attempt n) h.gains;
-          lost = h.lost;
-          asked = record {
-            through = h.place;
-            passed = refl;
-            downs = inr refl;
-            within = omega arith;
-            taken = λ full. absurd (full refl);
-          };
-        };
+        turn = looked_turn tasks s places d 0 passed here;
+        took = took_looked tasks s places m d task attempt 0 old a b passed here n before
+            (subst (λ (x : Entry). Gains a b (places_below x h.place) (at_place x h.place ∷ []))
+            (same_attempt tasks s places d task attempt n) h.gains) h.lost (record {
+              through = h.place;
+              passed = refl;
+              downs = inr refl;
+              within = omega arith;
+              taken = λ full. absurd (full refl);
+            });
         cause = WentDown record {
           free = refl;
           place = h.place;

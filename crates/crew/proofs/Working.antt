@@ -1,5 +1,5 @@
 -- What a worker has done, turn by turn.
-use Rattle.std.proofs.Common.{◌≡◌, ℕ, ◌+◌, ◌-◌, ◌<◌, ◌≤◌, Bool, true, false, ltb, cond, max, ◌⊎◌, inl, inr, List, [], ◌∷◌, ◌++◌, length, length-append, map, append-nil, append_assoc, refl, sym, ap, ◌∙◌, subst, arith}
+use Rattle.std.proofs.Common.{◌≡◌, ℕ, ◌+◌, ◌-◌, ◌*◌, ◌<◌, ◌≤◌, Bool, true, false, ltb, cond, max, ◌⊎◌, inl, inr, List, [], ◌∷◌, ◌++◌, length, length-append, map, append-nil, append_assoc, refl, sym, ap, ◌∙◌, subst, arith}
 use Rattle.std.specs.Prelude.{All}
 use Rattle.std.specs.List.{filter}
 use Rattle.std.proofs.lemmas.Bool.Decides.{Decides-ltb}
@@ -9,7 +9,7 @@ use Rattle.outside.specs.Cause.{RoseBy}
 use Rattle.outside.specs.declared.host.At.{At}
 use Rattle.claim_board.specs.Counts.{times, times_first}
 use Rattle.claim_board.specs.Protocol.{PassState, Deed, DrewNumber, SawWord, drawn, limit, task_of}
-use Rattle.claim_board.specs.Boards.{AreBefore}
+use Rattle.claim_board.specs.Boards.{AreBefore, Board, Drawn, Drew}
 use Rattle.crew.specs.declared.kept.KeptOut.{KeptOut}
 use Rattle.outside.specs.Accounts.{Account, Gains}
 use Rattle.crew.specs.Hosts.{Grew}
@@ -313,7 +313,7 @@ module _ (tasks : ℕ) (s : Settings) {O : Type 0} (is_value : ℕ → O → Typ
       go false is = let l = last is in worked_last old mid new a b ks l.0 l.1 w l.2 l.3 l.4
 
   -- the same of what the host was asked, however far the last turn came
-  pub took_then : (old mid next new : PassState) (a b c : Account) (ks : List (KeptOut O))
+  took_then : (old mid next new : PassState) (a b c : Account) (ks : List (KeptOut O))
       (m d : ℕ) → DidSoFar old mid a b ks → AreBefore m mid → d < limit tasks s.tries
       → next ≡ drawn (limit tasks s.tries) mid m d
       → TookOne tasks s places d next new b c → Took tasks s places old new a c
@@ -333,6 +333,17 @@ module _ (tasks : ℕ) (s : Settings) {O : Type 0} (is_value : ℕ → O → Typ
             w.turns w.causes)
             one.2,
       )
+
+  pub took_drawn : (board : Board) (old mid next new : PassState) (a b c : Account)
+      (ks : List (KeptOut O)) (draw : Drawn) → board.tasks ≡ tasks → board.tries ≡ s.tries
+      → Drew board mid next draw → DidSoFar old mid a b ks
+      → TookOne tasks s places draw.number next new b c → Took tasks s places old new a c
+  took_drawn board old mid next new a b c ks draw count tries drew far one =
+      let same : limit board.tasks board.tries ≡ limit tasks s.tries
+      = λ i. count i * tries i in
+      took_then old mid next new a b c ks drew.place draw.number far drew.later
+      (subst (λ (n : ℕ). draw.number < n) same drew.claimable.claimable.1)
+      (drew.gained ∙ ap (λ (n : ℕ). drawn n mid drew.place draw.number) same) one
 
 -- one more than the greatest number
 abbrev pub high : List ℕ → ℕ

@@ -1,5 +1,5 @@
-// What workers keep, and what a phase gives.
-ghost use Rattle.std.specs.Prelude.{◌≡◌, ◌<◌, [], ◌++◌, ltb, length, slice_get, OnOk, Some};
+// What workers keep.
+ghost use Rattle.std.specs.Prelude.{◌≡◌, [], ◌++◌, ltb, OnOk};
 ghost use Rattle.std.specs.List.{filter};
 ghost use Rattle.std.specs.List.Sorted.{IsPermutation, IsNonDecreasingBy};
 ghost use Rattle.std.specs.Option.{option_to_list};
@@ -10,50 +10,12 @@ use std::marker::Model;
 /// An out that won its task: the task, the attempt that made it, and the out itself.
 #[derive(Drop)]
 pub struct KeptOut<O> {
-    task: u32,
-    attempt: u32,
-    out: O,
-}
-
-impl<O> KeptOut<O> {
-    pub(crate) fn new(task: u32, attempt: u32, out: O) -> KeptOut<O>
-        ensures { result ≡ record { task = task; attempt = attempt; out = out } }
-    {
-        KeptOut { task, attempt, out }
-    }
-
     /// The task, counted from 0.
-    pub fn task(&self) -> u32
-        ensures { result ≡ self.now.task }
-    {
-        self.task
-    }
-
+    pub task: u32,
     /// The attempt that won, counted from 1.
-    pub fn attempt(&self) -> u32
-        ensures { result ≡ self.now.attempt }
-    {
-        self.attempt
-    }
-
+    pub attempt: u32,
     /// What the attempt made.
-    pub fn out(&self) -> &O
-        ensures { result.now ≡ self.now.out }
-    {
-        &self.out
-    }
-
-    /// What the attempt made.
-    pub fn into_out(self) -> O
-        ensures { result ≡ self.out }
-    {
-        let KeptOut {
-            task: _,
-            attempt: _,
-            out,
-        } = self;
-        out
-    }
+    pub out: O,
 }
 
 /// What workers have kept. Contracts see the list.
@@ -143,52 +105,4 @@ fn by_task<O: Drop>(mut outs: Vec<KeptOut<O>>) -> Vec<KeptOut<O>>
 {
     outs.as_mut_slice().sort_unstable_by_key(|k| k.task);
     outs
-}
-
-/// The out of each task of a phase, in order. Contracts see the list.
-#[derive(Drop)]
-pub struct Outs<O> {
-    outs: Vec<KeptOut<O>>,
-}
-
-impl<O> Model for Outs<O> {
-    ghost use Rattle.std.specs.Prelude.{List};
-    ghost use Rattle.crew.specs.declared.kept.KeptOut.{KeptOut};
-
-    ghost Value = { List (KeptOut O) };
-
-    ghost view = { λ o. o.outs.items };
-}
-
-impl<O> Outs<O> {
-    pub(crate) fn of(kept: Kept<O>) -> Outs<O>
-        ensures { result ≡ kept }
-    {
-        Outs {
-            outs: kept.into_vec(),
-        }
-    }
-
-    /// The outs, in order of the tasks.
-    pub fn as_slice(&self) -> &[KeptOut<O>]
-        ensures { result.now ≡ self.now }
-    {
-        self.outs.as_slice()
-    }
-
-    /// The out of a task, with the attempt that made it.
-    pub fn of_task(&self, task: u32) -> &KeptOut<O>
-        requires { task < length self.now }
-        ensures { slice_get self.now task ≡ Some result.now }
-    {
-        &self.outs[task as usize]
-    }
-
-    /// The outs, in order of the tasks. It takes no memory.
-    pub fn into_vec(self) -> Vec<KeptOut<O>>
-        ensures { result.items ≡ self }
-    {
-        let Outs { outs } = self;
-        outs
-    }
 }

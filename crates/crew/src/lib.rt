@@ -27,7 +27,7 @@ mod worker;
 pub use attempts::{Attempt, Spot};
 pub use drill::{Drill, Entry};
 pub use halves::work_all;
-pub use kept::{Kept, KeptOut, Outs};
+pub use kept::{Kept, KeptOut};
 pub use phase::{PhaseFault, run_phase};
 pub use settings::PhaseSettings;
 pub use tasks::Tasks;

@@ -5,7 +5,7 @@ ghost use Rattle.crew.specs.Hosts.{Grew};
 ghost use Rattle.crew.specs.Phases.{AreAskedOnce, CanFinish, Settled, IsPhaseFault, IsMemory};
 
 use crate::halves::work_all;
-use crate::kept::{Kept, Outs};
+use crate::kept::Kept;
 use crate::settings::PhaseSettings;
 use crate::tasks::Tasks;
 use claim_board::{Board, Tally, protocol_laws};
@@ -50,7 +50,7 @@ pub fn run_phase<R: Threads + Sync, T: Tasks, H: Host + Send>(
     tasks: &T,
     hosts: &mut [H],
     phase: &PhaseSettings<'_>,
-) -> Result<Outs<T::Out>, PhaseFault<T::Out>>
+) -> Result<Kept<T::Out>, PhaseFault<T::Out>>
     requires tasks { 0 < T.count_of tasks.now }
     requires tries { (0 < phase.now.tries) × (phase.now.tries ≤ 8) }
     requires hosts { (0 < length hosts.old) × (length hosts.old ≤ 16) }
@@ -85,7 +85,7 @@ pub fn run_phase<R: Threads + Sync, T: Tasks, H: Host + Send>(
             task,
             below: kept.below(task).in_order(),
         }),
-        None => Ok(Outs::of(kept.in_order())),
+        None => Ok(kept.in_order()),
     }
 }
 

@@ -65,18 +65,15 @@ impl<'a> PhaseSettings<'a> {
         self.tries
     }
 
-    /// The attempts that are lost on purpose.
-    pub fn drill(&self) -> &Drill
-        ensures { result.now ≡ self.now.drill }
-    {
-        self.drill
-    }
-
     // The spot of an attempt.
     pub(crate) fn spot(&self, attempt: u32) -> Spot
         ensures { (task : ℕ) → attempt_at result task ≡ attempt_in self.now task attempt }
     {
-        Spot::new(self.stage, self.phase, attempt)
+        Spot {
+            stage: self.stage,
+            phase: self.phase,
+            attempt,
+        }
     }
 
     // Whether the drill names an attempt.

@@ -1,5 +1,5 @@
 // One worker.
-ghost use Rattle.std.specs.Prelude.{◌≡◌, ◌<◌, true, IfOk, OnOk};
+ghost use Rattle.std.specs.Prelude.{◌≡◌, ◌<◌, true, IfOk, OnErr, OnOk};
 ghost use Rattle.std.specs.Option.{option_to_list};
 ghost use Rattle.claim_board.specs.Boards.{IsOpenDraw};
 ghost use Rattle.crew.specs.Hosts.{Grew};
@@ -68,8 +68,8 @@ fn turn<T: Tasks, H: Host>(
     requires open { IsOpenDraw board.now pass.old.state draw }
     ensures same { pass.new.board ≡ pass.old.board }
     ensures grew { Grew (H.account host.old) (H.account host.new) }
-    ensures asked { TookOne (T.count_of tasks.now) phase.now (T.places tasks.now) draw.number
-        pass.old.state pass.new.state (H.account host.old) (H.account host.new) }
+    ensures early { OnErr result (TookOne (T.count_of tasks.now) phase.now (T.places tasks.now)
+        draw.number pass.old.state pass.new.state (H.account host.old) (H.account host.new)) }
     ensures turned { IfOk result (λ won. Turned (T.count_of tasks.now) phase.now
         (T.is_value tasks.now) (T.places tasks.now) draw.number pass.old.state pass.new.state
         (H.account host.old) (H.account host.new) (option_to_list won)) }
@@ -85,7 +85,7 @@ fn turn<T: Tasks, H: Host>(
                     return Ok(None);
                 }
                 match board.commit(pass, draw) {
-                    Ok(Won) => Ok(Some(KeptOut::new(task, attempt, out))),
+                    Ok(Won) => Ok(Some(KeptOut { task, attempt, out })),
                     Err(_) => Ok(None),
                 }
             }

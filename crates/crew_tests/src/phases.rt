@@ -46,7 +46,7 @@ struct End {
 fn seen(alloc: Global, kept: &[KeptOut<u64>]) -> Result<Vec<(u32, u32, u64)>, AllocError> {
     let mut outs = Vec::new(alloc);
     for out in kept {
-        outs.push((out.task(), out.attempt(), *out.out()))?;
+        outs.push((out.task, out.attempt, out.out))?;
     }
     Ok(outs)
 }

@@ -24,7 +24,7 @@ text_no bs h =
 pub ruleset text_tests = (text_yes, text_no)
 
 -- the field at a place is the first from there on
-pub field_at-some : (xs : List (List ℕ)) (i : ℕ) (v : List ℕ) → field_at xs i ≡ Some v
+field_at-some : (xs : List (List ℕ)) (i : ℕ) (v : List ℕ) → field_at xs i ≡ Some v
     → drop i xs ≡ v ∷ drop (i + 1) xs
 unfolding field_at
 field_at-some [] i v e = cc e
@@ -39,7 +39,7 @@ field_at-none (x ∷ xs) zero e = cc e
 field_at-none (x ∷ xs) (suc i) e = let h = field_at-none xs i e in omega arith
 
 -- the column at a place is the first from there on
-pub column_at : (columns : List Column) (i : ℕ) (d : Column) → i < length columns
+column_at : (columns : List Column) (i : ℕ) (d : Column) → i < length columns
     → drop i columns ≡ get_or columns i d ∷ drop (i + 1) columns
 column_at columns i d lt = rw add-one (drop-cons columns i d lt)
 
@@ -58,24 +58,30 @@ pub header_is : (columns : List Column) (names : List (List ℕ)) → length nam
     → header_fault columns names ≡ other_name 1 columns names
 header_is columns names e = rw (eq-eqb (length names) (length columns) e) refl
 
--- one more name
-pub names_next : (columns : List Column) (names : List (List ℕ)) (i : ℕ) (c : Column)
-    (name : List ℕ)
-    → drop i columns ≡ c ∷ drop (i + 1) columns → drop i names ≡ name ∷ drop (i + 1) names
-    → other_name 1 columns names ≡ other_name (i + 1) (drop i columns) (drop i names)
-    → other_name 1 columns names ≡
-    (if bytes_eq c.name name then other_name (i + 1 + 1) (drop (i + 1) columns)
-    (drop (i + 1) names) else Some (i + 1))
-names_next columns names i c name a b h = h ∙ rw (a, b) refl
-
 not-turn : (b t : Bool) → b ≡ not t → t ≡ not b
 not-turn b true e = rw e refl
 not-turn b false e = rw e refl
 
 -- what a test of two names says of the column's
-pub name_test : (c : Column) (mine name : List ℕ) (b : Bool) → mine ≡ c.name
+name_test : (c : Column) (mine name : List ℕ) (b : Bool) → mine ≡ c.name
     → b ≡ not (bytes_eq mine name) → bytes_eq c.name name ≡ not b
 name_test c mine name b e t = rw (← e) (not-turn b (bytes_eq mine name) t)
+
+-- one more name
+pub names_next : (columns : List Column) (names : List (List ℕ)) (i : ℕ) (d : Column)
+    (mine name : List ℕ) (b : Bool) → i < length columns → Some name ≡ field_at names i
+    → mine ≡ (get_or columns i d).name → b ≡ not (bytes_eq mine name)
+    → other_name 1 columns names ≡ other_name (i + 1) (drop i columns) (drop i names)
+    → other_name 1 columns names ≡
+    (if not b then other_name (i + 1 + 1) (drop (i + 1) columns) (drop (i + 1) names)
+    else Some (i + 1))
+names_next columns names i d mine name b low at is test h =
+    let c : Column = get_or columns i d in
+    let next : other_name 1 columns names ≡
+    (if bytes_eq c.name name then other_name (i + 1 + 1) (drop (i + 1) columns)
+    (drop (i + 1) names) else Some (i + 1)) =
+    h ∙ rw (column_at columns i d low, field_at-some names i name (sym at)) refl in
+    rw (name_test c mine name b is test) at next
 
 -- a row of the right length is the values of its fields
 row_is : (row : ℕ) (columns : List Column) (fields : List (List ℕ))
@@ -90,32 +96,32 @@ Reads row columns fields cells i =
     (cells_from row (i + 1) (drop i columns) (drop i fields))
 
 cells_next : (row : ℕ) (columns : List Column) (fields : List (List ℕ)) (cells : List Value)
-    (i : ℕ) (c : Column) (field : List ℕ)
-    → drop i columns ≡ c ∷ drop (i + 1) columns → drop i fields ≡ field ∷ drop (i + 1) fields
+    (i : ℕ) (d : Column) (field : List ℕ) → i < length columns → Some field ≡ field_at fields i
     → Reads row columns fields cells i
     → cells_from row 1 columns fields ≡ after cells
-    (first_then (cell_at row (i + 1) c.kind field)
+    (first_then (cell_at row (i + 1) (get_or columns i d).kind field)
     (cells_from row (i + 1 + 1) (drop (i + 1) columns) (drop (i + 1) fields)))
-cells_next row columns fields cells i c field a b h = h ∙ rw (a, b) refl
+cells_next row columns fields cells i d field low at h =
+    h ∙ rw (column_at columns i d low, field_at-some fields i field (sym at)) refl
 
 -- a field's fault is the row's
 pub cell_fault : (row : ℕ) (columns : List Column) (fields : List (List ℕ)) (cells : List Value)
-    (i : ℕ) (c : Column) (field : List ℕ) (e : RowFault) → length fields ≡ length columns
-    → drop i columns ≡ c ∷ drop (i + 1) columns → drop i fields ≡ field ∷ drop (i + 1) fields
-    → Reads row columns fields cells i
-    → cell_at row (i + 1) c.kind field ≡ Err e → row_at row columns fields ≡ Err e
-cell_fault row columns fields cells i c field e size a b h fault =
+    (i : ℕ) (d : Column) (field : List ℕ) (e : RowFault) → length fields ≡ length columns
+    → i < length columns → Some field ≡ field_at fields i → Reads row columns fields cells i
+    → cell_at row (i + 1) (get_or columns i d).kind field ≡ Err e
+    → row_at row columns fields ≡ Err e
+cell_fault row columns fields cells i d field e size low at h fault =
     row_is row columns fields size
-    ∙ ap record_of (rw fault at (cells_next row columns fields cells i c field a b h))
+    ∙ ap record_of (rw fault at (cells_next row columns fields cells i d field low at h))
 
 -- a field's value joins those before it
 pub cell_more : (row : ℕ) (columns : List Column) (fields : List (List ℕ)) (cells : List Value)
-    (i : ℕ) (c : Column) (field : List ℕ) (x : Value)
-    → drop i columns ≡ c ∷ drop (i + 1) columns → drop i fields ≡ field ∷ drop (i + 1) fields
-    → Reads row columns fields cells i
-    → cell_at row (i + 1) c.kind field ≡ Ok x → Reads row columns fields (cells ++ (x ∷ [])) (i + 1)
-cell_more row columns fields cells i c field x a b h ok =
-    rw ok at (cells_next row columns fields cells i c field a b h) ∙ after-more cells x _
+    (i : ℕ) (d : Column) (field : List ℕ) (x : Value) → i < length columns
+    → Some field ≡ field_at fields i → Reads row columns fields cells i
+    → cell_at row (i + 1) (get_or columns i d).kind field ≡ Ok x
+    → Reads row columns fields (cells ++ (x ∷ [])) (i + 1)
+cell_more row columns fields cells i d field x low at h ok =
+    rw ok at (cells_next row columns fields cells i d field low at h) ∙ after-more cells x _
 
 -- the rows of all records are these, and then those of the records left from a row's number on
 abbrev pub Continues : List Column → Option (List (List (List ℕ))) → ℕ → List Value

@@ -1,12 +1,11 @@
 -- Each way in which a node is made, from what is kept before it to what is kept behind it.
-use Rattle.std.proofs.Common.{◌≡◌, ℕ, ◌+◌, ◌-◌, ◌<◌, ◌||◌, Bool, false, List, [], ◌∷◌, ◌++◌, length, Option, Some, slice_get, refl, sym, ap, ◌∙◌, subst}
+use Rattle.std.proofs.Common.{◌≡◌, ℕ, ◌+◌, ◌-◌, ◌||◌, false, List, [], ◌∷◌, ◌++◌, Option, Some, slice_get, refl, sym, ap, ◌∙◌, subst}
 use Rattle.std.specs.List.{Contains, flat_map, list_any}
 use Rattle.std.specs.Option.{option_and_then, option_map}
 use Rattle.std.proofs.lemmas.List.Elements.{All-contains}
 use Rattle.flume_value.specs.Bag.{bag_of}
 use Rattle.flume_value.specs.declared.value.Value.{Value}
 use Rattle.flume_types.specs.Tables.{table_of}
-use Rattle.flume_types.specs.declared.column.Column.{Column}
 use Rattle.flume_types.specs.declared.types.Ty.TheVariants as ty
 use Rattle.bag_groups.specs.Combining.{combined_each}
 use Rattle.bag_groups.specs.Groups.{grouped}
@@ -17,7 +16,7 @@ use Rattle.combine_table.specs.declared.comb.Comb.{Comb}
 use Rattle.flume_collection.proofs.Members.{at_head, at_tail}
 use Rattle.flume_collection.specs.Collection.{by_key, together}
 use Rattle.flume_collection.specs.declared.trap.Trap.{Trap}
-use Rattle.script_program.specs.declared.made.Emitted.{Emitted}
+use Rattle.script_program.specs.declared.made.Made.{Made}
 use Rattle.script_program.specs.declared.made.Made.TheVariants as made
 use Rattle.script_program.specs.Script.{Function, Script}
 use Rattle.script_laws.specs.WellFormed.{members_at}
@@ -31,56 +30,25 @@ use Rattle.direct_meaning.specs.declared.kept.Kept.{Kept}
 use Rattle.direct_meaning.specs.inner.Kept.{has_traps, is_trapped, kept_in, members_of, unless_behind}
 use Rattle.direct_meaning.specs.inner.Slots.{IsDoneBy, traps_on}
 use Rattle.direct_meaning.specs.inner.Stands.{Stands}
-use Rattle.direct_meaning.proofs.HereLemmas.{Here, fits_so, goes_quietly, goes_so, reads_so, rows_come}
+use Rattle.direct_meaning.proofs.HereLemmas.{Here, fits_so, goes_quietly, goes_so, reads_so}
 use Rattle.direct_meaning.proofs.ReadLemmas.{AnyRead, CalledRead, GroupsRead, TableRead}
 
 module _ {script : Script} {inputs left : List (List Value)} {number : ℕ}
     {kept : List (Option Kept)} {traps : List Trap} where
-  -- ---- inputs
+  -- ---- inputs, and kept collections
 
-  pub input_left : (file : List ℕ) (columns : List Column)
-      → Here script inputs left number kept traps (made.Input file columns) → 0 < length left
-  input_left file columns here =
-      rows_come (made.Input file columns) here
-      (record { type = here.node.entry.1.type; is_object = false }) refl
-
-  pub input_goes : (file : List ℕ) (columns : List Column)
-      → (here : Here script inputs left number kept traps (made.Input file columns))
-      → (rows : List Value) (more : List (List Value))
-      → left ≡ rows ∷ more → (result : Kept) → result.members ≡ bag_of rows
-      → result.trapped ≡ false → Stands script inputs (number + 1) more
-      (kept ++ Some result ∷ []) traps
-  input_goes file columns here rows more first result members trapped =
-      let m = made.Input file columns in
-      let taken : inputs_behind m left ≡ more = ap (inputs_behind m) first in
+  pub rows_go : {m : Made} → (here : Here script inputs left number kept traps m)
+      → (rows : List Value) (more : List (List Value)) → left ≡ rows ∷ more
+      → inputs_behind m (rows ∷ more) ≡ more
+      → made_as script number m (rows ∷ more) here.stands.table ≡ Some (rows_as rows)
+      → (result : Kept) → result.members ≡ bag_of rows → result.trapped ≡ false
+      → Stands script inputs (number + 1) more (kept ++ Some result ∷ []) traps
+  rows_go {m} here rows more first behind made_so result members trapped =
       subst (λ (l : List (List Value)). Stands script inputs (number + 1) l
-      (kept ++ Some result ∷ []) traps) taken
+      (kept ++ Some result ∷ []) traps) (ap (inputs_behind m) first ∙ behind)
       (goes_quietly m here (rows_as rows)
-      (ap (λ (l : List (List Value)). made_as script number m l here.stands.table) first) result
-      (record { members = members; trapped = trapped }) refl)
-
-  -- ---- kept collections
-
-  pub saved_left : (is_object : Bool) (call : Option Emitted)
-      → Here script inputs left number kept traps (made.Saved is_object call) → 0 < length left
-  saved_left is_object call here =
-      rows_come (made.Saved is_object call) here
-      (record { type = here.node.entry.1.type; is_object = is_object }) refl
-
-  pub saved_goes : (is_object : Bool) (call : Option Emitted)
-      → (here : Here script inputs left number kept traps (made.Saved is_object call))
-      → (rows : List Value) (more : List (List Value))
-      → left ≡ rows ∷ more → (result : Kept) → result.members ≡ bag_of rows
-      → result.trapped ≡ false → Stands script inputs (number + 1) more
-      (kept ++ Some result ∷ []) traps
-  saved_goes is_object call here rows more first result members trapped =
-      let m = made.Saved is_object call in
-      let taken : inputs_behind m left ≡ more = ap (inputs_behind m) first in
-      subst (λ (l : List (List Value)). Stands script inputs (number + 1) l
-      (kept ++ Some result ∷ []) traps) taken
-      (goes_quietly m here (rows_as rows)
-      (ap (λ (l : List (List Value)). made_as script number m l here.stands.table) first) result
-      (record { members = members; trapped = trapped }) refl)
+      (ap (λ (l : List (List Value)). made_as script number m l here.stands.table) first ∙ made_so)
+      result (record { members = members; trapped = trapped }) refl)
 
   -- ---- calls
 

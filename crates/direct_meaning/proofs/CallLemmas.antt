@@ -113,55 +113,39 @@ all_answered gives answer (x ∷ elements) each =
       have = (first.has, rest.have);
     }
 
--- what calls that are so give, read off the answers
+-- what is told of calls that are so, read off the answers
+module _ {X : Type 0} (read : Option Called → List X) (told : Called → List X)
+    (same : (called : Called) → read (Some called) ≡ told called) (answer : Answer) where
+  first_told : (x : Value) (elements : List Value) (calls : List Called)
+      (first : Option Called) (rest : Option (List Called))
+      → answer x ≡ first → calls_on answer elements ≡ rest
+      → option_and_then (λ called. option_map (λ more. called ∷ more) rest) first ≡ Some calls
+      → ((more : List Called) → calls_on answer elements ≡ Some more
+      → flat_map (λ y. read (answer y)) elements ≡ flat_map told more)
+      → read (answer x) ++ flat_map (λ y. read (answer y)) elements ≡ flat_map told calls
+  first_told x elements calls None rest one others is all = cc
+  first_told x elements calls (Some called) None one others is all = cc
+  first_told x elements calls (Some called) (Some more) one others is all =
+      let are : called ∷ more ≡ calls = cc in
+      (λ i. read (one i) ++ all more others i) ∙ (λ i. same called i ++ flat_map told more)
+      ∙ ap (flat_map told) are
+
+  told_all : (elements : List Value) (calls : List Called) → calls_on answer elements ≡ Some calls
+      → flat_map (λ x. read (answer x)) elements ≡ flat_map told calls
+  told_all [] calls is = let none : [] ≡ calls = cc in ap (flat_map told) none
+  told_all (x ∷ elements) calls is =
+      first_told x elements calls (answer x) (calls_on answer elements) refl refl is
+      (told_all elements)
+
 pub emitted_all : (output : ℕ) (answer : Answer) (elements : List Value) (calls : List Called)
     → calls_on answer elements ≡ Some calls
     → flat_map (λ x. emitted_by output (answer x)) elements ≡ flat_map (emissions output) calls
-emitted_all output answer [] calls is =
-    let same : [] ≡ calls = cc in ap (flat_map (emissions output)) same
-emitted_all output answer (x ∷ elements) calls is =
-    emitted_first output x elements answer calls (answer x) (calls_on answer elements) refl refl is
-    (emitted_all output answer elements)
-  where
-    emitted_first : (output : ℕ) (x : Value) (elements : List Value) (answer : Answer)
-        (calls : List Called) (first : Option Called) (rest : Option (List Called))
-        → answer x ≡ first → calls_on answer elements ≡ rest
-        → option_and_then (λ called. option_map (λ more. called ∷ more) rest) first ≡ Some calls
-        → ((more : List Called) → calls_on answer elements ≡ Some more
-        → flat_map (λ y. emitted_by output (answer y)) elements
-        ≡ flat_map (emissions output) more)
-        → emitted_by output (answer x) ++ flat_map (λ y. emitted_by output (answer y)) elements
-        ≡ flat_map (emissions output) calls
-    emitted_first output x elements answer calls None rest one others is all = cc
-    emitted_first output x elements answer calls (Some called) None one others is all = cc
-    emitted_first output x elements answer calls (Some called) (Some more) one others is all =
-        let same : called ∷ more ≡ calls = cc in
-        (λ i. emitted_by output (one i) ++ all more others i)
-        ∙ ap (flat_map (emissions output)) same
+emitted_all output = told_all (emitted_by output) (emissions output) (λ called. refl)
 
 pub trapped_all : (origin : ℕ) (answer : Answer) (elements : List Value) (calls : List Called)
     → calls_on answer elements ≡ Some calls
     → flat_map (λ x. trapped_by origin (answer x)) elements ≡ flat_map (trap_of origin) calls
-trapped_all origin answer [] calls is =
-    let same : [] ≡ calls = cc in ap (flat_map (trap_of origin)) same
-trapped_all origin answer (x ∷ elements) calls is =
-    trapped_first origin x elements answer calls (answer x) (calls_on answer elements) refl refl is
-    (trapped_all origin answer elements)
-  where
-    trapped_first : (origin : ℕ) (x : Value) (elements : List Value) (answer : Answer)
-        (calls : List Called) (first : Option Called) (rest : Option (List Called))
-        → answer x ≡ first → calls_on answer elements ≡ rest
-        → option_and_then (λ called. option_map (λ more. called ∷ more) rest) first ≡ Some calls
-        → ((more : List Called) → calls_on answer elements ≡ Some more
-        → flat_map (λ y. trapped_by origin (answer y)) elements ≡ flat_map (trap_of origin) more)
-        → trapped_by origin (answer x) ++ flat_map (λ y. trapped_by origin (answer y)) elements
-        ≡ flat_map (trap_of origin) calls
-    trapped_first origin x elements answer calls None rest one others is all = cc
-    trapped_first origin x elements answer calls (Some called) None one others is all = cc
-    trapped_first origin x elements answer calls (Some called) (Some more) one others is all =
-        let same : called ∷ more ≡ calls = cc in
-        (λ i. trapped_by origin (one i) ++ all more others i)
-        ∙ ap (flat_map (trap_of origin)) same
+trapped_all origin = told_all (trapped_by origin) (trap_of origin) (λ called. refl)
 
 -- ---- types
 

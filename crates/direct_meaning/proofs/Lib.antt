@@ -8,6 +8,7 @@ pub mod ObjectTypes
 pub mod ObjectMakes
 pub mod MakeLemmas
 pub mod MeaningLemmas
+pub mod GrowLemmas
 pub mod StandLemmas
 pub mod KeepLemmas
 pub mod ObjectKeeps

@@ -306,15 +306,6 @@ pub rows_behind : (m : Made) (type : Ty) (inputs : List (List Value)) (wanted : 
     → AreLists (sourced_by m type ++ wanted) inputs → AreLists wanted (inputs_behind m inputs)
 rows_behind (made.Input file columns) type [] wanted have = absurd have
 rows_behind (made.Input file columns) type (rows ∷ inputs) wanted have = have.1
-rows_behind (made.Do source called output) type inputs wanted have = have
-rows_behind (made.Group source) type inputs wanted have = have
-rows_behind (made.Combine source by) type inputs wanted have = have
-rows_behind (made.Flatten sources) type inputs wanted have = have
-rows_behind (made.Count source) type inputs wanted have = have
-rows_behind (made.Join left right) type inputs wanted have = have
-rows_behind (made.Top many source) type inputs wanted have = have
-rows_behind (made.CombineAll source by) type inputs wanted have = have
-rows_behind (made.Operate objects called) type inputs wanted have = have
-rows_behind (made.DoWith source called object) type inputs wanted have = have
 rows_behind (made.Saved is_object call) type [] wanted have = absurd have
 rows_behind (made.Saved is_object call) type (rows ∷ inputs) wanted have = have.1
+rows_behind _ type inputs wanted have = have

@@ -133,13 +133,18 @@ module _ (script : Script) (well : IsWellFormed script) where
       → AreLists (sourced_from script (length before) rest) inputs
       → Meant script script.nodes rest inputs table
 
-  needed_goes : (entry : List ℕ × Node) (rest : Named Node) → Goes rest → (before : Named Node)
+  -- where the first node is needed or not
+  abbrev GoesWhere : Bool → List ℕ × Node → Named Node → Type 0
+  GoesWhere needed entry rest = (before : Named Node)
       → before ++ entry ∷ rest ≡ script.nodes → AllFit script.functions before (entry ∷ rest)
       → (inputs : List (List Value)) (table : List (Option Collection))
       → AreMade script before table
       → AreLists (sourced_from script (length before) (entry ∷ rest)) inputs
-      → is_needed script (length before) ≡ true
+      → is_needed script (length before) ≡ needed
       → Meant script script.nodes (entry ∷ rest) inputs table
+
+  needed_goes : (entry : List ℕ × Node) (rest : Named Node) → Goes rest
+      → GoesWhere true entry rest
   needed_goes entry rest goes before split fit inputs table are have needed =
       let m = entry.1.made in
       let wanted = sourced_from script (suc (length before)) rest in
@@ -164,13 +169,8 @@ module _ (script : Script) (well : IsWellFormed script) where
         are = on.are;
       }
 
-  unneeded_goes : (entry : List ℕ × Node) (rest : Named Node) → Goes rest → (before : Named Node)
-      → before ++ entry ∷ rest ≡ script.nodes → AllFit script.functions before (entry ∷ rest)
-      → (inputs : List (List Value)) (table : List (Option Collection))
-      → AreMade script before table
-      → AreLists (sourced_from script (length before) (entry ∷ rest)) inputs
-      → is_needed script (length before) ≡ false
-      → Meant script script.nodes (entry ∷ rest) inputs table
+  unneeded_goes : (entry : List ℕ × Node) (rest : Named Node) → Goes rest
+      → GoesWhere false entry rest
   unneeded_goes entry rest goes before split fit inputs table are have unneeded =
       let rows = wanted_unneeded script (length before) entry rest inputs unneeded have in
       let same = as_many script before table are in

@@ -1,7 +1,9 @@
 -- Members of lists by their places, and two lists whose members are related one by one.
-use Rattle.std.proofs.Common.{◌≡◌, ℕ, zero, suc, ◌<◌, List, [], ◌∷◌, ◌++◌, length, Option, Some, None, slice_get, refl, subst, arith}
-use Rattle.std.specs.List.{AllZip}
+use Rattle.std.proofs.Common.{◌≡◌, ℕ, zero, suc, ◌<◌, List, [], ◌∷◌, ◌++◌, length, map, Option}
+use Rattle.std.proofs.Common.{Some, None, slice_get, refl, subst, arith, ⊎_elim}
+use Rattle.std.specs.List.{AllZip, Contains}
 use Rattle.std.specs.Option.{option_map}
+use Rattle.flume_collection.proofs.Members.{at_head, at_tail, head_or_tail, not_in_none}
 pub use Rattle.script_laws.proofs.MemberLemmas.{at_end, within, zip_at, zip_length}
 
 -- ---- one list
@@ -17,6 +19,14 @@ pub mapped : {A B : Type 0} (f : A → B) (o : Option A) (y : B) → option_map 
     → (x : A) × (o ≡ Some x) × (f x ≡ y)
 mapped f None y is = cc
 mapped f (Some x) y is = (x, refl, cc)
+
+pub mapped_has : {A B : Type 0} (f : A → B) (xs : List A) (x : A) → Contains xs x
+    → Contains (map f xs) (f x)
+mapped_has f [] x is = absurd (not_in_none x is)
+mapped_has f (y ∷ xs) x is =
+    ⊎_elim
+    (λ (e : y ≡ x). subst (λ z. Contains (map f (y ∷ xs)) (f z)) e (at_head (f y) (map f xs)))
+    (λ there. at_tail (f y) (map f xs) (f x) (mapped_has f xs x there)) (head_or_tail y xs x is)
 
 -- ---- two lists
 

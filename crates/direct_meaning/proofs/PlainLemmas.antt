@@ -33,19 +33,10 @@ all-inputs (false ∷ kinds) none (list ∷ lists) =
 no-kept : (b : Bool) (how : Made) → IsUnsaved how → (rest : List Bool)
     → Each (λ kind. kind ≡ false) rest
     → Each (λ kind. kind ≡ false) (more_if b (source_kind how) rest)
-no-kept b (made.Saved is_object call) un rest each = absurd un
-no-kept true (made.Input file columns) un rest each = (refl, each)
-no-kept true (made.Do source called output) un rest each = each
-no-kept true (made.Group source) un rest each = each
-no-kept true (made.Combine source by) un rest each = each
-no-kept true (made.Flatten sources) un rest each = each
-no-kept true (made.Count source) un rest each = each
-no-kept true (made.Join left right_) un rest each = each
-no-kept true (made.Top many source) un rest each = each
-no-kept true (made.CombineAll source by) un rest each = each
-no-kept true (made.Operate objects called) un rest each = each
-no-kept true (made.DoWith source called object) un rest each = each
 no-kept false how un rest each = each
+no-kept true (made.Input file columns) un rest each = (refl, each)
+no-kept true (made.Saved is_object call) un rest each = absurd un
+no-kept true _ un rest each = each
 
 all-plain : (script : Script) (n : ℕ) (nodes : Named Node)
     → Each (λ entry. IsUnsaved entry.1.made) nodes
@@ -78,20 +69,8 @@ one-more false how un type own others rows behind have = behind rows have
 one-more true (made.Input file columns) un type own others [] behind have = absurd have
 one-more true (made.Input file columns) un type own others (list ∷ rows) behind have =
     (record { typed = have.0; one = λ e. cc }, behind rows have.1)
-one-more true (made.Do source called output) un type own others rows behind have =
-    behind rows have
-one-more true (made.Group source) un type own others rows behind have = behind rows have
-one-more true (made.Combine source by) un type own others rows behind have = behind rows have
-one-more true (made.Flatten sources) un type own others rows behind have = behind rows have
-one-more true (made.Count source) un type own others rows behind have = behind rows have
-one-more true (made.Join left right_) un type own others rows behind have = behind rows have
-one-more true (made.Top many source) un type own others rows behind have = behind rows have
-one-more true (made.CombineAll source by) un type own others rows behind have = behind rows have
-one-more true (made.Operate objects called) un type own others rows behind have =
-    behind rows have
-one-more true (made.DoWith source called object) un type own others rows behind have =
-    behind rows have
 one-more true (made.Saved is_object call) un type own others rows behind have = absurd un
+one-more true _ un type own others rows behind have = behind rows have
 
 lists-from : (script : Script) (n : ℕ) (nodes : Named Node)
     → Each (λ entry. IsUnsaved entry.1.made) nodes → (rows : List (List Value))

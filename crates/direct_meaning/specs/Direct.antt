@@ -140,18 +140,9 @@ made_as script number (made.Saved is_object call) (rows ∷ inputs) table = Some
 abbrev pub inputs_behind : Made → List (List Value) → List (List Value)
 inputs_behind (made.Input file columns) [] = []
 inputs_behind (made.Input file columns) (rows ∷ inputs) = inputs
-inputs_behind (made.Do source called output) inputs = inputs
-inputs_behind (made.Group source) inputs = inputs
-inputs_behind (made.Combine source by) inputs = inputs
-inputs_behind (made.Flatten sources) inputs = inputs
-inputs_behind (made.Count source) inputs = inputs
-inputs_behind (made.Join left right) inputs = inputs
-inputs_behind (made.Top many source) inputs = inputs
-inputs_behind (made.CombineAll source by) inputs = inputs
-inputs_behind (made.Operate objects called) inputs = inputs
-inputs_behind (made.DoWith source called object) inputs = inputs
 inputs_behind (made.Saved is_object call) [] = []
 inputs_behind (made.Saved is_object call) (rows ∷ inputs) = inputs
+inputs_behind _ inputs = inputs
 
 -- nodes in order, behind those that made this table: one that is not needed makes nothing
 abbrev pub collections : Script → Named Node → List (List Value) → List (Option Collection)

@@ -82,7 +82,7 @@ no_values : (vs : List Value) → values_in [] ≡ Some vs → HaveTypes [] vs
 no_values vs e =
     let same : [] ≡ vs = cc in let none : HaveTypes [] [] = tt in subst (HaveTypes []) same none
 
-values_have : (ts : List Ty) (cs : List Collection) (vs : List Value) → AllGood ts cs
+pub values_have : (ts : List Ty) (cs : List Collection) (vs : List Value) → AllGood ts cs
     → values_in cs ≡ Some vs → HaveTypes ts vs
 values_have [] [] vs a e = no_values vs e
 values_have [] (c ∷ cs) vs a e = absurd a
@@ -97,7 +97,7 @@ record_has ts t vs r h =
     subst (λ u. Has u (value.Rec vs)) (sym r.record_of)
     (has_record r.fields vs (subst (λ us. HaveTypes us vs) (sym r.in_order) h))
 
-argument_has : (ts : List Ty) (t : Ty) (vs : List Value) → IsArgument ts t → HaveTypes ts vs
+pub argument_has : (ts : List Ty) (t : Ty) (vs : List Value) → IsArgument ts t → HaveTypes ts vs
     → Has t (argument vs)
 argument_has [] t [] r h = record_has [] t [] r h
 argument_has [] t (v ∷ vs) r h = absurd h

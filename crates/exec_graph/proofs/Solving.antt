@@ -275,11 +275,8 @@ short_ranked r all (e ∷ es) t a = (
 -- where m is at each output what the node gives there, it holds of the node
 holds_from : (w : World) (m : Place → Collection) (n : ℕ) (x : Node) → HasOuts x
     → ((j : ℕ) → m (place n j) ≡ value w m x j) → Holds w m n x
-holds_from w m n (Source r) o h = h 0
-holds_from w m n (Flatten ins) o h = h 0
 holds_from w m n (Pdo c f) o h = fits_from w m n (m c) f o (λ j _. h j)
-holds_from w m n (Gbk c i l k) o h = h 0
-holds_from w m n (Barrier ins i l a) o h = h 0
+holds_from w m n _ o h = h 0
 
 -- there is a meaning
 pub collection_meets : (w : World) (g : Graph) → IsSound g → Meets w g.nodes (collection w g)

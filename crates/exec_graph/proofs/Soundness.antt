@@ -22,11 +22,8 @@ differ_ascends (e ∷ es) a = (
 )
 
 outs_ok : (g : Graph) (n : ℕ) (x : Node) → IsNodeOk g n x → HasOuts x
-outs_ok g n (Source r) h = tt
-outs_ok g n (Flatten ins) h = tt
 outs_ok g n (Pdo c f) h = subst OutsDiffer h.order (numbered_differ 0 f)
-outs_ok g n (Gbk c o l k) h = tt
-outs_ok g n (Barrier ins o l a) h = tt
+outs_ok g n _ h = tt
 
 pub IsSound-ok : (g : Graph) → IsGraphOk g → IsSound g
 IsSound-ok g ok = record {

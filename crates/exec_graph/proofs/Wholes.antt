@@ -189,12 +189,10 @@ node_object w es m n j (Source r) t one h a e i =
     (subst IsObject
     (sym (h ∙ ap (λ (xs : List Value). record { bag = bag_of xs; traps = [] }) row.1))
     (value_is_object row.0))
-node_object w es m n j (Flatten ins) t one h a e i = absurd (false≢true i)
-node_object w es m n j (Pdo c f) t one h a e i = absurd (false≢true i)
-node_object w es m n j (Gbk c o l k) t one h a e i = absurd (false≢true i)
 node_object w es m n j (Barrier ins o l d) t one h a e i =
     subst (λ k. IsObject (m (place n k))) (sym (eqb-true j 0 e))
     (subst IsObject (sym h) (barrier_object w m (is_object_at es) o d ins i t a))
+node_object w es m n j _ t one h a e i = absurd (false≢true i)
 
 object_below : (w : World) (g : Graph) → IsGraphOk g → IsSound g → HaveOneRow w g.nodes
     → (m : Place → Collection) → Meets w g.nodes m → (r : ℕ → ℕ) → IsRankedBy r g.nodes

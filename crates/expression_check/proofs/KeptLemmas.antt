@@ -1,13 +1,12 @@
 -- What stays as types are added.
-use Rattle.std.proofs.Common.{◌≡◌, ℕ, ◌+◌, ◌<◌, List, [], ◌∷◌, ◌++◌, length, map, drop, get_or, Ok, arith, sym, ap, ◌∙◌}
-use Rattle.std.proofs.lemmas.List.{map_push, drop_more}
-use Rattle.std.proofs.lemmas.List.Elements.{All-same, All-push}
+use Rattle.std.proofs.Common.{◌≡◌, ℕ, ◌+◌, ◌<◌, List, [], ◌∷◌, ◌++◌, length, map, drop, get_or, Ok, sym, ap, ◌∙◌}
+use Rattle.std.proofs.lemmas.List.{drop_more}
 use Rattle.type_table.specs.of_flume_types.declared.types.Ty.{Ty}
 use Rattle.flume_grammar.specs.declared.tree.Expr.{Expr}
 use Rattle.dofn_eval.specs.declared.expr.Expr.{Expr as Slots}
 use Rattle.type_table.specs.Table.{type_at, Extends}
 use Rattle.expression_types.specs.of_written_types.Answer.{◌>>=◌}
-use Rattle.expression_types.proofs.of_written_types.NamedLemmas.{same-map}
+use Rattle.expression_types.proofs.of_written_types.NamedLemmas.{below-push, push-same, same-map}
 use Rattle.expression_check.specs.declared.typed.Operand.{Operand}
 use Rattle.expression_types.specs.Held.{AreTypes}
 use Rattle.expression_types.specs.Sight.{Sight}
@@ -19,23 +18,19 @@ operand-kept old new more made in_ = λ i. (made.expr, more.same made.ty in_ i)
 
 pub types-kept : (old new : List Ty) → Extends old new → (ids : List ℕ)
     → AreTypes (length old) ids → map (type_at new) ids ≡ map (type_at old) ids
-types-kept old new more ids all =
-    same-map (type_at new) (type_at old) (λ id. id < length old) more.same ids all
+types-kept old new more =
+    same-map (type_at new) (type_at old) (λ id. id < length old) more.same
 
 pub types-push : (old new : List Ty) → Extends old new → (ids after : List ℕ) (id : ℕ)
     → after ≡ ids ++ id ∷ [] → AreTypes (length old) ids
     → map (type_at new) after ≡ map (type_at old) ids ++ type_at new id ∷ []
-types-push old new more ids after id put all =
-    ap (map (type_at new)) put ∙ map_push (type_at new) ids id
-    ∙ ap (λ ts. ts ++ type_at new id ∷ []) (types-kept old new more ids all)
+types-push old new more =
+    push-same (type_at new) (type_at old) (λ id. id < length old) more.same
 
 pub within-push : (old new : List Ty) → Extends old new → (ids after : List ℕ) (id : ℕ)
     → after ≡ ids ++ id ∷ [] → AreTypes (length old) ids → id < length new
     → AreTypes (length new) after
-within-push old new more ids after id put all in_ =
-    All-same (λ id. id < length new) after (ids ++ id ∷ []) put
-    (All-push (λ id. id < length new) ids id
-    (λ k d k_in. omega (arith, all k d k_in, more.longer)) in_)
+within-push = below-push (λ id. id)
 
 -- ---- parts, from the left
 

@@ -167,33 +167,26 @@ right_field line name names (Ok x) type given h = field_by (place_under line nam
 
 -- ---- literals
 
+literal_right : (v : Value) (t : Ty) (names : Newest Ty) → typing.Has t v
+    → IsRight names (Ok (expr.Literal v, t)) (Ok t) (λ env. Gives (t, v))
+literal_right v t names has =
+    (refl, typing.literal v has, λ vs. ap (tagged t) (sym (value_of-Literal v vs)))
+
 pub number_by : (line : ℕ) (o : Option ℤ) (names : Newest Ty)
     → IsRight names (literal line o) (or_fault line BadNumber o >>= λ n. Ok ty.Int)
     (λ env. with_part o (λ n. Gives (ty.Int, value.Int n)))
 number_by line None names = refl
-number_by line (Some n) names = (
-  refl,
-  typing.literal (value.Int n) (has_int n),
-  λ vs. ap (tagged ty.Int) (sym (value_of-Literal (value.Int n) vs)),
-)
+number_by line (Some n) names = literal_right (value.Int n) ty.Int names (has_int n)
 
 pub text_right : (text : List ℕ) (names : Newest Ty)
     → IsRight names (Ok (expr.Literal (value.Text text), ty.Text)) (Ok ty.Text)
     (λ env. Gives (ty.Text, value.Text text))
-text_right text names = (
-  refl,
-  typing.literal (value.Text text) (has_text text),
-  λ vs. ap (tagged ty.Text) (sym (value_of-Literal (value.Text text) vs)),
-)
+text_right text names = literal_right (value.Text text) ty.Text names (has_text text)
 
 pub bool_right : (b : Bool) (names : Newest Ty)
     → IsRight names (Ok (expr.Literal (value.Bool b), ty.Bool)) (Ok ty.Bool)
     (λ env. Gives (ty.Bool, value.Bool b))
-bool_right b names = (
-  refl,
-  typing.literal (value.Bool b) (has_bool b),
-  λ vs. ap (tagged ty.Bool) (sym (value_of-Literal (value.Bool b) vs)),
-)
+bool_right b names = literal_right (value.Bool b) ty.Bool names (has_bool b)
 
 pub empty_by : (line : ℕ) (w : Checked Ty) (names : Newest Ty)
     → IsRight names ((w >>= λ m. shallow line (ty.List m)) >>= λ t. Ok (expr.List [], t))

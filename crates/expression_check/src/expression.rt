@@ -134,7 +134,7 @@ fn two(
     ensures sight { scope.new.sight ≡ scope.old.sight }
 {
     let both = pair(alloc, line, a, b, scope)?;
-    binary(line, op, both.first, both.second, scope)
+    binary(line, op, both, scope)
 }
 
 #[cycle(resolve)]

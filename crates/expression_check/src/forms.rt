@@ -9,12 +9,12 @@ ghost use Rattle.expression_types.specs.of_written_types.Answer.{Gives};
 ghost use Rattle.expression_types.specs.Held.{AreTypes};
 ghost use Rattle.expression_check.specs.Slots as spec;
 
-use crate::typed::{AllTyped, Operand, Typed};
+use crate::typed::{AllTyped, Operand, Pair, Typed};
 use dofn_eval::Expr as Slots;
 use expression_types::written_types::refused;
 use expression_types::{
-    Operator, Scope, binary_type, index_type, list_of, list_type, one, pick_type, place_under,
-    record_type, side_of, side_type, unary_type,
+    Operator, Scope, Sides, binary_type, index_type, list_of, list_type, one, pick_type,
+    place_under, record_type, side_of, side_type, unary_type,
 };
 use flume_grammar::{ScriptFault, ScriptKind, Side, Type, Unary};
 use flume_value::{Held, Pile, Str, Value};
@@ -117,23 +117,22 @@ pub fn unary(line: u32, op: Unary, x: Operand, scope: &mut Scope) -> Result<Type
     })
 }
 
-pub fn binary(
-    line: u32,
-    op: Operator,
-    x: Operand,
-    y: Operand,
-    scope: &mut Scope,
-) -> Result<Typed, ScriptFault>
-    requires first { x.ty < length scope.old.types }
-    requires second { y.ty < length scope.old.types }
+pub fn binary(line: u32, op: Operator, both: Pair, scope: &mut Scope) -> Result<Typed, ScriptFault>
+    requires first { both.first.ty < length scope.old.types }
+    requires second { both.second.ty < length scope.old.types }
     ensures gives { Gives (spec.typed scope.new.types) result (spec.binary line op
-        (spec.operand scope.old.types x) (spec.operand scope.old.types y)) }
+        (spec.operand scope.old.types both.first) (spec.operand scope.old.types both.second)) }
     ensures within { IfOk result (λ made. made.ty < length scope.new.types) }
     ensures extends { Extends scope.old.types scope.new.types }
     ensures sight { scope.new.sight ≡ scope.old.sight }
 {
-    let ty = binary_type(line, op, x.ty, y.ty, scope)?;
-    let expr = operation(op, x.expr, y.expr);
+    let Pair { first, second } = both;
+    let sides = Sides {
+        left: first.ty,
+        right: second.ty,
+    };
+    let ty = binary_type(line, op, sides, scope)?;
+    let expr = operation(op, first.expr, second.expr);
     Ok(Typed { expr, ty })
 }
 

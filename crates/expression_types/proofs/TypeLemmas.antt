@@ -121,25 +121,21 @@ counts : (t u : Ty) → ty.Int ≡ u → IsLong t → UnaryTyped (one unary.Len)
 counts t u r (inl e) = at_types unary.Len ty.Text ty.Int t u counts_bytes e r
 counts t u r (inr (m, e)) = at_types unary.Len (ty.List m) ty.Int t u (counts_members m) e r
 
+-- an operation that is tested for the type that it takes
+tested : (op : Unary) (s r t u : Ty) (test : Bool) → (test ≡ true → t ≡ s)
+    → UnaryTyped (one op) s r → cond test (Some r) None ≡ Some u → UnaryTyped (one op) t u
+tested op s r t u test is h e =
+    let p = where_is test r u e in at_types op s r t u h (is p.0) p.1
+
 pub unary_typed : (op : Unary) (t u : Ty) → unary_type op t ≡ Some u → UnaryTyped (one op) t u
-unary_typed unary.Not t u e =
-    let p = where_is (is_bool (out-Ty t)) ty.Bool u e in
-    at_types unary.Not ty.Bool ty.Bool t u inverts (bool_is t p.0) p.1
-unary_typed unary.Negate t u e =
-    let p = where_is (is_int (out-Ty t)) ty.Int u e in
-    at_types unary.Negate ty.Int ty.Int t u negates (int_is t p.0) p.1
-unary_typed unary.Len t u e =
-    let p = where_is (is_long (out-Ty t)) ty.Int u e in
-    counts t u p.1 (long_is t p.0)
-unary_typed unary.Words t u e =
-    let p = where_is (is_text (out-Ty t)) (ty.List ty.Text) u e in
-    at_types unary.Words ty.Text (ty.List ty.Text) t u splits (text_is t p.0) p.1
-unary_typed unary.Text t u e =
-    let p = where_is (is_int (out-Ty t)) ty.Text u e in
-    at_types unary.Text ty.Int ty.Text t u writes (int_is t p.0) p.1
-unary_typed unary.Number t u e =
-    let p = where_is (is_text (out-Ty t)) ty.Int u e in
-    at_types unary.Number ty.Text ty.Int t u reads (text_is t p.0) p.1
+unary_typed unary.Not t u = tested unary.Not ty.Bool ty.Bool t u _ (bool_is t) inverts
+unary_typed unary.Negate t u = tested unary.Negate ty.Int ty.Int t u _ (int_is t) negates
+unary_typed unary.Len t u =
+    λ e. let p = where_is (is_long (out-Ty t)) ty.Int u e in counts t u p.1 (long_is t p.0)
+unary_typed unary.Words t u =
+    tested unary.Words ty.Text (ty.List ty.Text) t u _ (text_is t) splits
+unary_typed unary.Text t u = tested unary.Text ty.Int ty.Text t u _ (int_is t) writes
+unary_typed unary.Number t u = tested unary.Number ty.Text ty.Int t u _ (text_is t) reads
 
 pub bools_are : (t u w : Ty) → bools_type t u ≡ Some w
     → (t ≡ ty.Bool) × (u ≡ ty.Bool) × (ty.Bool ≡ w)

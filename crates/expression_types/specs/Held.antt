@@ -6,6 +6,7 @@ use Rattle.written_types.specs.Named.{Named}
 use Rattle.written_types.specs.Known.{Known}
 use Rattle.written_types.specs.inner.Held.{type_of, AreHeld}
 use Rattle.expression_types.specs.Sight.{Sight}
+use Rattle.expression_types.specs.declared.parts.Sides.{Sides}
 
 -- the types under numbers, and what is in sight
 pub record InSight : Type 0 where
@@ -25,3 +26,6 @@ AreInSight types entries = AreHeld types (reverse entries)
 -- these are numbers below n
 abbrev pub AreTypes : ℕ → List ℕ → Type 0
 AreTypes n ids = All (λ id. id < n) ids
+
+abbrev pub AreSides : ℕ → Sides → Type 0
+AreSides n sides = (sides.left < n) × (sides.right < n)

@@ -54,7 +54,7 @@ pub fn member_of(line: u32, id: TypeId, types: &Types) -> Result<TypeId, ScriptF
     }
 }
 
-/// The types of an either's sides.
+/// The types of both sides, of an either or of an operator.
 #[derive(Clone, Copy)]
 pub struct Sides {
     pub left: TypeId,

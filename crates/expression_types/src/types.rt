@@ -8,11 +8,12 @@ ghost use Rattle.type_table.specs.declared.shape.Shape.TheVariants as shape_;
 ghost use Rattle.type_table.specs.Table.{type_at, tree_of, IsWithin, Extends};
 ghost use Rattle.written_types.specs.Answer.{Gives, or_fault};
 ghost use Rattle.written_types.specs.Written.{shallow as shallow_type};
+ghost use Rattle.expression_types.specs.Held.{AreSides};
 ghost use Rattle.expression_types.specs.Types as spec;
 
 use crate::kinds::{is_bool, is_int, is_long, is_text};
 use crate::operator::Operator;
-use crate::parts::member_of;
+use crate::parts::{Sides, member_of};
 use crate::scope::Scope;
 use dofn_eval::Binary;
 use flume_grammar::{ScriptFault, ScriptKind, Side, Unary};
@@ -76,80 +77,64 @@ fn words_type(line: u32, id: TypeId, scope: &mut Scope) -> Result<TypeId, Script
 pub fn binary_type(
     line: u32,
     op: Operator,
-    left: TypeId,
-    right: TypeId,
+    sides: Sides,
     scope: &mut Scope,
 ) -> Result<TypeId, ScriptFault>
-    requires left_in { left < length scope.old.types }
-    requires right_in { right < length scope.old.types }
-    ensures gives { Gives (type_at scope.new.types) result (or_fault line Mistyped
-        (spec.binary_type op (type_at scope.old.types left) (type_at scope.old.types right))) }
+    requires { AreSides (length scope.old.types) sides }
+    ensures gives { Gives (type_at scope.new.types) result (or_fault line Mistyped (spec.binary_type
+        op (type_at scope.old.types sides.left) (type_at scope.old.types sides.right))) }
     ensures within { IfOk result (λ id. id < length scope.new.types) }
     ensures extends { Extends scope.old.types scope.new.types }
     ensures sight { scope.new.sight ≡ scope.old.sight }
 {
     match op {
-        Operator::And => of_bools(line, left, right, scope),
-        Operator::Or => of_bools(line, left, right, scope),
-        Operator::Two(op) => two_type(line, op, left, right, scope),
+        Operator::And => of_bools(line, sides, scope),
+        Operator::Or => of_bools(line, sides, scope),
+        Operator::Two(op) => two_type(line, op, sides, scope),
     }
 }
 
-fn of_bools(
-    line: u32,
-    left: TypeId,
-    right: TypeId,
-    scope: &mut Scope,
-) -> Result<TypeId, ScriptFault>
-    requires left_in { left < length scope.old.types }
-    requires right_in { right < length scope.old.types }
-    ensures gives { Gives (type_at scope.new.types) result (or_fault line Mistyped
-        (spec.bools_type (type_at scope.old.types left) (type_at scope.old.types right))) }
+fn of_bools(line: u32, sides: Sides, scope: &mut Scope) -> Result<TypeId, ScriptFault>
+    requires { AreSides (length scope.old.types) sides }
+    ensures gives { Gives (type_at scope.new.types) result (or_fault line Mistyped (spec.bools_type
+        (type_at scope.old.types sides.left) (type_at scope.old.types sides.right))) }
     ensures within { IfOk result (λ id. id < length scope.new.types) }
     ensures extends { Extends scope.old.types scope.new.types }
     ensures sight { scope.new.sight ≡ scope.old.sight }
 {
-    let test = is_bool(scope.types(), left) && is_bool(scope.types(), right);
+    let test = is_bool(scope.types(), sides.left) && is_bool(scope.types(), sides.right);
     where_true(line, test, Shape::Bool, scope)
 }
 
-fn two_type(
-    line: u32,
-    op: Binary,
-    left: TypeId,
-    right: TypeId,
-    scope: &mut Scope,
-) -> Result<TypeId, ScriptFault>
-    requires left_in { left < length scope.old.types }
-    requires right_in { right < length scope.old.types }
-    ensures gives { Gives (type_at scope.new.types) result (or_fault line Mistyped
-        (spec.two_type op (type_at scope.old.types left) (type_at scope.old.types right))) }
+fn two_type(line: u32, op: Binary, sides: Sides, scope: &mut Scope) -> Result<TypeId, ScriptFault>
+    requires { AreSides (length scope.old.types) sides }
+    ensures gives { Gives (type_at scope.new.types) result (or_fault line Mistyped (spec.two_type
+        op (type_at scope.old.types sides.left) (type_at scope.old.types sides.right))) }
     ensures within { IfOk result (λ id. id < length scope.new.types) }
     ensures extends { Extends scope.old.types scope.new.types }
     ensures sight { scope.new.sight ≡ scope.old.sight }
 {
     match op {
         Binary::Arithmetic(_) => {
-            let test = is_int(scope.types(), left) && is_int(scope.types(), right);
+            let test = is_int(scope.types(), sides.left) && is_int(scope.types(), sides.right);
             where_true(line, test, Shape::Int, scope)
         }
         Binary::Comparison(_) => {
-            let test = scope.types().same(left, right);
+            let test = scope.types().same(sides.left, sides.right);
             where_true(line, test, Shape::Bool, scope)
         }
-        Binary::Concat => joined(line, left, right, scope.types()),
+        Binary::Concat => joined(line, sides, scope.types()),
     }
 }
 
-fn joined(line: u32, left: TypeId, right: TypeId, types: &Types) -> Result<TypeId, ScriptFault>
-    requires left_in { left < length types.now }
-    requires right_in { right < length types.now }
+fn joined(line: u32, sides: Sides, types: &Types) -> Result<TypeId, ScriptFault>
+    requires { AreSides (length types.now) sides }
     ensures gives { Gives (type_at types.now) result (or_fault line Mistyped
-        (spec.two_type two.Concat (type_at types.now left) (type_at types.now right))) }
-    ensures same { IfOk result (λ joined. joined ≡ left) }
+        (spec.two_type two.Concat (type_at types.now sides.left) (type_at types.now sides.right))) }
+    ensures same { IfOk result (λ joined. joined ≡ sides.left) }
 {
-    let test = types.same(left, right) && is_long(types, left);
-    itself(line, test, left)
+    let test = types.same(sides.left, sides.right) && is_long(types, sides.left);
+    itself(line, test, sides.left)
 }
 
 // The type itself, where the test holds.

@@ -1,19 +1,11 @@
 -- A step on whose outputs there are no steps counts as one.
-use Rattle.std.proofs.Common.{◌≡◌, ℕ, ◌<◌, ◌≤◌, Bool, true, false, eqb, ◌&&◌, List, [], ◌∷◌, length, get_or, map, suc, refl, sym, ap, arith}
-use Rattle.std.proofs.lemmas.Bool.{eqb-true, false≢true}
+use Rattle.std.proofs.Common.{◌≡◌, ℕ, ◌<◌, ◌≤◌, true, false, eqb, List, [], ◌∷◌, length, get_or, map, suc, refl, sym, ap, arith}
+use Rattle.std.proofs.lemmas.Bool.{and_parts, eqb-true}
 use Rattle.std.specs.List.{list_all}
 use Rattle.exec_graph.specs.Forests.{Branch, Twig, Bare, grown, one_at, steps, twigs}
 use Rattle.exec_graph.specs.Twigs.{twig}
 use Rattle.exec_graph.specs.declared.step.Output.{Output}
 use Rattle.exec_graph.proofs.Bools.{not_true}
-
-both_left : (a b : Bool) → (a && b) ≡ true → a ≡ true
-both_left true b h = refl
-both_left false b h = h
-
-both_right : (a b : Bool) → (a && b) ≡ true → b ≡ true
-both_right true b h = h
-both_right false b h = absurd (false≢true h)
 
 none_of : (bs : List Branch) → length bs ≡ 0 → steps (grown bs) ≡ 0
 none_of [] h = refl
@@ -29,10 +21,10 @@ none_more : (b : Branch) (n : ℕ) (os : List Output)
     → steps (twigs b (suc n) (map twig os) Bare) ≡ 0
 none_more b n [] h = refl
 none_more b n (o ∷ os) h =
-    let all : Bool = list_all (λ o. eqb (length o.kids.items) 0) os in
-    let one : Bool = eqb (length o.kids.items) 0 in
-    let a = none_of o.kids.items (eqb-true (length o.kids.items) 0 (both_left one all h)) in
-    let c = none_more b (suc n) os (both_right one all h) in
+    let (one, all) = and_parts (eqb (length o.kids.items) 0)
+    (list_all (λ o. eqb (length o.kids.items) 0) os) h in
+    let a = none_of o.kids.items (eqb-true (length o.kids.items) 0 one) in
+    let c = none_more b (suc n) os all in
     let d = not_first n in omega arith
 
 pub bare_is_one : (b : Branch) (o : Output) (os : List Output) → b.first ≡ twig o

@@ -2,7 +2,7 @@
 use Rattle.std.proofs.Common.{◌≡◌, ℕ, ◌<◌, true, false, Option, Some, None, refl, arith}
 use Rattle.std.proofs.lemmas.Bool.{false≢true, le-ltb, ltb-true}
 use Rattle.exec_graph.specs.declared.graph.Node.{Node}
-use Rattle.exec_graph.specs.declared.graph.Node.TheVariants.{Source, Flatten, Pdo, Gbk, Barrier}
+use Rattle.exec_graph.specs.declared.graph.Node.TheVariants.{Flatten}
 use Rattle.sink_laws.specs.Chain.{call_of, is_before, lesser}
 use Rattle.sink_laws.specs.declared.pair.Pair.{Pair}
 use Rattle.sink_laws.proofs.Rerouting.{unlike}
@@ -17,9 +17,5 @@ not_before a n p h =
 pub stays : (o : Option Pair) (n p : ℕ) (x : Option Node) → is_behind n o ≡ true
     → lesser o (call_of n p x) ≡ o
 stays None n p x h = absurd (false≢true h)
-stays (Some a) n p None h = refl
-stays (Some a) n p (Some (Source r)) h = refl
 stays (Some a) n p (Some (Flatten ins)) h = rw (not_before a n p (ltb-true a.flatten n h)) refl
-stays (Some a) n p (Some (Pdo c f)) h = refl
-stays (Some a) n p (Some (Gbk c o l k)) h = refl
-stays (Some a) n p (Some (Barrier ins o l i)) h = refl
+stays (Some a) n p _ h = refl

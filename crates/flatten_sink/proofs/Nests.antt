@@ -9,7 +9,7 @@ use Rattle.exec_graph.specs.Readers.{among, any_node, is_read, same_place}
 use Rattle.exec_graph.specs.Wellformed.{IsGraphOk, most_nodes}
 use Rattle.exec_graph.specs.declared.graph.Place.{Place}
 use Rattle.exec_graph.specs.declared.graph.Node.{Node}
-use Rattle.exec_graph.specs.declared.graph.Node.TheVariants.{Source, Flatten, Pdo, Gbk, Barrier}
+use Rattle.exec_graph.specs.declared.graph.Node.TheVariants.{Flatten}
 use Rattle.exec_graph.specs.declared.graph.Entry.{Entry}
 use Rattle.exec_graph.specs.declared.graph.Graph.{Graph}
 use Rattle.exec_graph.proofs.Bools.{or_cases}
@@ -48,24 +48,18 @@ record IsNew (p low base n : ℕ) (ins : List Place) : Type 0 where
 
 -- A Flatten stood there before, or is new.
 abbrev IsKnown : Graph → ℕ → ℕ → ℕ → Node → Type 0
-IsKnown g p base n (Source r) = Unit {0}
 IsKnown g p base n (Flatten ins) =
     (node_at g.nodes n ≡ Some (Flatten ins)) ⊎ IsNew p g.next base n ins
-IsKnown g p base n (Pdo c f) = Unit {0}
-IsKnown g p base n (Gbk c o l k) = Unit {0}
-IsKnown g p base n (Barrier ins o l a) = Unit {0}
+IsKnown g p base n _ = Unit {0}
 
 abbrev IsKnownEntry : Graph → ℕ → ℕ → Entry → Type 0
 IsKnownEntry g p base e = IsKnown g p base e.number e.node
 
 kept_known : (g : Graph) (p base n : ℕ) (x : Node) → node_at g.nodes n ≡ Some x
     → gathers p x ≡ false → IsKnown g p base n (reread (rerouted p base) x)
-kept_known g p base n (Source r) h t = tt
 kept_known g p base n (Flatten ins) h t =
     inl (h ∙ ap (λ (l : List Place). Some (Flatten l)) (sym (unread p base ins t)))
-kept_known g p base n (Pdo c f) h t = tt
-kept_known g p base n (Gbk c o l k) h t = tt
-kept_known g p base n (Barrier ins o l a) h t = tt
+kept_known g p base n _ h t = tt
 
 copied_new : (low high n j : ℕ) (cs : List Place) → low ≤ n → n + length cs ≤ high
     → AllByRecursion (λ c. (low ≤ c.node) × (c.node < high)) (copied n j cs)
@@ -117,11 +111,8 @@ all_known g n p f ins ok can none =
 -- ---- no copy is a Flatten
 
 abbrev IsNoFlatten : Node → Type 0
-IsNoFlatten (Source r) = Unit {0}
 IsNoFlatten (Flatten ins) = ⊥
-IsNoFlatten (Pdo c f) = Unit {0}
-IsNoFlatten (Gbk c o l k) = Unit {0}
-IsNoFlatten (Barrier ins o l a) = Unit {0}
+IsNoFlatten _ = Unit {0}
 
 abbrev IsApart : ℕ → ℕ → Entry → Type 0
 IsApart low high e = low ≤ e.number → e.number < high → IsNoFlatten e.node

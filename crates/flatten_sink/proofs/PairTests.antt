@@ -1,13 +1,13 @@
 -- The tests of pairs pass exactly where the pairs can be merged or sunk.
-use Rattle.std.proofs.Common.{◌≡◌, ℕ, ◌≤◌, Bool, true, false, leb, ◌&&◌, List, length, Option, Some, None, refl, sym, ap, subst}
-use Rattle.std.proofs.lemmas.Bool.{false≢true, leb-true}
+use Rattle.std.proofs.Common.{◌≡◌, ℕ, ◌≤◌, Bool, true, false, leb, ◌&&◌, List, length, Option, Some, refl, sym, ap, subst}
+use Rattle.std.proofs.lemmas.Bool.{and_parts, false≢true, leb-true}
 use Rattle.exec_graph.specs.Meaning.{SameMeaning, node_at, place}
 use Rattle.exec_graph.specs.Readers.{among}
 use Rattle.exec_graph.specs.Wellformed.{IsGraphOk, most_nodes, total_size}
 use Rattle.exec_graph.specs.declared.graph.Place.{Place}
 use Rattle.exec_graph.specs.declared.graph.Graph.{Graph}
 use Rattle.exec_graph.specs.declared.graph.Node.{Node}
-use Rattle.exec_graph.specs.declared.graph.Node.TheVariants.{Source, Flatten, Pdo, Gbk, Barrier}
+use Rattle.exec_graph.specs.declared.graph.Node.TheVariants.{Flatten, Pdo}
 use Rattle.exec_graph.proofs.Soundness.{SameMeaning-kept}
 use Rattle.sink_laws.specs.Chain.{after_call, after_nest, forest_of, has_room, ins_of, CanCall, CanNest}
 use Rattle.sink_laws.specs.Kept.{IsKept}
@@ -17,43 +17,20 @@ use Rattle.sink_laws.proofs.Choosing.{IsKept-call, IsKept-nest}
 use Rattle.sink_laws.proofs.Unread.{same_true}
 use Rattle.flatten_sink.specs.inner.Pairs.{calls_first, can_call, can_nest, is_flatten}
 
-both_left : (a b : Bool) → (a && b) ≡ true → a ≡ true
-both_left true b h = refl
-both_left false b h = h
-
-both_right : (a b : Bool) → (a && b) ≡ true → b ≡ true
-both_right true b h = h
-both_right false b h = absurd (false≢true h)
-
-both : (a b : Bool) → a ≡ true → b ≡ true → (a && b) ≡ true
-both a b h i = rw (h, i) refl
-
 flatten_is : (o : Option Node) → is_flatten o ≡ true → o ≡ Some (Flatten (ins_of o))
-flatten_is None h = absurd (false≢true h)
-flatten_is (Some (Source r)) h = absurd (false≢true h)
 flatten_is (Some (Flatten ins)) h = refl
-flatten_is (Some (Pdo c f)) h = absurd (false≢true h)
-flatten_is (Some (Gbk c o l k)) h = absurd (false≢true h)
-flatten_is (Some (Barrier ins o l a)) h = absurd (false≢true h)
+flatten_is _ h = absurd (false≢true h)
 
 among_is : (c : Place) (o : Option Node) → among c (ins_of o) ≡ true
     → o ≡ Some (Flatten (ins_of o))
-among_is c None h = absurd (false≢true h)
-among_is c (Some (Source r)) h = absurd (false≢true h)
 among_is c (Some (Flatten ins)) h = refl
-among_is c (Some (Pdo d f)) h = absurd (false≢true h)
-among_is c (Some (Gbk d o l k)) h = absurd (false≢true h)
-among_is c (Some (Barrier ins o l a)) h = absurd (false≢true h)
+among_is c _ h = absurd (false≢true h)
 
 call_is : (n : ℕ) (o : Option Node) → calls_first n o ≡ true
     → o ≡ Some (Pdo (place n 0) (forest_of o))
-call_is n None h = absurd (false≢true h)
-call_is n (Some (Source r)) h = absurd (false≢true h)
-call_is n (Some (Flatten ins)) h = absurd (false≢true h)
 call_is n (Some (Pdo c f)) h =
     ap (λ (d : Place). Some (Pdo d f)) (sym (same_true (place n 0) c h))
-call_is n (Some (Gbk c o l k)) h = absurd (false≢true h)
-call_is n (Some (Barrier ins o l a)) h = absurd (false≢true h)
+call_is n _ h = absurd (false≢true h)
 
 nest_passes : (g : Graph) (p : Pair) → can_nest g.nodes p ≡ true → CanNest g p
 nest_passes g p h =
@@ -62,22 +39,22 @@ nest_passes g p h =
     let joined : List Place = spliced p.other (ins_of inner) (ins_of outer) in
     let room : Bool = leb (length joined) most_nodes in
     let near : Bool = among (place p.other 0) (ins_of outer) in
-    let rest : (near && room) ≡ true = both_right (is_flatten inner) (near && room) h in
-    let here : near ≡ true = both_left near room rest in
+    let (flat, rest) = and_parts (is_flatten inner) (near && room) h in
+    let (here, fits) = and_parts near room rest in
     record {
       outer = among_is (place p.other 0) outer here;
-      inner = flatten_is inner (both_left (is_flatten inner) (near && room) h);
+      inner = flatten_is inner flat;
       nested = here;
-      room = leb-true (length joined) most_nodes (both_right near room rest);
+      room = leb-true (length joined) most_nodes fits;
     }
 
 call_passes : (g : Graph) (p : Pair) → can_call g.nodes p ≡ true → CanCall g p
 call_passes g p h =
-    let a : Bool = is_flatten (node_at g.nodes p.flatten) in
-    let b : Bool = calls_first p.flatten (node_at g.nodes p.other) in
+    let (flat, calls) = and_parts (is_flatten (node_at g.nodes p.flatten))
+    (calls_first p.flatten (node_at g.nodes p.other)) h in
     record {
-      flatten = flatten_is (node_at g.nodes p.flatten) (both_left a b h);
-      pdo = call_is p.flatten (node_at g.nodes p.other) (both_right a b h);
+      flatten = flatten_is (node_at g.nodes p.flatten) flat;
+      pdo = call_is p.flatten (node_at g.nodes p.other) calls;
     }
 
 room_passes : (g : Graph) (p : Pair) → has_room g p ≡ true

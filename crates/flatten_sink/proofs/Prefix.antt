@@ -147,11 +147,8 @@ others_front es front n p end i below first e =
     skipped false b h = refl
 
 gathers_not : (n : ℕ) (x : Node) → ReadsNot n x → gathers n x ≡ false
-gathers_not n (Source r) a = refl
 gathers_not n (Flatten ins) a = any_not n ins a
-gathers_not n (Pdo c f) a = refl
-gathers_not n (Gbk c o l k) a = refl
-gathers_not n (Barrier ins o l i) a = refl
+gathers_not n _ a = refl
 
 pub gathers_front : (es front : List Entry) (n end i : ℕ) → AreBelow n end es
     → IsFirstFrom es end i → front ≡ take i es

@@ -64,30 +64,11 @@ value_order = order_by value_cmp value_cmp-total value_cmp-IsAntisymmetric
 -- ---- traps
 same_kind : (a b : Kind) → kind_place a ≡ kind_place b → a ≡ b
 same_kind Overflow Overflow same = refl
-same_kind Overflow DivideByZero same = absurd (cc)
-same_kind Overflow BadIndex same = absurd (cc)
-same_kind Overflow BadNumber same = absurd (cc)
-same_kind Overflow NotOne same = absurd (cc)
-same_kind DivideByZero Overflow same = absurd (cc)
 same_kind DivideByZero DivideByZero same = refl
-same_kind DivideByZero BadIndex same = absurd (cc)
-same_kind DivideByZero BadNumber same = absurd (cc)
-same_kind DivideByZero NotOne same = absurd (cc)
-same_kind BadIndex Overflow same = absurd (cc)
-same_kind BadIndex DivideByZero same = absurd (cc)
 same_kind BadIndex BadIndex same = refl
-same_kind BadIndex BadNumber same = absurd (cc)
-same_kind BadIndex NotOne same = absurd (cc)
-same_kind BadNumber Overflow same = absurd (cc)
-same_kind BadNumber DivideByZero same = absurd (cc)
-same_kind BadNumber BadIndex same = absurd (cc)
 same_kind BadNumber BadNumber same = refl
-same_kind BadNumber NotOne same = absurd (cc)
-same_kind NotOne Overflow same = absurd (cc)
-same_kind NotOne DivideByZero same = absurd (cc)
-same_kind NotOne BadIndex same = absurd (cc)
-same_kind NotOne BadNumber same = absurd (cc)
 same_kind NotOne NotOne same = refl
+same_kind _ _ same = absurd (cc)
 
 both_tied : (o p : Ordering) → ordering_then o p ≡ Equal → (o ≡ Equal) × (p ≡ Equal)
 both_tied Less p e = cc

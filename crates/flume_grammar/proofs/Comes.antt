@@ -161,15 +161,17 @@ module _ (limits : Limits) (fair : IsFair limits) where
       (λ y us. continued (suc m) (expression_within limits m) 1 y us) x vs q in
       (b.got, b.rest, b.part, b.after)
 
-  -- an argument, and what ends it
-  pub arg : (m : ℕ) (end : Sign) (n a : ℕ) (ts us : List Token) (e : Expr) → 1 ≤ a → a ≤ m
-      → ((k : ℕ) → a ≤ suc k → Comes k 1 ts (mark end n ∷ us) e a 1)
+  -- an argument, what ends it, and what follows
+  pub arg : {B : Type 0} (m : ℕ) (end : Sign) (n a : ℕ) (ts us : List Token) (e : Expr) → 1 ≤ a
+      → a ≤ m → ((k : ℕ) → a ≤ suc k → Comes k 1 ts (mark end n ∷ us) e a 1)
       → ((own : ℕ) → suffix_of (Some (kind.Sign end)) own 1 ≡ None)
-      → argument (expression_within limits m) end ts ≡ Ok ((e, a), us)
-  arg m end n a ts us e p h c s =
-      went (expression_within limits m 1 ts) _ (e, a) (mark end n ∷ us) _
+      → (f : Expr × ℕ → List Token → Out B) (r : Out B) → f (e, a) us ≡ r
+      → bind (argument (expression_within limits m) end ts) f ≡ r
+  arg m end n a ts us e p h c s f r q =
+      went (argument (expression_within limits m) end ts) f (e, a) us r
+      (went (expression_within limits m 1 ts) _ (e, a) (mark end n ∷ us) _
       (full m 1 a ts (mark end n ∷ us) e p h c s)
-      (went (one (sign_at end) (mark end n ∷ us)) _ tt us _ (same_mark end n us) refl)
+      (went (one (sign_at end) (mark end n ∷ us)) _ tt us _ (same_mark end n us) refl)) q
 
   pub call_start : (k : Keyword) (u : Unary) → call_of k ≡ Some u
       → keyword_start k ≡ Some (start.Call u)

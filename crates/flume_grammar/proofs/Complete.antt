@@ -19,6 +19,7 @@ use Rattle.flume_grammar.specs.Terminals.{word_of, key, mark, number}
 use Rattle.flume_grammar.specs.Parts.{Tree, none, with_part}
 use Rattle.flume_grammar.specs.inner.Types.{deep_start, type_start, pair_type, field_type, next_field_type, at_comma, type_within, whole_type}
 use Rattle.flume_grammar.specs.Grammar.{IsNumbered, absent, present, IsWholeType, IsType, int, bool, text_, named, list, either, table, record_, AreFieldTypes, first, next}
+use Rattle.flume_grammar.proofs.SoundLoops.{field_of}
 use Rattle.flume_grammar.proofs.Loops.{Reaches, reaches_start, reaches_next, reaches_end}
 use Rattle.flume_grammar.specs.Limits.{Limits}
 use Rattle.flume_grammar.proofs.Fair.{IsFair}
@@ -50,6 +51,24 @@ pub same_comma : (n limit m : ℕ) (us : List Token) → n < limit
 same_comma n limit m us h =
     ap (λ b. passed (if b then Ok tt else Err (at (mark sign.Comma m) TooMany)) us)
     (lt-ltb n limit h)
+
+-- a field is read, and one more behind a comma
+module _ {X : Type 0} (inner : List Token → Out (X × ℕ)) (p : Parts X) (w : Token) (x : List ℕ)
+    (c : ℕ) (us vs : List Token) (e : X) (a : ℕ) (word : word_of w.kind ≡ Some x)
+    (part : inner us ≡ Ok ((e, a), vs)) where
+  pub field_on : field_of inner p (w ∷ mark sign.Colon c ∷ us) ≡ Ok (with_part p x e a, vs)
+  field_on =
+      went (one word_at (w ∷ mark sign.Colon c ∷ us)) _ x (mark sign.Colon c ∷ us) _
+      (same_word w x _ word) (went (inner us) _ (e, a) vs _ part refl)
+
+  pub next_on : (limit m : ℕ) → length p.names < limit
+      → bind (one (comma_at (length p.names) limit)
+      (mark sign.Comma m ∷ w ∷ mark sign.Colon c ∷ us)) (λ _ ws. field_of inner p ws)
+      ≡ Ok (with_part p x e a, vs)
+  next_on limit m h =
+      went (one (comma_at (length p.names) limit)
+      (mark sign.Comma m ∷ w ∷ mark sign.Colon c ∷ us)) _ tt (w ∷ mark sign.Colon c ∷ us) _
+      (same_comma (length p.names) limit m _ h) field_on
 
 -- the number behind a keyword is read, before what is not this keyword
 pub complete_numbered : (k : Keyword) {ts us : List Token} {o : Option (List ℕ)}
@@ -94,13 +113,7 @@ module _ (limits : Limits) (fair : IsFair limits) where
   mutual
     positive : {ts us : List Token} {t : Tree} {a : ℕ} → IsType limits ts us t a → 1 ≤ a
     positive int = omega arith
-    positive bool = omega arith
-    positive text_ = omega arith
-    positive named = omega arith
-    positive (list x) = omega arith
-    positive (either x y) = omega arith
-    positive (table x y) = omega arith
-    positive (record_ f l) = omega arith
+    positive _ = omega arith
 
     positive_fields : {ts us : List Token} {p : Parts Tree} → AreFieldTypes limits ts us p
         → 1 ≤ p.depth
@@ -179,23 +192,16 @@ module _ (limits : Limits) (fair : IsFair limits) where
         let q = with_part none x t a in (
           q,
           us,
-          went (one word_at (w ∷ mark sign.Colon c ∷ ts)) _ x (mark sign.Colon c ∷ ts) _
-              (same_word w x _ e) (went (type_within limits n ts) _ (t, a) us _
-              (complete_type y n (omega (arith, h))) refl),
+          field_on (type_within limits n) none w x c ts us t a e
+              (complete_type y n (omega (arith, h))),
           reaches_start at_comma (next_field_type limits (type_within limits n)) q us,
         )
     complete_fields (next {w} {x} {n = c} {m} {a} {ts} {us} {vs} {t} {p} f e y) n h l =
         let i = length-append p.names (x ∷ []) in
         let (q, ws, o, r) = complete_fields f n (omega (arith, h)) (omega (arith, l, i)) in
         let k = shorter_type y in
-        let step : (next_field_type limits) (type_within limits n) p
-        (mark sign.Comma m ∷ w ∷ mark sign.Colon c ∷ us) ≡ Ok (with_part p x t a, vs) =
-        went (one (comma_at (length p.names) limits.fields)
-        (mark sign.Comma m ∷ w ∷ mark sign.Colon c ∷ us)) _ tt (w ∷ mark sign.Colon c ∷ us) _
-        (same_comma (length p.names) limits.fields m _ (omega (arith, l, i)))
-        (went (one word_at (w ∷ mark sign.Colon c ∷ us)) _ x (mark sign.Colon c ∷ us) _
-        (same_word w x _ e) (went (type_within limits n us) _ (t, a) vs _
-        (complete_type y n (omega (arith, h))) refl)) in (
+        let step = next_on (type_within limits n) p w x c us vs t a e
+        (complete_type y n (omega (arith, h))) limits.fields m (omega (arith, l, i)) in (
           q,
           ws,
           o,

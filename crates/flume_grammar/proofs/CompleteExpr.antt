@@ -15,12 +15,12 @@ use Rattle.flume_grammar.specs.inner.Reading.{word_at, comma_at}
 use Rattle.flume_grammar.specs.Parts.{none, with_part}
 use Rattle.flume_grammar.specs.inner.Types.{at_comma, whole_type}
 use Rattle.flume_grammar.specs.Operators.{rank, left_rank}
-use Rattle.flume_grammar.specs.inner.Expressions.{operand_start, so_far, suffix_of, continued, field, next_field, next_member, argument, operand, expression_within}
+use Rattle.flume_grammar.specs.inner.Expressions.{operand_start, so_far, suffix_of, continued, field, next_field, next_member, operand, expression_within}
 use Rattle.flume_grammar.specs.Grammar as g
 use Rattle.flume_grammar.specs.Terminals.{key, mark, number, text, name}
 use Rattle.flume_grammar.specs.Grammar.{IsExpr, AreFields, AreMembers}
 use Rattle.flume_grammar.proofs.Loops.{Reaches, reaches_start, reaches_next, reaches_end}
-use Rattle.flume_grammar.proofs.Complete.{went, taken, same_word, same_comma, complete_whole}
+use Rattle.flume_grammar.proofs.Complete.{went, taken, same_word, same_comma, field_on, next_on, complete_whole}
 use Rattle.flume_grammar.specs.Limits.{Limits}
 use Rattle.flume_grammar.proofs.Fair.{IsFair}
 use Rattle.flume_grammar.proofs.Ranks.{OpFits, Fits, fits_up, rank_left, rank_high, under_not, stops, goes, no_post}
@@ -166,9 +166,8 @@ module _ (limits : Limits) (fair : IsFair limits) where
         (omega (arith, h, p)))
         (went (whole_type limits ts) _ t (mark sign.Greater i ∷ mark sign.Open j ∷ us) _
         ((complete_whole limits fair) w)
-        (went (argument (expression_within limits m) sign.Close us) _ (e, a) vs _
         (arg limits fair m sign.Close q a us vs e p (omega (arith, h))
-        (λ z b. complete_expr x z 1 b (omega arith) (lit≤ tt) (tt, tt)) (λ own. refl)) refl)))
+        (λ z b. complete_expr x z 1 b (omega arith) (lit≤ tt) (tt, tt)) (λ own. refl) _ _ refl)))
     complete_expr (g.call {k = word} {u} {n} {m = o} {i} {a} {ts} {us} {e} c x) m least h l k f =
         let p = positive limits fair x in
         comes_at limits fair m least 8 (a + 1) 8 (key word n ∷ mark sign.Open o ∷ ts) us
@@ -177,9 +176,8 @@ module _ (limits : Limits) (fair : IsFair limits) where
         (keyed_operand limits fair m least word n (start.Call u) (mark sign.Open o ∷ ts) us _
         (call_start limits fair word u c) refl (deep limits fair (suc m) false
         (omega (arith, h, p)))
-        (went (argument (expression_within limits m) sign.Close ts) _ (e, a) us _
         (arg limits fair m sign.Close i a ts us e p (omega (arith, h))
-        (λ z b. complete_expr x z 1 b (omega arith) (lit≤ tt) (tt, tt)) (λ own. refl)) refl))
+        (λ z b. complete_expr x z 1 b (omega arith) (lit≤ tt) (tt, tt)) (λ own. refl) _ _ refl))
     complete_expr (g.concat {n} {m = o} {i} {j} {a} {b} {ts} {us} {vs} {e} {f = z} x y) m least h l
         k f =
         let p = positive limits fair x in
@@ -189,12 +187,10 @@ module _ (limits : Limits) (fair : IsFair limits) where
         (keyed_operand limits fair m least keyword.Concat n start.Concat (mark sign.Open o ∷ ts) vs
         _ refl refl
         (deep limits fair (suc m) false (omega (arith, h, p)))
-        (went (argument (expression_within limits m) sign.Comma ts) _ (e, a) us _
         (arg limits fair m sign.Comma i a ts us e p (omega (arith, h))
-        (λ q b. complete_expr x q 1 b (omega arith) (lit≤ tt) (tt, tt)) (λ own. refl))
-        (went (argument (expression_within limits m) sign.Close us) _ (z, b) vs _
+        (λ q b. complete_expr x q 1 b (omega arith) (lit≤ tt) (tt, tt)) (λ own. refl) _ _
         (arg limits fair m sign.Close j b us vs z (positive limits fair y) (omega (arith, h))
-        (λ q c. complete_expr y q 1 c (omega arith) (lit≤ tt) (tt, tt)) (λ own. refl)) refl)))
+        (λ q c. complete_expr y q 1 c (omega arith) (lit≤ tt) (tt, tt)) (λ own. refl) _ _ refl)))
     complete_expr (g.pick {n} {m = o} {i} {j} {o = q} {a} {b} {c} {ts} {us} {vs} {ws} {e} {f =
         z} {g = y} x v w) m least h l k f =
         let p = positive limits fair x in
@@ -204,15 +200,12 @@ module _ (limits : Limits) (fair : IsFair limits) where
         (keyed_operand limits fair m least keyword.Pick n start.Pick (mark sign.Open o ∷ ts) ws _
         refl refl
         (deep limits fair (suc m) false (omega (arith, h, p)))
-        (went (argument (expression_within limits m) sign.Comma ts) _ (e, a) us _
         (arg limits fair m sign.Comma i a ts us e p (omega (arith, h))
-        (λ d r. complete_expr x d 1 r (omega arith) (lit≤ tt) (tt, tt)) (λ own. refl))
-        (went (argument (expression_within limits m) sign.Comma us) _ (z, b) vs _
+        (λ d r. complete_expr x d 1 r (omega arith) (lit≤ tt) (tt, tt)) (λ own. refl) _ _
         (arg limits fair m sign.Comma j b us vs z (positive limits fair v) (omega (arith, h))
-        (λ d r. complete_expr v d 1 r (omega arith) (lit≤ tt) (tt, tt)) (λ own. refl))
-        (went (argument (expression_within limits m) sign.Close vs) _ (y, c) ws _
+        (λ d r. complete_expr v d 1 r (omega arith) (lit≤ tt) (tt, tt)) (λ own. refl) _ _
         (arg limits fair m sign.Close q c vs ws y (positive limits fair w) (omega (arith, h))
-        (λ d r. complete_expr w d 1 r (omega arith) (lit≤ tt) (tt, tt)) (λ own. refl)) refl))))
+        (λ d r. complete_expr w d 1 r (omega arith) (lit≤ tt) (tt, tt)) (λ own. refl) _ _ refl))))
 
     complete_fields : {ts us : List Token} {p : Parts Expr} → AreFields limits ts us p → (m : ℕ)
         → p.depth ≤ m → length p.names ≤ limits.fields → Fits limits fair 1 us
@@ -227,9 +220,7 @@ module _ (limits : Limits) (fair : IsFair limits) where
         (λ n b. complete_expr y n 1 b (omega arith) (lit≤ tt) f) s in (
           q,
           us,
-          went (one word_at (w ∷ mark sign.Colon n ∷ ts)) _ x (mark sign.Colon n ∷ ts) _
-              (same_word w x _ v)
-              (went (expression_within limits m 1 ts) _ (e, a) us _ i refl),
+          field_on (expression_within limits m 1) none w x n ts us e a v i,
           reaches_start at_comma (next_field limits (expression_within limits m)) q us,
         )
     complete_fields (g.next {w} {x} {n} {m = c} {a} {ts} {us} {vs} {e} {p} z v y) m h l f s =
@@ -239,14 +230,8 @@ module _ (limits : Limits) (fair : IsFair limits) where
         let k = shorter limits fair y in
         let i = full limits fair m 1 a us vs e (positive limits fair y) (omega (arith, h))
         (λ n b. complete_expr y n 1 b (omega arith) (lit≤ tt) f) s in
-        let step : (next_field limits) (expression_within limits m) p
-        (mark sign.Comma c ∷ w ∷ mark sign.Colon n ∷ us) ≡ Ok (with_part p x e a, vs) =
-        went (one (comma_at (length p.names) limits.fields)
-        (mark sign.Comma c ∷ w ∷ mark sign.Colon n ∷ us)) _ tt (w ∷ mark sign.Colon n ∷ us) _
-        (same_comma (length p.names) limits.fields c _ (omega (arith, l, j)))
-        (went (one word_at (w ∷ mark sign.Colon n ∷ us)) _ x (mark sign.Colon n ∷ us) _
-        (same_word w x _ v)
-        (went (expression_within limits m 1 us) _ (e, a) vs _ i refl)) in (
+        let step = next_on (expression_within limits m 1) p w x n us vs e a v i limits.fields c
+        (omega (arith, l, j)) in (
           q,
           ws,
           o,

@@ -1,11 +1,13 @@
 -- Operations and repeats of the grammar are read.
-use Rattle.std.proofs.Common.{◌≡◌, ℕ, ◌≤◌, ◌<◌, length, length-append, List, [], ◌∷◌, ◌++◌, true, false, Some, None, Ok, if◌then◌else◌, refl, ap, ◌∙◌, arith}
+use Rattle.std.proofs.Common.{◌≡◌, ℕ, ◌≤◌, ◌<◌, length, length-append, List, [], ◌∷◌, ◌++◌, true, false, Some, None, option_map, Ok, if◌then◌else◌, refl, ap, ◌∙◌, arith}
 use Rattle.flume_tokens.specs.declared.token.Token.{Token}
+use Rattle.flume_tokens.specs.declared.token.TokenKind.{TokenKind}
+use Rattle.flume_tokens.specs.declared.token.TokenKind.TheVariants as kind
+use Rattle.flume_tokens.specs.declared.keyword.Keyword.{Keyword}
 use Rattle.flume_tokens.specs.declared.keyword.Keyword.TheVariants as keyword
 use Rattle.flume_tokens.specs.declared.sign.Sign.TheVariants as sign
 use Rattle.flume_grammar.specs.declared.start.LetStart.TheVariants as letting
 use Rattle.flume_grammar.specs.declared.start.OperationStart.{OperationStart}
-use Rattle.flume_grammar.specs.declared.start.OperationStart.TheVariants as starts
 use Rattle.flume_grammar.specs.declared.tree.Combiner.{Combiner}
 use Rattle.flume_grammar.specs.declared.tree.Operation.{Operation}
 use Rattle.flume_grammar.specs.declared.tree.Operation.TheVariants as operation
@@ -13,15 +15,15 @@ use Rattle.flume_grammar.specs.declared.tree.TurnLet.{TurnLet}
 use Rattle.flume_grammar.specs.declared.tree.Repeat.{Repeat}
 use Rattle.flume_grammar.specs.declared.tree.Form.TheVariants as form
 use Rattle.flume_grammar.specs.inner.Out.{Out, give, bind, one, passed, next, all_of}
-use Rattle.flume_grammar.specs.inner.Reading.{sign_at, keyword_at, name_at, comma_at, or_syntax, is_at_sign, is_at_keyword}
+use Rattle.flume_grammar.specs.inner.Reading.{sign_at, keyword_at, name_at, comma_at, or_syntax, of_keyword, is_at_sign, is_at_keyword}
 use Rattle.flume_grammar.specs.inner.Types.{at_comma}
 use Rattle.flume_grammar.specs.inner.Statements as s
 use Rattle.flume_grammar.specs.Grammar as g
 use Rattle.flume_grammar.specs.Terminals.{key, mark, name, number}
 use Rattle.flume_grammar.specs.Grammar.{IsCombiner, AreNames, IsOperation, IsLet, AreLets, IsRepeat}
 use Rattle.flume_grammar.proofs.Loops.{Reaches, reaches_start, reaches_next, reaches_end}
-use Rattle.flume_grammar.proofs.Sound.{bound}
-use Rattle.flume_grammar.proofs.SoundOperations.{begins, operation_key, is_operation_key}
+use Rattle.flume_grammar.proofs.Sound.{bound, one_token}
+use Rattle.flume_grammar.proofs.SoundTokens.{some_of}
 use Rattle.flume_grammar.proofs.Complete.{went, same_key, same_comma}
 use Rattle.flume_grammar.specs.Limits.{Limits}
 use Rattle.flume_grammar.proofs.Fair.{IsFair}
@@ -67,14 +69,7 @@ module _ (limits : Limits) (fair : IsFair limits) where
   complete_combiner : {ts us : List Token} {c : Combiner} → IsCombiner ts us c
       → s.combiner_at ts ≡ Ok (c, us)
   complete_combiner g.sum = refl
-  complete_combiner g.count = refl
-  complete_combiner g.min = refl
-  complete_combiner g.max_ = refl
-  complete_combiner g.all = refl
-  complete_combiner g.any = refl
-  complete_combiner g.top = refl
-  complete_combiner g.mean = refl
-  complete_combiner g.distinct = refl
+  complete_combiner _ = refl
 
   next_input : (xs : List (List ℕ)) (x : List ℕ) (m n : ℕ) (us : List Token)
       → length (xs ++ x ∷ []) ≤ limits.inputs
@@ -141,14 +136,7 @@ module _ (limits : Limits) (fair : IsFair limits) where
   shorter_combiner : {ts us : List Token} {c : Combiner} → IsCombiner ts us c
       → length us < length ts
   shorter_combiner g.sum = omega arith
-  shorter_combiner g.count = omega arith
-  shorter_combiner g.min = omega arith
-  shorter_combiner g.max_ = omega arith
-  shorter_combiner g.all = omega arith
-  shorter_combiner g.any = omega arith
-  shorter_combiner g.top = omega arith
-  shorter_combiner g.mean = omega arith
-  shorter_combiner g.distinct = omega arith
+  shorter_combiner _ = omega arith
 
   pub shorter_operation : {ts us : List Token} {o : Operation} → IsOperation limits ts us o
       → length us < length ts
@@ -235,26 +223,24 @@ module _ (limits : Limits) (fair : IsFair limits) where
 
   -- ---- lets
 
-  plain_key : (z : OperationStart) → s.keyword_let (operation_key limits fair z) ≡ Some
-      (letting.Plain z)
-  plain_key starts.Do = refl
-  plain_key starts.Group = refl
-  plain_key starts.Combine = refl
-  plain_key starts.Flatten = refl
-  plain_key starts.Count = refl
-  plain_key starts.Join = refl
-  plain_key starts.Top = refl
-  plain_key starts.CombineAll = refl
-  plain_key starts.Operate = refl
+  plain_key : (k : Keyword) (z : OperationStart) → s.keyword_operation k ≡ Some z
+      → s.keyword_let k ≡ Some (letting.Plain z)
+  plain_key keyword.Repeat z q = cc
+  plain_key _ z q = ap (option_map letting.Plain) q
+
+  plain_kind : (k : TokenKind) (z : OperationStart) → of_keyword s.keyword_operation k ≡ Some z
+      → of_keyword s.keyword_let k ≡ Some (letting.Plain z)
+  plain_kind (kind.Keyword k) z q = plain_key k z q
+  plain_kind _ z q = cc
 
   -- where an operation begins, the right side of a let does
   plain_start : (ts : List Token) (z : OperationStart) (us : List Token)
       → one s.operation_start ts ≡ Ok (z, us) → one s.let_start ts ≡ Ok (letting.Plain z, us)
   plain_start ts z us q =
-      let m = begins limits fair s.keyword_operation (operation_key limits fair)
-      (is_operation_key limits fair) z ts us q in
-      ap (one s.let_start) m.is
-      ∙ ap (λ o. passed (or_syntax (key (operation_key limits fair z) m.line) o) us) (plain_key z)
+      let p = one_token s.operation_start ts z us q in
+      ap (one s.let_start) p.is
+      ∙ ap (λ o. passed (or_syntax p.token o) us) (plain_kind p.token.kind z
+      (some_of p.token (of_keyword s.keyword_operation p.token.kind) z p.gives))
 
   pub complete_plain : (xs : List (List ℕ)) (o : Operation) (us vs : List Token)
       → s.operation_at limits us ≡ Ok (o, vs)

@@ -1,8 +1,10 @@
 -- A fault of the parser is the first one, and the first one is the parser's.
-use Rattle.std.proofs.Common.{◌≡◌, ℕ, List, [], ◌∷◌, ◌++◌, ◌⊎◌, inl, inr, Some, None, Result, Ok, Err, refl, sym, ap, ap₂, ◌∙◌, subst}
+use Rattle.std.proofs.Common.{◌≡◌, ℕ, Bool, true, false, rules, List, [], ◌∷◌, ◌++◌, ◌⊎◌, inl, inr, Some, None, Result, Ok, Err, refl, sym, ap, ap₂, ◌∙◌, subst}
 use Rattle.std.proofs.lemmas.List.{append_assoc}
+use denote.Enum.Bare.{sameb, same_true, same_false}
 use Rattle.flume_tokens.specs.declared.token.Token.{Token}
 use Rattle.flume_tokens.specs.declared.token.TokenList.{TokenList}
+use Rattle.flume_grammar.specs.contracts.fault.ScriptKind as kind_type
 use Rattle.flume_grammar.specs.declared.fault.ScriptKind.{ScriptKind}
 use Rattle.flume_grammar.specs.declared.fault.ScriptKind.TheVariants.{Syntax, TooDeep, TooMany}
 use Rattle.flume_grammar.specs.declared.fault.ScriptFault.{ScriptFault}
@@ -22,6 +24,7 @@ use Rattle.flume_grammar.proofs.SoundScript.{sound_script}
 use Rattle.flume_grammar.proofs.Open.{Stops}
 use Rattle.flume_grammar.proofs.OpenScript.{nothing, complete_statements}
 use Rattle.flume_grammar.proofs.Pair.{RaiseAt}
+use Rattle.flume_grammar.proofs.PairTokens.{Growth}
 use Rattle.flume_grammar.proofs.PairScript.{raise_statements}
 use Rattle.flume_grammar.proofs.Beginnings.{places, one_more, Limit, Strange, begins, swallowed_in}
 use Rattle.flume_grammar.proofs.Whys.{left_none, StopsHere, raised, agreed, fair_deeper, fair_longer, fair_above, to_deeper, to_longer, above, not_strange, why, sort, higher, below_higher}
@@ -33,6 +36,18 @@ module _ (limits : Limits) (fair : IsFair limits) where
   apart : (ts us : List Token) (n : ℕ) (k : ScriptKind) → r ts ≡ Err (stop.Fault (Some n) k)
       → ts ≡ us → IsWhole limits us → ⊥
   apart ts us n k e i (ss, h) = let a = sym e ∙ ap r i ∙ complete_script limits fair us ss h in cc
+
+  -- the kind is that of the limits that are higher, where these go on
+  limit_same : (before : List Token) (here : Token) (k kind : ScriptKind) (more : Limits)
+      (fair_more : IsFair more) → Growth (λ j. j ≡ kind) limits more
+      → StopsHere limits fair before here k → IsBeginning more (before ++ here ∷ []) → k ≡ kind
+  limit_same before here k kind more fair_more growth s y =
+      by (sameb kind_type.the_type k kind) refl
+    where
+      by : (b : Bool) → sameb kind_type.the_type k kind ≡ b → k ≡ kind
+      by true e = same_true kind_type.the_type (search rules) k kind e
+      by false e = absurd (agreed limits fair (λ j. j ≡ kind) more fair_more growth before here k s
+          (same_false kind_type.the_type k kind e) y)
 
   kind_same : (before : List Token) (here : Token) (k kind : ScriptKind)
       → StopsHere limits fair before here k → IsWhy kind limits (before ++ here ∷ []) → k ≡ kind
@@ -48,28 +63,10 @@ module _ (limits : Limits) (fair : IsFair limits) where
           (raised limits fair Limit (higher limits) f (above limits fair (higher limits) b)
           before here k s i)))
       by (inr (inr i)) = absurd (not_strange limits fair before here k s i)
-  kind_same before here k TooDeep s y = by (sort k)
-    where
-      other : (k ≡ TooDeep → ⊥) → ⊥
-      other i = agreed limits fair (λ j. j ≡ TooDeep) (deeper limits) (fair_deeper limits fair)
-          (to_deeper limits fair) before here k s i y
-
-      by : (k ≡ Syntax) ⊎ (Limit k ⊎ Strange k) → k ≡ TooDeep
-      by (inl e) = absurd (other (λ i. let z = sym e ∙ i in cc))
-      by (inr (inl (inl e))) = e
-      by (inr (inl (inr e))) = absurd (other (λ i. let z = sym e ∙ i in cc))
-      by (inr (inr i)) = absurd (not_strange limits fair before here k s i)
-  kind_same before here k TooMany s y = by (sort k)
-    where
-      other : (k ≡ TooMany → ⊥) → ⊥
-      other i = agreed limits fair (λ j. j ≡ TooMany) (longer limits) (fair_longer limits fair)
-          (to_longer limits fair) before here k s i y
-
-      by : (k ≡ Syntax) ⊎ (Limit k ⊎ Strange k) → k ≡ TooMany
-      by (inl e) = absurd (other (λ i. let z = sym e ∙ i in cc))
-      by (inr (inl (inl e))) = absurd (other (λ i. let z = sym e ∙ i in cc))
-      by (inr (inl (inr e))) = e
-      by (inr (inr i)) = absurd (not_strange limits fair before here k s i)
+  kind_same before here k TooDeep s y = limit_same before here k TooDeep (deeper limits)
+      (fair_deeper limits fair) (to_deeper limits fair) s y
+  kind_same before here k TooMany s y = limit_same before here k TooMany (longer limits)
+      (fair_longer limits fair) (to_longer limits fair) s y
   kind_same before here k kind s y = absurd y
 
   here_of : (ts : List Token) (n : ℕ) (k : ScriptKind) (s : Stops (nothing limits fair) r ts n k)

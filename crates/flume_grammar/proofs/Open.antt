@@ -72,6 +72,21 @@ pub record Stops {A : Type 0} (c : Class) (p : List Token → Out A) (ts : List 
   pub always : (others : List Token) → p (before ++ here ∷ others) ≡ Err (Fault (Some n) k)
   pub ends : Ends c p before
 
+-- the same stop, of another parser
+pub stops_as : {A B : Type 0} {c d : Class} {p : List Token → Out A} {q : List Token → Out B}
+    {ts : List Token} {n : ℕ} {k : ScriptKind} (x : Stops c p ts n k)
+    → ((others : List Token) → q (x.before ++ x.here ∷ others) ≡ Err (Fault (Some n) k))
+    → Ends d q x.before → Stops d q ts n k
+stops_as x always ends = record {
+  before = x.before;
+  here = x.here;
+  behind = x.behind;
+  split = x.split;
+  line = x.line;
+  always = always;
+  ends = ends;
+}
+
 abbrev pub Suits : Class → List Token → List Token → Type 0
 Suits c us others = (next others ≡ next us) ⊎ Behind c others
 

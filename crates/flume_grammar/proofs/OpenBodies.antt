@@ -1,13 +1,12 @@
 -- Parsers of bodies, and of what a keyword may begin, are open.
 use Rattle.std.proofs.Common.{◌≡◌, ℕ, zero, suc, ◌-◌, ◌≤◌, ◌<◌, max, length, nat_le, is_some, List, [], ◌∷◌, ◌++◌, Bool, true, false, inl, inr, Option, Some, None, Ok, Err, if◌then◌else◌, refl, sym, ap, ◌∙◌, subst, arith, lit≤}
-use Rattle.std.proofs.lemmas.Bool.{leb-true, le-leb}
+use Rattle.std.proofs.lemmas.Bool.{leb-true}
 use Rattle.flume_tokens.specs.declared.token.Token.{Token}
 use Rattle.flume_tokens.specs.declared.token.TokenKind.TheVariants as kind
 use Rattle.flume_tokens.specs.declared.keyword.Keyword.{Keyword}
 use Rattle.flume_tokens.specs.declared.keyword.Keyword.TheVariants as keyword
 use Rattle.flume_tokens.specs.declared.sign.Sign.TheVariants as sign
 use Rattle.flume_grammar.specs.declared.fault.ScriptKind.TheVariants.{Syntax, TooDeep}
-use Rattle.flume_grammar.specs.declared.fault.Stop.TheVariants.{Fault}
 use Rattle.flume_grammar.specs.declared.start.BodyStart.{BodyStart}
 use Rattle.flume_grammar.specs.declared.start.BodyStart.TheVariants as begin
 use Rattle.flume_grammar.specs.inner.Out.{Out, give, bind, at, one, next, all_of}
@@ -23,8 +22,8 @@ use Rattle.flume_grammar.proofs.OpenSmallest.{Owns, given, stands, single}
 use Rattle.flume_grammar.proofs.OpenAlike.{agree}
 use Rattle.flume_grammar.proofs.OpenThen.{binds_at, then_}
 use Rattle.flume_grammar.proofs.OpenNarrow.{wider, fronted, narrower, closer}
-use Rattle.flume_grammar.proofs.OpenLoops.{loops}
-use Rattle.flume_grammar.proofs.OpenTokens.{owns_ok, owns_fault, owns_if, takes_token, takes_given, sign_then, keyword_then, name_then, number_then, no_comma}
+use Rattle.flume_grammar.proofs.OpenLoops.{Turns, loops}
+use Rattle.flume_grammar.proofs.OpenTokens.{then_shallow, owns_ok, owns_fault, owns_if, takes_token, takes_given, sign_then, keyword_then, name_then, number_then, no_comma}
 use Rattle.flume_grammar.proofs.Quiet.{quiet}
 use Rattle.flume_grammar.proofs.OpenExpr.{complete_expression}
 use Rattle.flume_grammar.proofs.Depths.{block_depth}
@@ -264,17 +263,25 @@ module _ (limits : Limits) (fair : IsFair limits) where
         a.rest) a.after in
         omega (arith, i, j)
 
-    pub o_bodies : (x : Block)
-        → IsComplete in_block in_block (all_of b.at_body (b.next_body limits (suc n) inner) x)
-    o_bodies x =
-        loops in_block after_body b.at_body (b.next_body limits (suc n) inner) (λ y. Unit {0})
-        (within in_block after_body (λ k i. (i.0, i.1))) ends (λ y ts us e. ap b.begins_body e)
-        (λ y ts z us i m e. t_next y z ts us e)
-        (λ y ts i m. o_next y ts) (λ y ts z us i e. tt) x tt
+    pub body_turns : Turns in_block after_body b.at_body (b.next_body limits (suc n) inner)
+        (λ x. Unit {0})
+    body_turns = record {
+      sub = within in_block after_body (λ k i. (i.0, i.1));
+      stopped = ends;
+      same = λ x ts us e. ap b.begins_body e;
+      takes = λ x ts y us i m e. t_next x y ts us e;
+      open_ = λ x ts i m. o_next x ts;
+      keeps = λ x ts y us i e. tt;
+    }
       where
         ends : (y : Block) (ts : List Token) → Behind in_block ts → b.at_body y ts ≡ false
         ends y [] i = refl
         ends y (t ∷ ts) i = i.2
+
+    pub o_bodies : (x : Block)
+        → IsComplete in_block in_block (all_of b.at_body (b.next_body limits (suc n) inner) x)
+    o_bodies x = loops in_block after_body b.at_body (b.next_body limits (suc n) inner)
+        (λ y. Unit {0}) body_turns x tt
 
     pub o_layer : IsComplete opening any (block_layer limits (suc n) inner)
     o_layer =
@@ -290,15 +297,5 @@ module _ (limits : Limits) (fair : IsFair limits) where
   complete_block (suc n) i = o_layer n (block_within limits n) (complete_block n)
 
   pub complete_body : IsComplete opening any (whole_block limits)
-  complete_body = then_ opening any any (block_within limits limits.depth) _
-      (complete_block limits.depth fair.depth)
-      (λ x g. by x
-      (le-leb x.1 limits.depth ((block_depth limits fair) limits.depth g.source x g.left g.is)))
-    where
-      by : (x : Block) → nat_le x.1 limits.depth ≡ true
-          → IsComplete any any (λ us. if nat_le x.1 limits.depth then give x.0 us else Err
-          (Fault None TooDeep))
-      by x e =
-          subst
-          (λ c. IsComplete any any (λ us. if c then give x.0 us else Err (Fault None TooDeep)))
-          (sym e) (given any any _ (free any))
+  complete_body = then_shallow opening limits.depth (block_within limits limits.depth)
+      (complete_block limits.depth fair.depth) (block_depth limits fair limits.depth)

@@ -2,7 +2,7 @@
 use Rattle.std.proofs.Common.{◌≡◌, ℕ, zero, suc, ◌≤◌, ◌<◌, length, nat_lt, List, [], ◌∷◌, ◌++◌, Bool, true, false, inl, inr, Ok, Err, if◌then◌else◌, refl, sym, ap, ◌∙◌, subst, arith}
 use Rattle.flume_tokens.specs.declared.token.Token.{Token}
 use Rattle.flume_tokens.specs.declared.sign.Sign.TheVariants as sign
-use Rattle.flume_grammar.specs.declared.fault.ScriptKind.TheVariants.{Syntax, TooDeep}
+use Rattle.flume_grammar.specs.declared.fault.ScriptKind.TheVariants.{TooDeep}
 use Rattle.flume_grammar.specs.declared.start.Start.{Start}
 use Rattle.flume_grammar.specs.declared.start.Start.TheVariants as start
 use Rattle.flume_grammar.specs.declared.parts.SoFar.{SoFar}
@@ -12,7 +12,7 @@ use Rattle.flume_grammar.specs.inner.Reading.{is_sign}
 use Rattle.flume_grammar.specs.inner.Expressions.{start_of, HasRoom, operand_start, so_far, Inner, passing, continued, prefix_rank, after_start, bare, enclosed, operand, expression_layer, expression_within}
 use Rattle.flume_grammar.proofs.Sound.{gave, bound, one_token}
 use Rattle.flume_grammar.proofs.Open.{Takes, takes_one, any, free, IsOpenAt, Starts, IsComplete, no_longer}
-use Rattle.flume_grammar.proofs.OpenSmallest.{given, single}
+use Rattle.flume_grammar.proofs.OpenSmallest.{given, wanting, single}
 use Rattle.flume_grammar.proofs.OpenAlike.{agree}
 use Rattle.flume_grammar.proofs.OpenThen.{binds_at, then_}
 use Rattle.flume_grammar.proofs.OpenNarrow.{narrower}
@@ -173,17 +173,7 @@ module _ (limits : Limits) (fair : IsFair limits) where
 
     pub o_operand : (least : ℕ) (ts : List Token)
         → IsOpenAt quiet (operand limits (suc n) inner least) ts
-    o_operand least [] =
-        record {
-          stops = λ m k e. cc;
-          wants = λ k e. (
-            inl refl,
-            let w : Syntax ≡ k = cc in
-                sym w,
-          );
-          sober = λ e. cc;
-          reads = λ x us e. cc;
-        }
+    o_operand least [] = wanting quiet (operand limits (suc n) inner least) refl
     o_operand least (t ∷ ts) = first least t ts (o_operand 1 ts)
 
     pub operand_takes : (least : ℕ) → Takes (operand limits (suc n) inner least)

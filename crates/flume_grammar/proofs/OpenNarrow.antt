@@ -3,27 +3,27 @@ use Rattle.std.proofs.Common.{◌≡◌, ℕ, ◌<◌, length, List, ◌++◌, �
 use Rattle.flume_tokens.specs.declared.token.Token.{Token}
 use Rattle.flume_grammar.specs.declared.fault.ScriptKind.{ScriptKind}
 use Rattle.flume_grammar.specs.inner.Out.{Out}
-use Rattle.flume_grammar.proofs.Open.{Class, Behind, Sub, Ends, Stops, Suits, Reads, IsOpenAt, IsComplete}
+use Rattle.flume_grammar.proofs.Open.{Class, Behind, Sub, Starts, Ends, Stops, stops_as, Reads, IsOpenAt, IsComplete}
+
+or_else : {A B C : Type 0} → (B → C) → A ⊎ B → A ⊎ C
+or_else f (inl a) = inl a
+or_else f (inr b) = inr (f b)
+
+-- what is read from nothing is of another class
+led : {A : Type 0} (b d c : Class) (p : List Token → Out A) (x : Starts b c p)
+    → ((rest : List Token) → Behind c rest → Behind d (x.others ++ rest)) → Starts d c p
+led b d c p x leads =
+    record { others = x.others; got = x.got; always = x.always; leads = leads }
 
 -- what may stand before it may be more
 pub wider : {A : Type 0} (b d c : Class) (p : List Token → Out A) → Sub b d → IsComplete b c p
     → IsComplete d c p
-wider {A} b d c p s x = record {
+wider b d c p s x = record {
   open_ = x.open_;
-  starts = record {
-    others = x.starts.others;
-    got = x.starts.got;
-    always = x.starts.always;
-    leads =
-        λ rest i. s (x.starts.others ++ rest) (x.starts.leads rest i);
-  };
-  follows = λ ts a us e. by us ts (x.follows ts a us e);
+  starts = led b d c p x.starts
+      (λ rest i. s (x.starts.others ++ rest) (x.starts.leads rest i));
+  follows = λ ts a us e. or_else (λ (i : Sub c b). λ rs m. s rs (i rs m)) (x.follows ts a us e);
 }
-  where
-    by : (us ts : List Token) → (length us < length ts) ⊎ Sub c b
-        → (length us < length ts) ⊎ Sub c d
-    by us ts (inl i) = inl i
-    by us ts (inr i) = inr (λ rs m. s rs (i rs m))
 
 -- what takes a token may stand behind any that its first one suits
 pub fronted : {A : Type 0} (b d c : Class) (p : List Token → Out A)
@@ -31,13 +31,8 @@ pub fronted : {A : Type 0} (b d c : Class) (p : List Token → Out A)
     → (length us < length ts) × Behind b ts) → IsComplete d c p → IsComplete b c p
 fronted b d c p h x = record {
   open_ = x.open_;
-  starts = record {
-    others = x.starts.others;
-    got = x.starts.got;
-    always = x.starts.always;
-    leads =
-        λ rest i. (h (x.starts.others ++ rest) x.starts.got rest (x.starts.always rest i)).1;
-  };
+  starts = led d b c p x.starts
+      (λ rest i. (h (x.starts.others ++ rest) x.starts.got rest (x.starts.always rest i)).1);
   follows = λ ts a us e. inl (h ts a us e).0;
 }
 
@@ -59,32 +54,19 @@ narrower {A} c d p ts s l = record {
         inr (record { others = m.others; got = m.got; always = λ rest i. m.always rest (s rest i) })
 
     stops : (n : ℕ) (k : ScriptKind) → Stops d p ts n k → Stops c p ts n k
-    stops n k x = record {
-      before = x.before;
-      here = x.here;
-      behind = x.behind;
-      split =
-          x.split;
-      line = x.line;
-      always = x.always;
-      ends = ends x.before x.ends;
-    }
-
-    suits : (us others : List Token) → Suits c us others → Suits d us others
-    suits us others (inl i) = inl i
-    suits us others (inr i) = inr (s others i)
+    stops n k x = stops_as x x.always (ends x.before x.ends)
 
     reads : (a : A) (us : List Token) → Reads d p ts a us → Reads c p ts a us
     reads a us x = record {
       read = x.read;
       split = x.split;
       always =
-          λ others i. x.always others (suits us others i);
+          λ others i. x.always others (or_else (s others) i);
     }
 
 pub closer : {A : Type 0} (b c d : Class) (p : List Token → Out A) → Sub c d → IsComplete b d p
     → IsComplete b c p
-closer {A} b c d p s x = record {
+closer b c d p s x = record {
   open_ = λ ts. narrower c d p ts s (x.open_ ts);
   starts = record {
     others = x.starts.others;
@@ -93,10 +75,5 @@ closer {A} b c d p s x = record {
         λ rest i. x.starts.always rest (s rest i);
     leads = λ rest i. x.starts.leads rest (s rest i);
   };
-  follows = λ ts a us e. by us ts (x.follows ts a us e);
+  follows = λ ts a us e. or_else (λ (i : Sub d b). λ rs m. i rs (s rs m)) (x.follows ts a us e);
 }
-  where
-    by : (us ts : List Token) → (length us < length ts) ⊎ Sub d b
-        → (length us < length ts) ⊎ Sub c b
-    by us ts (inl i) = inl i
-    by us ts (inr i) = inr (λ rs m. i rs (s rs m))

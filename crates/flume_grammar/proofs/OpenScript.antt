@@ -1,5 +1,5 @@
 -- Parsers of operations, of statements and of scripts are open.
-use Rattle.std.proofs.Common.{◌≡◌, ℕ, ◌+◌, ◌<◌, length, is_some, List, [], ◌∷◌, ◌++◌, false, Option, Some, None, Ok, refl, ap, arith}
+use Rattle.std.proofs.Common.{◌≡◌, ℕ, ◌+◌, ◌<◌, length, is_some, List, [], ◌∷◌, ◌++◌, Bool, false, Option, Some, None, Ok, refl, ap, arith}
 use Rattle.flume_tokens.specs.declared.token.Token.{Token}
 use Rattle.flume_tokens.specs.declared.keyword.Keyword.TheVariants as keyword
 use Rattle.flume_tokens.specs.declared.sign.Sign.TheVariants as sign
@@ -14,19 +14,19 @@ use Rattle.flume_grammar.specs.declared.start.StatementStart.{StatementStart}
 use Rattle.flume_grammar.specs.declared.start.StatementStart.TheVariants as stating
 use Rattle.flume_grammar.specs.declared.tree.TurnLet.{TurnLet}
 use Rattle.flume_grammar.specs.declared.tree.Statement.{Statement}
-use Rattle.flume_grammar.specs.inner.Out.{give, bind, one, all_of}
-use Rattle.flume_grammar.specs.inner.Reading.{sign_at, is_keyword, is_at_keyword, name_at, number_at, comma_at, numbered}
+use Rattle.flume_grammar.specs.inner.Out.{Out, give, bind, one, next, all_of}
+use Rattle.flume_grammar.specs.inner.Reading.{sign_at, is_keyword, is_at_keyword, name_at, number_at, comma_at, numbered, of_keyword}
 use Rattle.flume_grammar.specs.Parts.{Tree}
 use Rattle.flume_grammar.specs.inner.Types.{whole_type}
 use Rattle.flume_grammar.specs.inner.Bodies.{whole_block}
 use Rattle.flume_grammar.specs.inner.Statements as s
 use Rattle.flume_grammar.specs.Terminals.{key}
-use Rattle.flume_grammar.proofs.Sound.{bound}
-use Rattle.flume_grammar.proofs.Open.{Class, Behind, any, Sub, free, within, IsOpenAt, IsComplete, no_longer}
+use Rattle.flume_grammar.proofs.Sound.{bound, gave}
+use Rattle.flume_grammar.proofs.Open.{Takes, Class, Behind, any, Sub, free, within, IsComplete}
 use Rattle.flume_grammar.proofs.OpenSmallest.{Owns, given}
 use Rattle.flume_grammar.proofs.OpenThen.{then_}
 use Rattle.flume_grammar.proofs.OpenNarrow.{wider}
-use Rattle.flume_grammar.proofs.OpenLoops.{loops}
+use Rattle.flume_grammar.proofs.OpenLoops.{Turns, loops}
 use Rattle.flume_grammar.proofs.OpenTokens.{owns_ok, owns_fault, owns_if, owns_option, token, takes_token, sign_then, keyword_then, name_then, number_then, text_then, comma_then, commas, no_comma}
 use Rattle.flume_grammar.proofs.OpenTypes.{complete_whole}
 use Rattle.flume_grammar.specs.Limits.{Limits}
@@ -93,6 +93,31 @@ pub no_let : (ls : List TurnLet) (ts : List Token) → Behind in_turn ts → s.a
 no_let ls [] i = refl
 no_let ls (t ∷ ts) i = i.0
 
+-- what a loop asks that reads a list, one part after another
+listed : {A : Type 0} (c : Class) (more : List A → List Token → Bool) (part : List Token → Out A)
+    → Sub c settled → ((xs : List A) (ts : List Token) → Behind c ts → more xs ts ≡ false)
+    → ((xs : List A) (ts us : List Token) → next us ≡ next ts → more xs us ≡ more xs ts)
+    → Takes part → IsComplete any settled part
+    → Turns c settled more (λ xs ts. bind (part ts) (λ x us. give (xs ++ x ∷ []) us))
+    (λ xs. Unit {0})
+listed {A} c more part sub stopped same takes h = record {
+  sub = sub;
+  stopped = stopped;
+  same = same;
+  takes = λ xs ts ys us i m e. fewer xs ts ys us e;
+  open_ = λ xs ts i m. (then_ any settled settled part (λ x us. give (xs ++ x ∷ []) us) h
+      (λ x _. given settled settled _ (λ rs j. j))).open_ ts;
+  keeps = λ xs ts ys us i e. tt;
+}
+  where
+    fewer : (xs : List A) (ts : List Token) (ys : List A) (us : List Token)
+        → bind (part ts) (λ x vs. give (xs ++ x ∷ []) vs) ≡ Ok (ys, us) → length us < length ts
+    fewer xs ts ys us e =
+        let a = bound (part ts) _ ys us e in
+        let i = takes ts a.got a.rest a.part in
+        let j = ap length (gave (xs ++ a.got ∷ []) ys a.rest us a.after).1 in
+        omega (arith, i, j)
+
 module _ (limits : Limits) (fair : IsFair limits) where
   -- ---- operations
 
@@ -105,7 +130,7 @@ module _ (limits : Limits) (fair : IsFair limits) where
       name_then any any _ tt (λ c. keyword_then any any keyword.By _ tt
       (λ _. then_ any any any s.combiner_at _
       (then_ any any any (one s.combiner_start) _
-      (token any s.combiner_start (λ t. owns_option t (s.of_keyword s.keyword_combiner t.kind))
+      (token any s.combiner_start (λ t. owns_option t (of_keyword s.keyword_combiner t.kind))
       (key keyword.Sum 1) _ refl tt) (λ k _. o_combiner k))
       (λ k _. given any any _ (free any))))
 
@@ -142,7 +167,7 @@ module _ (limits : Limits) (fair : IsFair limits) where
   o_operation =
       then_ any any settled (one s.operation_start) _
       (token any s.operation_start
-      (λ t. owns_option t (s.of_keyword s.keyword_operation t.kind)) (key keyword.Group 1) _
+      (λ t. owns_option t (of_keyword s.keyword_operation t.kind)) (key keyword.Group 1) _
       refl tt) (λ o _. o_begin o)
 
   -- ---- repeats
@@ -163,27 +188,15 @@ module _ (limits : Limits) (fair : IsFair limits) where
       then_ any any settled (one s.line_of_let) _
       (token any s.line_of_let owns_let (key keyword.Let 1) 1 refl tt) (λ n _. o_own n)
 
-  pub o_next_let : (ls : List TurnLet) → IsComplete any settled (s.next_let limits ls)
-  o_next_let ls = then_ any settled settled (s.turn_let limits) _ o_turn_let
-      (λ l _. given settled settled _ (λ rs i. i))
-
-  pub t_let : (ls rs : List TurnLet) (ts us : List Token)
-      → s.next_let limits ls ts ≡ Ok (rs, us) → length us < length ts
-  t_let ls rs ts us e =
-      let a = bound (s.turn_let limits ts) _ rs us e in
-      let i = takes_token settled s.line_of_let _ (λ n. (o_own n).open_) ts a.got a.rest a.part in
-      let j = no_longer settled (give (ls ++ a.got ∷ [])) a.rest rs us
-      ((given settled settled (ls ++ a.got ∷ []) (λ k l. l)).open_ a.rest) a.after in
-      omega (arith, i, j)
+  pub let_turns : Turns in_turn settled s.at_let (s.next_let limits) (λ ls. Unit {0})
+  let_turns =
+      listed in_turn s.at_let (s.turn_let limits) (within in_turn settled (λ k i. i.1)) no_let
+      (λ ls ts us e. ap (is_at_keyword keyword.Let) e)
+      (takes_token settled s.line_of_let _ (λ n. (o_own n).open_)) o_turn_let
 
   pub o_lets : (ls : List TurnLet)
       → IsComplete in_turn in_turn (all_of s.at_let (s.next_let limits) ls)
-  o_lets ls =
-      loops in_turn settled s.at_let (s.next_let limits) (λ rs. Unit {0})
-      (within in_turn settled (λ k i. i.1)) no_let
-      (λ rs ts us e. ap (is_at_keyword keyword.Let) e)
-      (λ rs ts ps us i m e. t_let rs ps ts us e) (λ rs ts i m. (o_next_let rs).open_ ts)
-      (λ rs ts ps us i e. tt) ls tt
+  o_lets ls = loops in_turn settled s.at_let (s.next_let limits) (λ rs. Unit {0}) let_turns ls tt
 
   pub o_inside : IsComplete no_comma any (s.repeat_body limits)
   o_inside =
@@ -265,7 +278,7 @@ module _ (limits : Limits) (fair : IsFair limits) where
       then_ any no_comma settled s.names _ o_names (λ xs _. sign_then no_comma settled
       sign.Assign _ refl
       (λ _. then_ any any settled (one s.let_start) _
-      (token any s.let_start (λ t. owns_option t (s.of_keyword s.keyword_let t.kind))
+      (token any s.let_start (λ t. owns_option t (of_keyword s.keyword_let t.kind))
       (key keyword.Group 1) _ refl tt) (λ z _. o_let xs z)))
   o_form stating.Output =
       name_then any settled _ tt (λ x. keyword_then any settled keyword.To _ tt
@@ -285,43 +298,24 @@ module _ (limits : Limits) (fair : IsFair limits) where
   o_statement =
       then_ any any settled (one s.statement_start) _
       (token any s.statement_start
-      (λ t. owns_statement t (s.of_keyword s.keyword_statement t.kind)) (key keyword.Output 1) _
+      (λ t. owns_statement t (of_keyword s.keyword_statement t.kind)) (key keyword.Output 1) _
       refl tt) (λ x _. o_named x)
-
-  pub o_next_statement : (ss : List Statement)
-      → IsComplete any settled (s.next_statement limits ss)
-  o_next_statement ss = then_ any settled settled (s.statement_at limits) _ o_statement
-      (λ x _. given settled settled _ (λ rs i. i))
-
-  pub t_statement : (ss rs : List Statement) (ts us : List Token)
-      → s.next_statement limits ss ts ≡ Ok (rs, us) → length us < length ts
-  t_statement ss rs ts us e =
-      let a = bound (s.statement_at limits ts) _ rs us e in
-      let i = takes_token settled s.statement_start _ (λ x. (o_named x).open_) ts a.got a.rest
-      a.part in
-      let j = no_longer settled (give (ss ++ a.got ∷ [])) a.rest rs us
-      ((given settled settled (ss ++ a.got ∷ []) (λ k l. l)).open_ a.rest) a.after in
-      omega (arith, i, j)
 
   -- before nothing but the end
   abbrev pub nothing : Class
   nothing k = ⊥
 
-  pub complete_from : (ss : List Statement)
-      → IsComplete nothing nothing (all_of s.is_more (s.next_statement limits) ss)
-  complete_from ss =
-      loops nothing settled s.is_more (s.next_statement limits) (λ ss. Unit {0})
-      (within nothing settled (λ k i. absurd i)) ends (λ ss ts us e. ap is_some e)
-      (λ ss ts rs us i m e. t_statement ss rs ts us e)
-      (λ ss ts i m. (o_next_statement ss).open_ ts) (λ ss ts rs us i e. tt) ss tt
+  pub statement_turns : Turns nothing settled s.is_more (s.next_statement limits)
+      (λ ss. Unit {0})
+  statement_turns =
+      listed nothing s.is_more (s.statement_at limits) (within nothing settled (λ k i. absurd i))
+      ends (λ ss ts us e. ap is_some e)
+      (takes_token settled s.statement_start _ (λ x. (o_named x).open_)) o_statement
     where
       ends : (ss : List Statement) (ts : List Token) → Behind nothing ts → s.is_more ss ts ≡ false
       ends ss [] i = refl
       ends ss (t ∷ ts) i = absurd i
 
-  pub statements_end : (ss : List Statement)
-      → IsOpenAt nothing (all_of s.is_more (s.next_statement limits) ss) []
-  statements_end ss = (complete_from ss).open_ []
-
   pub complete_statements : IsComplete nothing nothing (s.script_at limits)
-  complete_statements = complete_from []
+  complete_statements = loops nothing settled s.is_more (s.next_statement limits) (λ ss. Unit {0})
+      statement_turns [] tt

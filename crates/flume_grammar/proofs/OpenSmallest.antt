@@ -42,22 +42,23 @@ given b c a s = record {
   follows = λ ts x us e. inr s;
 }
 
+-- of nothing nothing is read
+pub wanting : {A : Type 0} (c : Class) (p : List Token → Out A) → p [] ≡ Err (Fault None Syntax)
+    → IsOpenAt c p []
+wanting c p q = record {
+  stops = λ n k e. let w = sym q ∙ e in cc;
+  wants = λ k e. let w = sym q ∙ e in (inl refl, let v : Syntax ≡ k = cc in sym v);
+  sober = λ e. let w = sym q ∙ e in cc;
+  reads = λ a us e. let w = sym q ∙ e in cc;
+}
+
 -- a token is refused at that token
 abbrev pub Owns : {A : Type 0} → Token → Result A Stop → Type 0
 Owns t r = (s : Stop) → r ≡ Err s → (k : ScriptKind) × (s ≡ Fault (Some t.line) k)
 
 pub single : {A : Type 0} (f : Token → Result A Stop) → ((t : Token) → Owns t (f t))
     → IsOpen any (one f)
-single f own [] = record {
-  stops = λ n k e. cc;
-  wants = λ k e. (
-    inl refl,
-    let w : Syntax ≡ k = cc in
-        sym w,
-  );
-  sober = λ e. cc;
-  reads = λ a us e. cc;
-}
+single f own [] = wanting any (one f) refl
 single {A} f own (t ∷ ts) = record {
   stops = λ n k e. stops (f t) refl n k e;
   wants =

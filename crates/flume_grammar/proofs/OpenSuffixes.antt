@@ -12,7 +12,7 @@ use Rattle.flume_grammar.proofs.OpenSmallest.{single}
 use Rattle.flume_grammar.proofs.OpenAlike.{agree}
 use Rattle.flume_grammar.proofs.OpenThen.{then_}
 use Rattle.flume_grammar.proofs.OpenNarrow.{narrower}
-use Rattle.flume_grammar.proofs.OpenLoops.{loops}
+use Rattle.flume_grammar.proofs.OpenLoops.{Turns, loops}
 use Rattle.flume_grammar.proofs.OpenTokens.{owns_fault, takes_token}
 use Rattle.flume_grammar.proofs.Depths.{Each, Deep, d_suffix}
 use Rattle.flume_grammar.specs.Limits.{Limits}
@@ -85,14 +85,21 @@ module _ (limits : Limits) (fair : IsFair limits) where
     stopped least x [] i = refl
     stopped least x (t ∷ ts) i = ap is_some (i x.rank least)
 
+    pub suffix_turns : (least : ℕ)
+        → Turns quiet quiet (goes_on least) (next_suffix (suc n) inner least) (Deep (suc n))
+    suffix_turns least = record {
+      sub = λ ts i. i;
+      stopped = stopped least;
+      same = λ x ts us e. ap (λ o. is_some (suffix_of o x.rank least)) e;
+      takes = t_suffix least;
+      open_ = o_suffix least;
+      keeps = λ x ts y us k e. d_suffix limits fair n inner deep least x k ts y us e;
+    }
+
     pub o_loop : (least : ℕ) (x : SoFar) → Deep (suc n) x
         → IsComplete quiet quiet (all_of (goes_on least) (next_suffix (suc n) inner least) x)
-    o_loop least =
-        loops quiet quiet (goes_on least) (next_suffix (suc n) inner least) (Deep (suc n))
-        (λ ts i. i) (stopped least)
-        (λ x ts us e. ap (λ o. is_some (suffix_of o x.rank least)) e) (t_suffix least)
-        (o_suffix least)
-        (λ x ts y us k e. (d_suffix limits fair) n inner deep least x k ts y us e)
+    o_loop least = loops quiet quiet (goes_on least) (next_suffix (suc n) inner least)
+        (Deep (suc n)) (suffix_turns least)
 
     pub o_continued : (least : ℕ) (x : SoFar) → Deep (suc n) x
         → IsComplete quiet quiet (continued (suc n) inner least x)

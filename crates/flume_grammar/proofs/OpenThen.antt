@@ -7,7 +7,7 @@ use Rattle.flume_grammar.specs.declared.fault.ScriptKind.TheVariants.{Syntax}
 use Rattle.flume_grammar.specs.declared.fault.Stop.TheVariants.{Fault, Memory}
 use Rattle.flume_grammar.specs.inner.Out.{Out, bind, next}
 use Rattle.flume_grammar.proofs.Sound.{bound}
-use Rattle.flume_grammar.proofs.Open.{Class, Behind, Sub, Completes, Starts, Ends, Stops, Suits, Reads, IsOpenAt, Gives, Follows, IsComplete, no_longer}
+use Rattle.flume_grammar.proofs.Open.{Class, Behind, Sub, Completes, Starts, Ends, Stops, stops_as, Suits, Reads, IsOpenAt, Gives, Follows, IsComplete, no_longer}
 
 -- ---- one parser and then another
 
@@ -94,15 +94,8 @@ module _ {A B : Type 0} (b c : Class) (p : List Token → Out A) (f : A → List
       stops (Err s) q n k e =
           let w : s ≡ Fault (Some n) k = cc in
           let x = l.stops n k (q ∙ ap Err w) in
-          record {
-            before = x.before;
-            here = x.here;
-            behind = x.behind;
-            split = x.split;
-            line = x.line;
-            always = λ others. ap (λ o. bind o f) (x.always others);
-            ends = composed x.before x.ends (begin x.before);
-          }
+          stops_as x (λ others. ap (λ o. bind o f) (x.always others))
+          (composed x.before x.ends (begin x.before))
       stops (Ok y) q n k e =
           let x = l.reads y.0 y.1 q in
           let z = (m y.0 y.1 q).stops n k e in

@@ -1,5 +1,6 @@
 -- Parsers of one token, and of one token and then more, are open.
-use Rattle.std.proofs.Common.{◌≡◌, ℕ, nat_lt, List, [], ◌∷◌, Bool, true, false, inl, Option, Some, None, Result, Ok, Err, if◌then◌else◌, refl, sym, ap, arith}
+use Rattle.std.proofs.Common.{◌≡◌, ℕ, ◌≤◌, nat_lt, List, [], ◌∷◌, Bool, true, false, inl, Option, Some, None, Result, Ok, Err, if◌then◌else◌, refl, sym, ap, subst, arith}
+use Rattle.std.proofs.lemmas.Bool.{le-leb}
 use denote.Enum.Bare.{true_same}
 use Rattle.flume_tokens.specs.contracts.keyword.Keyword as keyword_type
 use Rattle.flume_tokens.specs.contracts.sign.Sign as sign_type
@@ -10,17 +11,19 @@ use Rattle.flume_tokens.specs.declared.keyword.Keyword.{Keyword}
 use Rattle.flume_tokens.specs.declared.sign.Sign.{Sign}
 use Rattle.flume_tokens.specs.declared.sign.Sign.TheVariants as sign
 use Rattle.flume_grammar.specs.declared.fault.ScriptKind.{ScriptKind}
-use Rattle.flume_grammar.specs.declared.fault.ScriptKind.TheVariants.{Syntax, TooMany}
+use Rattle.flume_grammar.specs.declared.fault.ScriptKind.TheVariants.{Syntax, TooDeep, TooMany}
 use Rattle.flume_grammar.specs.declared.fault.Stop.{Stop}
-use Rattle.flume_grammar.specs.inner.Out.{Out, bind, at, one, passed, all_of}
+use Rattle.flume_grammar.specs.declared.fault.Stop.TheVariants.{Fault}
+use Rattle.flume_grammar.specs.inner.Out.{Out, give, bind, no_deeper, at, one, passed, all_of}
 use Rattle.flume_grammar.specs.inner.Reading.{is_sign, is_keyword, sign_at, keyword_at, name_of, name_at, word_at, number_of, number_at, text_of, text_at, comma_at, or_syntax, is_at_sign}
 use Rattle.flume_grammar.specs.Terminals.{word_of, key, mark, name, number, text}
 use Rattle.flume_grammar.specs.inner.Types.{at_comma}
 use Rattle.flume_grammar.proofs.Sound.{bound}
-use Rattle.flume_grammar.proofs.Open.{Takes, takes_one, Class, Behind, any, Sub, IsOpen, Gives, IsComplete, no_longer}
-use Rattle.flume_grammar.proofs.OpenSmallest.{Owns, single}
+use Rattle.flume_grammar.proofs.Open.{Takes, takes_one, Class, Behind, any, Sub, free, IsOpen, Gives, IsComplete, no_longer}
+use Rattle.flume_grammar.proofs.OpenSmallest.{Owns, given, single}
+use Rattle.flume_grammar.proofs.Depths.{Each}
 use Rattle.flume_grammar.proofs.OpenThen.{binds_at, then_}
-use Rattle.flume_grammar.proofs.OpenLoops.{loops}
+use Rattle.flume_grammar.proofs.OpenLoops.{Turns, loops}
 
 -- ---- one token
 
@@ -153,18 +156,44 @@ pub comma_then : {B : Type 0} (c : Class) (parts limit : ℕ) (f : Unit {0} → 
 comma_then c parts limit f h = owned_then c (comma_at parts limit) (owns_comma parts limit) f h
 
 -- as long as a comma stands there, one more part
-pub commas : {B : Type 0} (c d : Class) (part : B → List Token → Out B) → Sub c d
-    → ((k : TokenKind) → c k → is_sign sign.Comma k ≡ false) → ((b : B) → Takes (part b))
-    → ((b : B) → IsOpen d (part b)) → (b : B)
-    → IsComplete c c (all_of at_comma part b)
-commas {B} c d part sub other takes open_ b =
-    loops c d at_comma part (λ x. Unit {0}) sub stopped (λ x ts us e. ap (is_at_sign sign.Comma) e)
-    (λ x ts y us i m e. takes x ts y us e) (λ x ts h m. open_ x ts) (λ x ts y us h e. tt) b tt
+module _ {B : Type 0} (c d : Class) (part : B → List Token → Out B) (sub : Sub c d)
+    (other : (k : TokenKind) → c k → is_sign sign.Comma k ≡ false)
+    (takes : (b : B) → Takes (part b)) (open_ : (b : B) → IsOpen d (part b))
   where
     stopped : (x : B) (ts : List Token) → Behind c ts → at_comma x ts ≡ false
     stopped x [] h = refl
     stopped x (t ∷ ts) h = other t.kind h
 
+    pub comma_turns : (P : B → Type 0) → ((b : B) (ts : List Token) (x : B) (us : List Token) → P b
+        → part b ts ≡ Ok (x, us) → P x) → Turns c d at_comma part P
+    comma_turns P keeps = record {
+      sub = sub;
+      stopped = stopped;
+      same = λ x ts us e. ap (is_at_sign sign.Comma) e;
+      takes = λ x ts y us i m e. takes x ts y us e;
+      open_ = λ x ts h m. open_ x ts;
+      keeps = keeps;
+    }
+
+    pub commas : (b : B) → IsComplete c c (all_of at_comma part b)
+    commas b = loops c d at_comma part (λ x. Unit {0}) (comma_turns (λ x. Unit {0})
+        (λ x ts y us h e. tt)) b tt
+
 -- before what is no comma
 abbrev pub no_comma : Class
 no_comma k = is_sign sign.Comma k ≡ false
+
+-- ---- what is no deeper
+
+pub shallow_complete : {A : Type 0} (n : ℕ) (x : A × ℕ) → x.1 ≤ n
+    → IsComplete any any (no_deeper n x)
+shallow_complete n x h =
+    subst (λ b. IsComplete any any (λ us. if b then give x.0 us else Err (Fault None TooDeep)))
+    (sym (le-leb x.1 n h)) (given any any x.0 (free any))
+
+-- where nothing that is read is deeper
+pub then_shallow : {A : Type 0} (b : Class) (n : ℕ) (p : List Token → Out (A × ℕ))
+    → IsComplete b any p → Each (λ x. x.1 ≤ n) p → IsComplete b any
+    (λ ts. bind (p ts) (no_deeper n))
+then_shallow b n p c h =
+    then_ b any any p (no_deeper n) c (λ x g. shallow_complete n x (h g.source x g.left g.is))

@@ -1,6 +1,6 @@
 -- Parsers of types are open.
-use Rattle.std.proofs.Common.{◌≡◌, ℕ, zero, suc, ◌+◌, ◌≤◌, length, nat_lt, nat_le, List, Bool, true, false, None, Result, Ok, Err, if◌then◌else◌, refl, sym, subst, arith}
-use Rattle.std.proofs.lemmas.Bool.{ltb-true, le-leb}
+use Rattle.std.proofs.Common.{◌≡◌, ℕ, zero, suc, ◌+◌, ◌≤◌, length, nat_lt, List, Bool, true, false, Result, Ok, Err, if◌then◌else◌, refl, arith}
+use Rattle.std.proofs.lemmas.Bool.{ltb-true}
 use Rattle.flume_tokens.specs.declared.token.Token.{Token}
 use Rattle.flume_tokens.specs.declared.token.TokenKind.{TokenKind}
 use Rattle.flume_tokens.specs.declared.token.TokenKind.TheVariants as kind
@@ -9,7 +9,6 @@ use Rattle.flume_tokens.specs.declared.keyword.Keyword.TheVariants as keyword
 use Rattle.flume_tokens.specs.declared.sign.Sign.TheVariants as sign
 use Rattle.flume_grammar.specs.declared.fault.ScriptKind.TheVariants.{Syntax, TooDeep}
 use Rattle.flume_grammar.specs.declared.fault.Stop.{Stop}
-use Rattle.flume_grammar.specs.declared.fault.Stop.TheVariants.{Fault}
 use Rattle.flume_grammar.specs.declared.parts.Parts.{Parts}
 use Rattle.flume_grammar.specs.declared.tree.Type.TheVariants as tree
 use Rattle.flume_grammar.specs.declared.start.TypeStart.{TypeStart}
@@ -26,7 +25,7 @@ use Rattle.flume_grammar.proofs.OpenNarrow.{wider}
 use Rattle.flume_grammar.proofs.Depths.{type_depth}
 use Rattle.flume_grammar.specs.Limits.{Limits}
 use Rattle.flume_grammar.proofs.Fair.{IsFair}
-use Rattle.flume_grammar.proofs.OpenTokens.{owns_ok, owns_fault, owns_if, a_name, token, takes_token, sign_then, word_then, comma_then, commas, no_comma}
+use Rattle.flume_grammar.proofs.OpenTokens.{then_shallow, owns_ok, owns_fault, owns_if, a_name, token, takes_token, sign_then, word_then, comma_then, commas, no_comma}
 
 -- ---- types
 
@@ -173,15 +172,5 @@ module _ (limits : Limits) (fair : IsFair limits) where
       c_layer (suc n) (type_within limits n) (λ i. complete_type n (omega (arith, i)))
 
   pub complete_whole : IsComplete any any (whole_type limits)
-  complete_whole = then_ any any any (type_within limits limits.depth) _
-      (complete_type limits.depth fair.depth)
-      (λ x g. by x
-      (le-leb x.1 limits.depth ((type_depth limits fair) limits.depth g.source x g.left g.is)))
-    where
-      by : (x : Tree × ℕ) → nat_le x.1 limits.depth ≡ true
-          → IsComplete any any (λ us. if nat_le x.1 limits.depth then give x.0 us else Err
-          (Fault None TooDeep))
-      by x e =
-          subst
-          (λ b. IsComplete any any (λ us. if b then give x.0 us else Err (Fault None TooDeep)))
-          (sym e) (given any any _ (free any))
+  complete_whole = then_shallow any limits.depth (type_within limits limits.depth)
+      (complete_type limits.depth fair.depth) (type_depth limits fair limits.depth)

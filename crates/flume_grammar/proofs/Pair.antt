@@ -33,6 +33,23 @@ pub record Passes {A : Type 0} (K : Kinds) (p q : List Token
       → p (before ++ here ∷ others) ≡ Err (Fault (Some here.line) kind)
   pub swallows : Swallows (q (before ++ here ∷ []))
 
+-- the same of two other parsers
+pub passes_as : {A B : Type 0} {K : Kinds} {p q : List Token → Out A} {r s : List Token → Out B}
+    {ts : List Token} (x : Passes K p q ts)
+    → ((others : List Token)
+    → r (x.before ++ x.here ∷ others) ≡ Err (Fault (Some x.here.line) x.kind))
+    → Swallows (s (x.before ++ x.here ∷ [])) → Passes K r s ts
+passes_as x always swallows = record {
+  before = x.before;
+  here = x.here;
+  behind = x.behind;
+  kind = x.kind;
+  split = x.split;
+  is = x.is;
+  always = always;
+  swallows = swallows;
+}
+
 abbrev pub RaiseAt : {A : Type 0} → Kinds → (List Token → Out A) → (List Token → Out A) → List Token
     → Type 0
 RaiseAt K p q ts = ((p ts ≡ q ts) × Spared K (p ts)) ⊎ Passes K p q ts

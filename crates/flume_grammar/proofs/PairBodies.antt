@@ -1,5 +1,5 @@
 -- Bodies within limits and within higher ones.
-use Rattle.std.proofs.Common.{◌≡◌, ℕ, zero, suc, ◌-◌, ◌≤◌, max, nat_le, List, [], ◌∷◌, ◌++◌, Bool, true, false, inl, inr, Option, Some, None, refl, sym, ap, ◌∙◌, subst, arith}
+use Rattle.std.proofs.Common.{◌≡◌, ℕ, zero, suc, ◌-◌, ◌≤◌, max, nat_le, List, [], ◌∷◌, ◌++◌, Bool, true, false, inl, Option, Some, None, refl, sym, ap, ◌∙◌, subst, arith}
 use Rattle.std.proofs.lemmas.Bool.{le-leb}
 use Rattle.flume_tokens.specs.declared.token.Token.{Token}
 use Rattle.flume_tokens.specs.declared.token.TokenKind.TheVariants as kind
@@ -7,7 +7,6 @@ use Rattle.flume_tokens.specs.declared.keyword.Keyword.{Keyword}
 use Rattle.flume_tokens.specs.declared.keyword.Keyword.TheVariants as keyword
 use Rattle.flume_tokens.specs.declared.sign.Sign.TheVariants as sign
 use Rattle.flume_grammar.specs.declared.fault.ScriptKind.TheVariants.{Syntax, TooDeep}
-use Rattle.flume_grammar.specs.declared.fault.Stop.TheVariants.{Fault}
 use Rattle.flume_grammar.specs.declared.start.BodyStart.{BodyStart}
 use Rattle.flume_grammar.specs.declared.start.BodyStart.TheVariants as begin
 use Rattle.flume_grammar.specs.inner.Out.{Out, give, bind, one, next, all_of}
@@ -17,16 +16,15 @@ use Rattle.flume_grammar.specs.inner.Bodies.{Block, block_within, whole_block}
 use Rattle.flume_grammar.specs.Limits.{Limits}
 use Rattle.flume_grammar.proofs.Fair.{IsFair}
 use Rattle.flume_grammar.proofs.Sound.{one_token}
-use Rattle.flume_grammar.proofs.Open.{Class, Behind, any, Sub, free, within, IsOpen, IsComplete}
+use Rattle.flume_grammar.proofs.Open.{Class, any, Sub, free, within, IsOpen, IsComplete}
 use Rattle.flume_grammar.proofs.OpenSmallest.{given, single}
-use Rattle.flume_grammar.proofs.OpenLoops.{unrolled}
 use Rattle.flume_grammar.proofs.Quiet.{quiet}
 use Rattle.flume_grammar.proofs.OpenBodies as o_bodies
 use Rattle.flume_grammar.proofs.OpenBodies.{other_than, no_else, no_to, opening, after_body, in_block, owns_body, body_room}
 use Rattle.flume_grammar.proofs.Depths.{block_depth}
 use Rattle.flume_grammar.proofs.Pair.{Kinds, Spared, Raise, RaiseAt, Limited, raise_token}
-use Rattle.flume_grammar.proofs.PairThen.{raise_bind, raise_agree, raise_loop, IsPair, pair_given, pair_wider, pair_closer, pair_then}
-use Rattle.flume_grammar.proofs.PairTokens.{Grows, Growth, grows_least, grows_down, plain_fault, grows_test, pair_name, pair_number, pair_sign, pair_keyword, test_raise, test_open}
+use Rattle.flume_grammar.proofs.PairThen.{raise_bind, raise_agree, IsPair, pair_given, pair_wider, pair_closer, pair_then, pair_loop}
+use Rattle.flume_grammar.proofs.PairTokens.{Grows, Growth, grows_least, grows_up, grows_down, plain_fault, grows_test, pair_name, pair_number, pair_sign, pair_keyword, pair_shallow}
 use Rattle.flume_grammar.proofs.PairExpr.{pair_expression}
 
 -- what begins with a keyword, or is nothing
@@ -195,17 +193,11 @@ module _ (K : Kinds) (limits more : Limits) (fair : IsFair limits) (fair_more : 
     r_after i begin.For line = r_for i line
     r_after i begin.Case line = r_case i line
 
-    grown : Grows K TooDeep (suc n) (suc m)
-    grown = by g
-      where
-        by : Grows K TooDeep n m → Grows K TooDeep (suc n) (suc m)
-        by (inl i) = inl (ap suc i.0, i.1)
-        by (inr i) = let j = i.0 in inr (omega (arith, j), i.1)
-
     start_limited : (t : Token) (x : Option BodyStart)
         → Limited K t (b.started (suc n) t x) (b.started (suc m) t x)
     start_limited t None = inl (refl, plain_fault K t Syntax no_syntax)
-    start_limited t (Some x) = grows_test K t (x, t.line) TooDeep (suc n) (suc m) grown (nat_le 2)
+    start_limited t (Some x) =
+        grows_test K t (x, t.line) TooDeep (suc n) (suc m) (grows_up K TooDeep n m g) (nat_le 2)
         (λ j. le-leb 2 (suc m) (omega (arith, j)))
 
     open_start : (j : ℕ) → IsOpen any (one (b.body_start j))
@@ -230,36 +222,14 @@ module _ (K : Kinds) (limits more : Limits) (fair : IsFair limits) (fair_more : 
         (o_bodies.o_body more fair_more m inner_more high ts) (r_body ts) (λ y us e. inl (refl, tt))
         (λ y e. (given after_body after_body (x.0 ++ y.0 ∷ [], max x.1 y.1) (λ rs i. i)).open_ [])
 
-    ends : (y : Block) (ts : List Token) → Behind in_block ts → b.at_body y ts ≡ false
-    ends y [] i = refl
-    ends y (t ∷ ts) i = i.2
-
     r_bodies : (x : Block)
         → IsPair K in_block in_block (all_of b.at_body (b.next_body limits (suc n) inner) x)
         (all_of b.at_body (b.next_body more (suc m) inner_more) x)
-    r_bodies x = record {
-      low_ = o_bodies.o_bodies limits fair n inner low x;
-      high_ = o_bodies.o_bodies more fair_more m inner_more high x;
-      raise = raise_loop K in_block after_body b.at_body (b.next_body limits (suc n) inner)
-          (b.next_body more (suc m) inner_more) (λ y. Unit {0}) (λ y ts us e. ap b.begins_body e)
-          (λ y ts z us i j e. o_bodies.t_next limits fair n inner low y z ts us e)
-          (λ y ts z us i e. tt) (λ y ts i j. o_bodies.o_next limits fair n inner low y ts)
-          (λ y ts i j. o_bodies.o_next more fair_more m inner_more high y ts)
-          (λ y ts i j. r_next y ts)
-          (λ y ts i. unrolled in_block after_body b.at_body (b.next_body limits (suc n) inner)
-          (λ z. Unit {0}) (within in_block after_body (λ k j. (j.0, j.1))) ends
-          (λ z us vs e. ap b.begins_body e)
-          (λ z us w vs j k e. o_bodies.t_next limits fair n inner low z w us vs e)
-          (λ z us j k. o_bodies.o_next limits fair n inner low z us) (λ z us w vs j e. tt) y ts tt)
-          (λ y ts i. unrolled in_block after_body b.at_body (b.next_body more (suc m) inner_more)
-          (λ z. Unit {0}) (within in_block after_body (λ k j. (j.0, j.1))) ends
-          (λ z us vs e. ap b.begins_body e)
-          (λ z us w vs j k e. o_bodies.t_next more fair_more m inner_more high z w us vs e)
-          (λ z us j k. o_bodies.o_next more fair_more m inner_more high z us) (λ z us w vs j e. tt)
-          y ts
-          tt)
-          (λ y z i e. (o_bodies.o_bodies more fair_more m inner_more high z).open_ []) x tt;
-    }
+    r_bodies x = pair_loop K in_block after_body b.at_body (b.next_body limits (suc n) inner)
+        (b.next_body more (suc m) inner_more) (λ y. Unit {0}) (λ y. Unit {0})
+        (o_bodies.body_turns limits fair n inner low)
+        (o_bodies.body_turns more fair_more m inner_more high) (λ y i. tt)
+        (λ y ts i e. r_next y ts) x tt
 
     r_layer : IsPair K opening any (b.block_layer limits (suc n) inner)
         (b.block_layer more (suc m) inner_more)
@@ -292,20 +262,10 @@ module _ (K : Kinds) (limits more : Limits) (fair : IsFair limits) (fair_more : 
 
   pub r_whole : IsPair K opening any (whole_block limits) (whole_block more)
   r_whole =
-      let u = grows_least K TooDeep limits.depth more.depth growth.depth in
-      let x = o_bodies.complete_block limits fair limits.depth fair.depth in
-      let y = o_bodies.complete_block more fair_more more.depth fair_more.depth in
-      record {
-        low_ = o_bodies.complete_body limits fair;
-        high_ = o_bodies.complete_body more fair_more;
-        raise = λ ts. raise_bind K any any (block_within limits limits.depth)
-            (block_within more more.depth) _ _ ts (x.open_ ts) (y.open_ ts)
-            (r_block limits.depth more.depth fair.depth growth.depth ts)
-            (λ z us e. let d = block_depth limits fair limits.depth ts z us e in
-            test_raise K z.0 (Fault None TooDeep) (nat_le z.1 limits.depth)
-            (nat_le z.1 more.depth) us (le-leb z.1 limits.depth d)
-            (le-leb z.1 more.depth (omega (arith, d, u))))
-            (λ z e. let d = block_depth more fair_more more.depth e.source z e.left e.is in
-            test_open z.0 (Fault None TooDeep) (nat_le z.1 more.depth) []
-            (le-leb z.1 more.depth d));
-      }
+      pair_shallow K opening limits.depth more.depth (block_within limits limits.depth)
+      (block_within more more.depth)
+      (grows_least K TooDeep limits.depth more.depth growth.depth) (record {
+        low_ = o_bodies.complete_block limits fair limits.depth fair.depth;
+        high_ = o_bodies.complete_block more fair_more more.depth fair_more.depth;
+        raise = r_block limits.depth more.depth fair.depth growth.depth;
+      }) (block_depth limits fair limits.depth) (block_depth more fair_more more.depth)

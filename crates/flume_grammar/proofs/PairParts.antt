@@ -132,22 +132,18 @@ module _ (K : Kinds) (limits more : Limits) (fair : IsFair limits) (fair_more : 
         pair_sign K no_syntax ending any sign.CloseBracket _ _ (λ own least. refl, refl)
         (λ _. whole_given _))))
 
-    r_argument : (end : Sign) → quiet (kind.Sign end)
-        → Pair (argument inner end) (argument inner_more end)
-    r_argument end i = pair_then K any quiet any (inner 1) (inner_more 1) _ _ (h 1)
-        (λ x. pair_sign K no_syntax quiet any end _ _ i (λ _. whole_given x))
-
-    close : Pair (argument inner sign.Close) (argument inner_more sign.Close)
-    close = r_argument sign.Close (λ own least. refl)
-
-    comma : Pair (argument inner sign.Comma) (argument inner_more sign.Comma)
-    comma = r_argument sign.Comma (λ own least. refl)
+    -- an argument, what ends it, and what follows
+    r_argument : {B : Type 0} (end : Sign) → quiet (kind.Sign end)
+        → (f g : Expr × ℕ → List Token → Out B) → ((x : Expr × ℕ) → Pair (f x) (g x))
+        → Pair (λ ts. bind (argument inner end ts) f) (λ ts. bind (argument inner_more end ts) g)
+    r_argument end i f g =
+        pair_then K any any any (argument inner end) (argument inner_more end) f g
+        (pair_then K any quiet any (inner 1) (inner_more 1) _ _ (h 1)
+        (λ x. pair_sign K no_syntax quiet any end _ _ i (λ _. whole_given x)))
 
     pub r_call : (u : Unary) → Pair (call inner u) (call inner_more u)
-    r_call u =
-        pair_sign K no_syntax any any sign.Open _ _ tt
-        (λ _. pair_then K any any any (argument inner sign.Close) (argument inner_more sign.Close) _
-        _ close (λ x. whole_given _))
+    r_call u = pair_sign K no_syntax any any sign.Open _ _ tt
+        (λ _. r_argument sign.Close (λ own least. refl) _ _ (λ x. whole_given _))
 
     pub r_sided : (s : Side) → Pair (sided limits inner s) (sided more inner_more s)
     r_sided s =
@@ -156,26 +152,18 @@ module _ (K : Kinds) (limits more : Limits) (fair : IsFair limits) (fair_more : 
         (pair_whole K limits more fair fair_more growth) (λ o.
         pair_sign K no_syntax any any sign.Greater _ _ tt
         (λ _. pair_sign K no_syntax any any sign.Open _ _ tt (λ _.
-        pair_then K any any any (argument inner sign.Close) (argument inner_more sign.Close) _ _
-        close (λ x. whole_given _)))))
+        r_argument sign.Close (λ own least. refl) _ _ (λ x. whole_given _)))))
 
     pub r_concat : Pair (concat inner) (concat inner_more)
-    r_concat =
-        pair_sign K no_syntax any any sign.Open _ _ tt
-        (λ _. pair_then K any any any (argument inner sign.Comma)
-        (argument inner_more sign.Comma) _ _ comma (λ x.
-        pair_then K any any any (argument inner sign.Close) (argument inner_more sign.Close) _ _
-        close (λ y. whole_given _)))
+    r_concat = pair_sign K no_syntax any any sign.Open _ _ tt
+        (λ _. r_argument sign.Comma (λ own least. refl) _ _
+        (λ x. r_argument sign.Close (λ own least. refl) _ _ (λ y. whole_given _)))
 
     pub r_pick : Pair (pick inner) (pick inner_more)
-    r_pick =
-        pair_sign K no_syntax any any sign.Open _ _ tt
-        (λ _. pair_then K any any any (argument inner sign.Comma)
-        (argument inner_more sign.Comma) _ _ comma (λ x.
-        pair_then K any any any (argument inner sign.Comma) (argument inner_more sign.Comma) _ _
-        comma (λ y.
-        pair_then K any any any (argument inner sign.Close) (argument inner_more sign.Close) _ _
-        close (λ z. whole_given _))))
+    r_pick = pair_sign K no_syntax any any sign.Open _ _ tt
+        (λ _. r_argument sign.Comma (λ own least. refl) _ _
+        (λ x. r_argument sign.Comma (λ own least. refl) _ _
+        (λ y. r_argument sign.Close (λ own least. refl) _ _ (λ z. whole_given _))))
 
     pub r_prefix : (u : Unary) → Two (prefix inner u) (prefix inner_more u)
     r_prefix u = pair_then K any quiet quiet (inner (prefix_rank u)) (inner_more (prefix_rank u)) _

@@ -8,8 +8,9 @@ use Rattle.flume_grammar.specs.inner.Out.{Out, give, bind, next, all_of}
 use Rattle.flume_grammar.proofs.Open.{Class, Sub, IsOpenAt, Gives, IsComplete}
 use Rattle.flume_grammar.proofs.OpenSmallest.{given}
 use Rattle.flume_grammar.proofs.OpenThen.{then_}
+use Rattle.flume_grammar.proofs.OpenLoops.{Turns, loops, unrolled}
 use Rattle.flume_grammar.proofs.OpenNarrow.{wider, closer}
-use Rattle.flume_grammar.proofs.Pair.{Kinds, Spared, Swallows, RaiseAt, Raise, nothing_left, cancel}
+use Rattle.flume_grammar.proofs.Pair.{Kinds, Spared, Swallows, passes_as, RaiseAt, Raise, nothing_left, cancel}
 
 -- ---- one parser and then another
 
@@ -78,16 +79,9 @@ module _ {A B : Type 0} (K : Kinds) (b c : Class) (p q : List Token → Out A) (
                     (w.always (x.before ++ x.here ∷ [])
                     (inl (here x.before x.behind [] x.here x.split))) refl)) x.swallows);
               })
-  raise_bind ts l m (inr x) r z = inr (record {
-    before = x.before;
-    here = x.here;
-    behind = x.behind;
-    kind = x.kind;
-    split = x.split;
-    is = x.is;
-    always = λ others. ap (λ o. bind o f) (x.always others);
-    swallows = by (q (x.before ++ x.here ∷ [])) refl x.swallows;
-  })
+  raise_bind ts l m (inr x) r z =
+      inr (passes_as x (λ others. ap (λ o. bind o f) (x.always others))
+      (by (q (x.before ++ x.here ∷ [])) refl x.swallows))
     where
       by : (o : Out A) → q (x.before ++ x.here ∷ []) ≡ o → Swallows o → Swallows (bind o g)
       by (Ok y) e i =
@@ -104,18 +98,10 @@ pub raise_agree : {A : Type 0} (K : Kinds) (p q r s : List Token → Out A) (ts 
     → q us ≡ s us) → RaiseAt K r s ts → RaiseAt K p q ts
 raise_agree K p q r s ts h i (inl x) =
     inl (h ts refl ∙ x.0 ∙ sym (i ts refl), subst (Spared K) (sym (h ts refl)) x.1)
-raise_agree K p q r s ts h i (inr x) = inr (record {
-  before = x.before;
-  here = x.here;
-  behind = x.behind;
-  kind = x.kind;
-  split = x.split;
-  is = x.is;
-  always = λ others. h (x.before ++ x.here ∷ others) (same x.before others x.split)
-      ∙ x.always others;
-  swallows = subst Swallows (sym (i (x.before ++ x.here ∷ []) (same x.before [] x.split)))
-      x.swallows;
-})
+raise_agree K p q r s ts h i (inr x) =
+    inr (passes_as x (λ others. h (x.before ++ x.here ∷ others) (same x.before others x.split)
+    ∙ x.always others)
+    (subst Swallows (sym (i (x.before ++ x.here ∷ []) (same x.before [] x.split))) x.swallows))
   where
     same : (k us : List Token) → ts ≡ k ++ x.here ∷ x.behind → next (k ++ x.here ∷ us) ≡ next ts
     same [] us e = ap next (sym e)
@@ -137,23 +123,18 @@ pair_given K b c a s = record {
       λ ts. inl (refl, tt);
 }
 
+pair_as : {A : Type 0} (K : Kinds) (a b c d : Class) (p q : List Token → Out A)
+    → ((r : List Token → Out A) → IsComplete a b r → IsComplete c d r) → IsPair K a b p q
+    → IsPair K c d p q
+pair_as K a b c d p q f x = record { low_ = f p x.low_; high_ = f q x.high_; raise = x.raise }
+
 pub pair_wider : {A : Type 0} (K : Kinds) (b d c : Class) (p q : List Token → Out A) → Sub b d
     → IsPair K b c p q → IsPair K d c p q
-pair_wider K b d c p q s x = record {
-  low_ = wider b d c p s x.low_;
-  high_ =
-      wider b d c q s x.high_;
-  raise = x.raise;
-}
+pair_wider K b d c p q s = pair_as K b c d c p q (λ r. wider b d c r s)
 
 pub pair_closer : {A : Type 0} (K : Kinds) (b c d : Class) (p q : List Token → Out A) → Sub c d
     → IsPair K b d p q → IsPair K b c p q
-pair_closer K b c d p q s x = record {
-  low_ = closer b c d p s x.low_;
-  high_ =
-      closer b c d q s x.high_;
-  raise = x.raise;
-}
+pair_closer K b c d p q s = pair_as K b d b c p q (λ r. closer b c d r s)
 
 -- what follows counts only for what is given
 pub pair_given_then : {A B : Type 0} (K : Kinds) (a b c : Class) (p q : List Token → Out A) (f g : A
@@ -176,53 +157,49 @@ pair_then K a b c p q f g h i = pair_given_then K a b c p q f g h (λ x _. (i x)
 
 -- ---- loops
 
-module _ {A : Type 0} (K : Kinds) (c d : Class) (more : A → List Token → Bool) (p q : A → List Token
-    → Out A) (P : A → Type 0)
-    (same : (a : A) (ts us : List Token) → next us ≡ next ts → more a us ≡ more a ts)
-    (takes : (a : A) (ts : List Token) (b : A) (us : List Token) → P a → more a ts ≡ true
-    → p a ts ≡ Ok (b, us) → length us < length ts)
-    (keeps : (a : A) (ts : List Token) (b : A) (us : List Token) → P a → p a ts ≡ Ok (b, us) → P b)
-    (open_p : (a : A) (ts : List Token) → P a → more a ts ≡ true → IsOpenAt d (p a) ts)
-    (open_q : (a : A) (ts : List Token) → P a → more a ts ≡ true → IsOpenAt d (q a) ts)
+module _ {A : Type 0} (K : Kinds) (c d : Class) (more : A → List Token → Bool)
+    (p q : A → List Token → Out A) (P Q : A → Type 0) (low : Turns c d more p P)
+    (high : Turns c d more q Q) (up : (a : A) → P a → Q a)
     (raise_part : (a : A) (ts : List Token) → P a → more a ts ≡ true → RaiseAt K (p a) (q a) ts)
-    (turn_p : (a : A) (ts : List Token) → P a
-    → all_of more p a ts ≡ (if more a ts then bind (p a ts) (all_of more p) else Ok (a, ts)))
-    (turn_q : (a : A) (ts : List Token) → P a
-    → all_of more q a ts ≡ (if more a ts then bind (q a ts) (all_of more q) else Ok (a, ts)))
-    (ends : (a : A) (b : A) → P a → Gives (q a) b → IsOpenAt c (all_of more q b) [])
   where
     turned : (a : A) (ts : List Token) → P a → ((b : A) (us : List Token) → length us < length ts
         → P b → RaiseAt K (all_of more p b) (all_of more q b) us)
         → RaiseAt K (all_of more p a) (all_of more q a) ts
     turned a ts h rest = by (more a ts) refl
       where
+        low_turn : (us : List Token) (x : Bool) → more a us ≡ x
+            → all_of more p a us ≡ (if x then bind (p a us) (all_of more p) else Ok (a, us))
+        low_turn us x e = unrolled c d more p P low a us h
+            ∙ ap (λ y. if y then bind (p a us) (all_of more p) else Ok (a, us)) e
+
+        high_turn : (us : List Token) (x : Bool) → more a us ≡ x
+            → all_of more q a us ≡ (if x then bind (q a us) (all_of more q) else Ok (a, us))
+        high_turn us x e = unrolled c d more q Q high a us (up a h)
+            ∙ ap (λ y. if y then bind (q a us) (all_of more q) else Ok (a, us)) e
+
         by : (x : Bool) → more a ts ≡ x → RaiseAt K (all_of more p a) (all_of more q a) ts
         by false e =
-            let v : all_of more p a ts ≡ Ok (a, ts) = turn_p a ts h
-            ∙ ap (λ x. if x then bind (p a ts) (all_of more p) else Ok (a, ts)) e in
-            inl (
-              v
-                  ∙ sym (turn_q a ts h
-                  ∙ ap (λ x. if x then bind (q a ts) (all_of more q) else Ok (a, ts)) e),
-              subst (Spared K) (sym v) tt,
-            )
+            let v = low_turn ts false e in
+            inl (v ∙ sym (high_turn ts false e), subst (Spared K) (sym v) tt)
         by true e =
             raise_agree K (all_of more p a) (all_of more q a) (λ us. bind (p a us) (all_of more p))
             (λ us. bind (q a us) (all_of more q)) ts
-            (λ us i. turn_p a us h
-            ∙ ap (λ x. if x then bind (p a us) (all_of more p) else Ok (a, us)) (same a ts us i
-            ∙ e))
-            (λ us i. turn_q a us h
-            ∙ ap (λ x. if x then bind (q a us) (all_of more q) else Ok (a, us)) (same a ts us i
-            ∙ e))
-            (raise_bind K d c (p a) (q a) (all_of more p) (all_of more q) ts (open_p a ts h e)
-            (open_q a ts h e) (raise_part a ts h e) (λ b us r. rest b us (takes a ts b us h e r)
-            (keeps a ts b us h r)) (λ b r. ends a b h r))
+            (λ us i. low_turn us true (low.same a ts us i ∙ e))
+            (λ us i. high_turn us true (low.same a ts us i ∙ e))
+            (raise_bind K d c (p a) (q a) (all_of more p) (all_of more q) ts (low.open_ a ts h e)
+            (high.open_ a ts (up a h) e) (raise_part a ts h e)
+            (λ b us i. rest b us (low.takes a ts b us h e i) (low.keeps a ts b us h i))
+            (λ b g. (loops c d more q Q high b
+            (high.keeps a g.source b g.left (up a h) g.is)).open_ []))
 
     loop_at : (k : ℕ) (a : A) (ts : List Token) → length ts ≤ k → P a
         → RaiseAt K (all_of more p a) (all_of more q a) ts
     loop_at zero a ts h i = turned a ts i (λ b us l. absurd (omega (arith, l, h)))
     loop_at (suc k) a ts h i = turned a ts i (λ b us l. loop_at k b us (omega (arith, l, h)))
 
-    pub raise_loop : (a : A) → P a → Raise K (all_of more p a) (all_of more q a)
-    raise_loop a h ts = loop_at (length ts) a ts (omega arith) h
+    pub pair_loop : (a : A) → P a → IsPair K c c (all_of more p a) (all_of more q a)
+    pair_loop a h = record {
+      low_ = loops c d more p P low a h;
+      high_ = loops c d more q Q high a (up a h);
+      raise = λ ts. loop_at (length ts) a ts (omega arith) h;
+    }

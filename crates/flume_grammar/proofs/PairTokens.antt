@@ -1,6 +1,6 @@
 -- Parsers of tokens and of commas within limits and within higher ones.
-use Rattle.std.proofs.Common.{◌≡◌, ℕ, suc, ◌≤◌, ◌<◌, length, length-append, nat_lt, List, [], ◌∷◌, Bool, true, false, ◌⊎◌, inl, inr, Option, Some, None, Result, Ok, Err, if◌then◌else◌, refl, sym, ap, ◌∙◌, subst, arith}
-use Rattle.std.proofs.lemmas.Bool.{lt-ltb}
+use Rattle.std.proofs.Common.{◌≡◌, ℕ, suc, ◌≤◌, ◌<◌, length, length-append, nat_lt, nat_le, List, [], ◌∷◌, Bool, true, false, ◌⊎◌, inl, inr, Option, Some, None, Result, Ok, Err, if◌then◌else◌, refl, sym, ap, ◌∙◌, subst, arith}
+use Rattle.std.proofs.lemmas.Bool.{lt-ltb, le-leb}
 use Rattle.flume_tokens.specs.declared.token.Token.{Token}
 use Rattle.flume_tokens.specs.declared.token.TokenKind.{TokenKind}
 use Rattle.flume_tokens.specs.declared.token.TokenKind.TheVariants as kind
@@ -10,23 +10,23 @@ use Rattle.flume_tokens.specs.declared.sign.Sign.TheVariants as sign
 use Rattle.flume_grammar.specs.declared.fault.ScriptKind.{ScriptKind}
 use Rattle.flume_grammar.specs.declared.fault.ScriptKind.TheVariants.{Syntax, TooDeep, TooMany}
 use Rattle.flume_grammar.specs.declared.fault.Stop.{Stop}
+use Rattle.flume_grammar.specs.declared.fault.Stop.TheVariants.{Fault}
 use Rattle.flume_grammar.specs.declared.parts.Parts.{Parts}
-use Rattle.flume_grammar.specs.inner.Out.{Out, give, bind, at, one, all_of}
-use Rattle.flume_grammar.specs.inner.Reading.{is_sign, is_keyword, sign_at, keyword_at, name_of, name_at, word_at, number_of, number_at, text_of, text_at, comma_at, or_syntax, is_at_sign}
+use Rattle.flume_grammar.specs.inner.Out.{Out, give, bind, no_deeper, at, one, all_of}
+use Rattle.flume_grammar.specs.inner.Reading.{is_sign, is_keyword, sign_at, keyword_at, name_of, name_at, word_at, number_of, number_at, text_of, text_at, comma_at, or_syntax}
 use Rattle.flume_grammar.specs.Terminals.{word_of, text}
 use Rattle.flume_grammar.specs.Limits.{Limits}
 use Rattle.flume_grammar.specs.Parts.{with_part}
 use Rattle.flume_grammar.specs.inner.Types.{at_comma}
 use Rattle.flume_grammar.proofs.Sound.{bound}
 use Rattle.flume_grammar.proofs.SoundTokens.{comma_read}
-use Rattle.flume_grammar.proofs.Open.{Takes, Class, Behind, any, Sub, free, IsOpenAt, IsComplete}
-use Rattle.flume_grammar.proofs.OpenSmallest.{Owns, given, single}
-use Rattle.flume_grammar.proofs.OpenLoops.{unrolled}
+use Rattle.flume_grammar.proofs.Open.{Takes, Class, any, Sub, IsOpenAt, IsComplete}
+use Rattle.flume_grammar.proofs.OpenSmallest.{Owns, single}
 use Rattle.flume_grammar.proofs.OpenTokens as o_tokens
-use Rattle.flume_grammar.proofs.OpenTokens.{a_name, a_number, token, takes_token, owns_option, owns_sign, owns_comma, owned_then, commas}
+use Rattle.flume_grammar.proofs.OpenTokens.{a_name, a_number, token, takes_token, owns_option, owns_sign, owns_comma, owned_then, comma_turns, shallow_complete}
 use Rattle.flume_grammar.proofs.Depths.{Each}
 use Rattle.flume_grammar.proofs.Pair.{Kinds, RaiseAt, Plain, Limited, raise_token}
-use Rattle.flume_grammar.proofs.PairThen.{raise_bind, raise_loop, IsPair, pair_then}
+use Rattle.flume_grammar.proofs.PairThen.{raise_bind, IsPair, pair_given_then, pair_then, pair_loop}
 
 -- a limit that is higher, where the kind is of these
 abbrev pub Grows : Kinds → ScriptKind → ℕ → ℕ → Type 0
@@ -43,6 +43,10 @@ pub record Growth (K : Kinds) (limits more : Limits) : Type 0 where
 pub grows_least : (K : Kinds) (k : ScriptKind) (n m : ℕ) → Grows K k n m → n ≤ m
 grows_least K k n m (inl i) = let e = i.0 in omega (arith, e)
 grows_least K k n m (inr i) = let e = i.0 in omega (arith, e)
+
+pub grows_up : (K : Kinds) (k : ScriptKind) (n m : ℕ) → Grows K k n m → Grows K k (suc n) (suc m)
+grows_up K k n m (inl i) = inl (ap suc i.0, i.1)
+grows_up K k n m (inr i) = let j = i.0 in inr (omega (arith, j), i.1)
 
 pub grows_down : (K : Kinds) (k : ScriptKind) (n m : ℕ) → Grows K k (suc n) (suc m) → Grows K k n m
 grows_down K k n m (inl i) = let e = i.0 in inl (omega (arith, e), i.1)
@@ -158,10 +162,6 @@ module _ (K : Kinds) (no_syntax : K Syntax → ⊥) where
       abbrev more_part : B → List Token → Out B
       more_part b ts = bind (one (r b) ts) (g b)
 
-      stopped : (x : B) (ts : List Token) → Behind c ts → at_comma x ts ≡ false
-      stopped x [] i = refl
-      stopped x (t ∷ ts) i = other t.kind i
-
       takes_part : (b : B) → Takes (part b)
       takes_part b = takes_token d (s b) (f b) (λ u. (h b u).low_.open_)
 
@@ -182,23 +182,10 @@ module _ (K : Kinds) (no_syntax : K Syntax → ⊥) where
 
       pub pair_parts : (b : B) → P b
           → IsPair K c c (all_of at_comma part b) (all_of at_comma more_part b)
-      pair_parts b i = record {
-        low_ = commas c d part sub other takes_part open_part b;
-        high_ = commas c d more_part sub other takes_more open_more b;
-        raise = raise_loop K c d at_comma part more_part P
-            (λ x ts us e. ap (is_at_sign sign.Comma) e) (λ x ts y us j k e. takes_part x ts y us e)
-            keeps (λ x ts j k. open_part x ts) (λ x ts j k. open_more x ts)
-            (λ x ts j k. raise_part x ts j)
-            (λ x ts j. unrolled c d at_comma part (λ y. Unit {0}) sub stopped
-            (λ y us vs e. ap (is_at_sign sign.Comma) e)
-            (λ y us z vs k q e. takes_part y us z vs e) (λ y us k q. open_part y us)
-            (λ y us z vs k e. tt) x ts tt)
-            (λ x ts j. unrolled c d at_comma more_part (λ y. Unit {0}) sub stopped
-            (λ y us vs e. ap (is_at_sign sign.Comma) e)
-            (λ y us z vs k q e. takes_more y us z vs e) (λ y us k q. open_more y us)
-            (λ y us z vs k e. tt) x ts tt)
-            (λ x y j e. (commas c d more_part sub other takes_more open_more y).open_ []) b i;
-      }
+      pair_parts = pair_loop K c d at_comma part more_part P (λ x. Unit {0})
+          (comma_turns c d part sub other takes_part open_part P keeps)
+          (comma_turns c d more_part sub other takes_more open_more (λ x. Unit {0})
+          (λ x ts y us i e. tt)) (λ x i. tt) (λ x ts i e. raise_part x ts i)
 
   -- the same where there may be so many parts
   module _ {B : Type 0} (c d : Class) (sub : Sub c d) (other : (k : TokenKind) → c k
@@ -246,19 +233,26 @@ module _ (K : Kinds) (no_syntax : K Syntax → ⊥) where
             (plain_fault K t Syntax no_syntax),
       )) f g h (λ x ts y us i e. tt) b tt
 
--- ---- a test that holds
+-- ---- what is no deeper
 
-pub test_raise : {A : Type 0} (K : Kinds) (a : A) (s : Stop) (b e : Bool) (ts : List Token)
+test_raise : {A : Type 0} (K : Kinds) (a : A) (s : Stop) (b e : Bool) (ts : List Token)
     → b ≡ true → e ≡ true
     → RaiseAt K (λ us. if b then give a us else Err s) (λ us. if e then give a us else Err s) ts
 test_raise K a s true true ts i j = inl (refl, tt)
 test_raise K a s true false ts i j = cc
 test_raise K a s false e ts i j = cc
 
-pub test_open : {A : Type 0} (a : A) (s : Stop) (b : Bool) (ts : List Token) → b ≡ true
-    → IsOpenAt any (λ us. if b then give a us else Err s) ts
-test_open a s true ts i = (given any any a (free any)).open_ ts
-test_open a s false ts i = cc
+-- what is no deeper than it may be
+pub pair_shallow : {A : Type 0} (K : Kinds) (b : Class) (n m : ℕ) (p q : List Token → Out (A × ℕ))
+    → n ≤ m → IsPair K b any p q → Each (λ x. x.1 ≤ n) p → Each (λ x. x.1 ≤ m) q
+    → IsPair K b any (λ ts. bind (p ts) (no_deeper n)) (λ ts. bind (q ts) (no_deeper m))
+pair_shallow K b n m p q l x d e =
+    pair_given_then K b any any p q (no_deeper n) (no_deeper m) x
+    (λ y g. shallow_complete n y (d g.source y g.left g.is))
+    (λ y g. shallow_complete m y (e g.source y g.left g.is))
+    (λ y g us. let i = d g.source y g.left g.is in
+    test_raise K y.0 (Fault None TooDeep) (nat_le y.1 n) (nat_le y.1 m) us (le-leb y.1 n i)
+    (le-leb y.1 m (omega (arith, i, l))))
 
 -- ---- types
 

@@ -1,6 +1,6 @@
 -- Parsers of types within limits and within higher ones.
-use Rattle.std.proofs.Common.{◌≡◌, ℕ, zero, suc, ◌≤◌, length, nat_lt, nat_le, List, [], inl, None, Ok, Err, refl, arith}
-use Rattle.std.proofs.lemmas.Bool.{lt-ltb, le-leb}
+use Rattle.std.proofs.Common.{◌≡◌, ℕ, zero, suc, ◌≤◌, length, nat_lt, List, inl, Ok, Err, refl, arith}
+use Rattle.std.proofs.lemmas.Bool.{lt-ltb}
 use Rattle.flume_tokens.specs.declared.token.Token.{Token}
 use Rattle.flume_tokens.specs.declared.token.TokenKind.{TokenKind}
 use Rattle.flume_tokens.specs.declared.token.TokenKind.TheVariants as kind
@@ -8,7 +8,6 @@ use Rattle.flume_tokens.specs.declared.keyword.Keyword.{Keyword}
 use Rattle.flume_tokens.specs.declared.keyword.Keyword.TheVariants as keyword
 use Rattle.flume_tokens.specs.declared.sign.Sign.TheVariants as sign
 use Rattle.flume_grammar.specs.declared.fault.ScriptKind.TheVariants.{Syntax, TooDeep}
-use Rattle.flume_grammar.specs.declared.fault.Stop.TheVariants.{Fault}
 use Rattle.flume_grammar.specs.declared.parts.Parts.{Parts}
 use Rattle.flume_grammar.specs.declared.start.TypeStart.{TypeStart}
 use Rattle.flume_grammar.specs.declared.start.TypeStart.TheVariants as start
@@ -22,8 +21,8 @@ use Rattle.flume_grammar.proofs.OpenTypes as o_types
 use Rattle.flume_grammar.proofs.OpenTokens.{no_comma}
 use Rattle.flume_grammar.proofs.Depths.{Each, each_after, each_give, type_depth}
 use Rattle.flume_grammar.proofs.Pair.{Kinds, Raise, Limited, raise_token}
-use Rattle.flume_grammar.proofs.PairThen.{raise_bind, IsPair, pair_given, pair_wider, pair_then, pair_given_then}
-use Rattle.flume_grammar.proofs.PairTokens.{Grows, Growth, grows_least, grows_down, plain_ok, plain_fault, grows_test, pair_word, pair_sign, pair_commas, test_raise, test_open, part_added}
+use Rattle.flume_grammar.proofs.PairThen.{IsPair, pair_given, pair_wider, pair_then, pair_given_then}
+use Rattle.flume_grammar.proofs.PairTokens.{Grows, Growth, grows_least, grows_down, plain_ok, plain_fault, grows_test, pair_word, pair_sign, pair_commas, pair_shallow, part_added}
 
 module _ (K : Kinds) (limits more : Limits) (fair : IsFair limits) (fair_more : IsFair more)
     (growth : Growth K limits more) where
@@ -168,18 +167,8 @@ module _ (K : Kinds) (limits more : Limits) (fair : IsFair limits) (fair_more : 
 
   pub pair_whole : Pair (whole_type limits) (whole_type more)
   pair_whole =
-      let t = r_type limits.depth more.depth fair.depth growth.depth in
-      let l = grows_least K TooDeep limits.depth more.depth growth.depth in
-      record {
-        low_ = o_types.complete_whole limits fair;
-        high_ = o_types.complete_whole more fair_more;
-        raise = λ ts. raise_bind K any any (type_within limits limits.depth)
-            (type_within more more.depth) _ _ ts (t.low_.open_ ts) (t.high_.open_ ts) (t.raise ts)
-            (λ x us e. let d = type_depth limits fair limits.depth ts x us e in
-            test_raise K x.0 (Fault None TooDeep) (nat_le x.1 limits.depth)
-            (nat_le x.1 more.depth) us (le-leb x.1 limits.depth d)
-            (le-leb x.1 more.depth (omega (arith, d, l))))
-            (λ x g. let d = type_depth more fair_more more.depth g.source x g.left g.is in
-            test_open x.0 (Fault None TooDeep) (nat_le x.1 more.depth) []
-            (le-leb x.1 more.depth d));
-      }
+      pair_shallow K any limits.depth more.depth (type_within limits limits.depth)
+      (type_within more more.depth)
+      (grows_least K TooDeep limits.depth more.depth growth.depth)
+      (r_type limits.depth more.depth fair.depth growth.depth)
+      (type_depth limits fair limits.depth) (type_depth more fair_more more.depth)

@@ -53,48 +53,16 @@ module _ (limits : Limits) (fair : IsFair limits) where
 
   pub rank_left : (o : Binary) → rank o ≤ left_rank o
   rank_left operator.Or = lit≤ tt
-  rank_left operator.And = lit≤ tt
-  rank_left operator.Equal = lit≤ tt
-  rank_left operator.NotEqual = lit≤ tt
-  rank_left operator.Less = lit≤ tt
-  rank_left operator.AtMost = lit≤ tt
-  rank_left operator.Greater = lit≤ tt
-  rank_left operator.AtLeast = lit≤ tt
-  rank_left operator.Add = lit≤ tt
-  rank_left operator.Subtract = lit≤ tt
-  rank_left operator.Multiply = lit≤ tt
-  rank_left operator.Divide = lit≤ tt
-  rank_left operator.Remainder = lit≤ tt
+  rank_left _ = lit≤ tt
 
   pub rank_high : (o : Binary) → (1 ≤ rank o) × (rank o ≤ 6)
   rank_high operator.Or = (lit≤ tt, lit≤ tt)
-  rank_high operator.And = (lit≤ tt, lit≤ tt)
-  rank_high operator.Equal = (lit≤ tt, lit≤ tt)
-  rank_high operator.NotEqual = (lit≤ tt, lit≤ tt)
-  rank_high operator.Less = (lit≤ tt, lit≤ tt)
-  rank_high operator.AtMost = (lit≤ tt, lit≤ tt)
-  rank_high operator.Greater = (lit≤ tt, lit≤ tt)
-  rank_high operator.AtLeast = (lit≤ tt, lit≤ tt)
-  rank_high operator.Add = (lit≤ tt, lit≤ tt)
-  rank_high operator.Subtract = (lit≤ tt, lit≤ tt)
-  rank_high operator.Multiply = (lit≤ tt, lit≤ tt)
-  rank_high operator.Divide = (lit≤ tt, lit≤ tt)
-  rank_high operator.Remainder = (lit≤ tt, lit≤ tt)
+  rank_high _ = (lit≤ tt, lit≤ tt)
 
   pub under_not : (o : Binary) → left_rank o ≤ 3 → rank o < 3
   under_not operator.Or h = lit≤ tt
   under_not operator.And h = lit≤ tt
-  under_not operator.Equal h = omega (arith, h)
-  under_not operator.NotEqual h = omega (arith, h)
-  under_not operator.Less h = omega (arith, h)
-  under_not operator.AtMost h = omega (arith, h)
-  under_not operator.Greater h = omega (arith, h)
-  under_not operator.AtLeast h = omega (arith, h)
-  under_not operator.Add h = omega (arith, h)
-  under_not operator.Subtract h = omega (arith, h)
-  under_not operator.Multiply h = omega (arith, h)
-  under_not operator.Divide h = omega (arith, h)
-  under_not operator.Remainder h = omega (arith, h)
+  under_not _ h = omega (arith, h)
 
   -- what an operand of an operator that fits stops at
   module _ (r least : ℕ) (low : r ≤ 7) (under : (o : Binary) → left_rank o ≤ r

@@ -39,11 +39,6 @@ module _ (limits : Limits) (fair : IsFair limits) where
     shorter (g.negate x) = let h = shorter x in omega (arith, h)
     shorter (g.field x w) = let h = shorter x in omega (arith, h)
     shorter (g.index x y) = let h = shorter x in let i = shorter y in omega (arith, h, i)
-    shorter g.num = omega arith
-    shorter g.textlit = omega arith
-    shorter g.true_ = omega arith
-    shorter g.false_ = omega arith
-    shorter g.variable = omega arith
     shorter (g.paren x) = let h = shorter x in omega (arith, h)
     shorter (g.literal f l) = let h = shorter_fields f in omega (arith, h)
     shorter (g.members f l) = let h = shorter_members f in omega (arith, h)
@@ -54,6 +49,7 @@ module _ (limits : Limits) (fair : IsFair limits) where
     shorter (g.concat x y) = let h = shorter x in let i = shorter y in omega (arith, h, i)
     shorter (g.pick x y z) = let h = shorter x in let i = shorter y in let j = shorter z in
         omega (arith, h, i, j)
+    shorter _ = omega arith
 
     shorter_fields : {ts us : List Token} {p : Parts Expr} → AreFields limits ts us p
         → length us < length ts
@@ -70,24 +66,8 @@ module _ (limits : Limits) (fair : IsFair limits) where
   mutual
     pub positive : {r a : ℕ} {ts us : List Token} {e : Expr} → IsExpr limits r ts us e a → 1 ≤ a
     positive (g.above x) = positive x
-    positive (g.binary k x y) = omega arith
-    positive (g.not_ x) = omega arith
-    positive (g.negate x) = omega arith
-    positive (g.field x w) = omega arith
-    positive (g.index x y) = omega arith
-    positive g.num = omega arith
-    positive g.textlit = omega arith
-    positive g.true_ = omega arith
-    positive g.false_ = omega arith
-    positive g.variable = omega arith
     positive (g.paren x) = positive x
-    positive (g.literal f l) = omega arith
-    positive (g.members f l) = omega arith
-    positive (g.empty w) = omega arith
-    positive (g.sided k w x) = omega arith
-    positive (g.call k x) = omega arith
-    positive (g.concat x y) = omega arith
-    positive (g.pick x y z) = omega arith
+    positive _ = omega arith
 
     pub positive_fields : {ts us : List Token} {p : Parts Expr} → AreFields limits ts us p
         → 1 ≤ p.depth
@@ -104,20 +84,8 @@ module _ (limits : Limits) (fair : IsFair limits) where
       → is_at_keyword keyword.To (next ts) ≡ false
   no_to (g.above x) = no_to x
   no_to (g.binary o x y) = no_to x
-  no_to (g.not_ x) = refl
-  no_to (g.negate x) = refl
   no_to (g.field x w) = no_to x
   no_to (g.index x y) = no_to x
-  no_to g.num = refl
-  no_to g.textlit = refl
-  no_to g.true_ = refl
-  no_to g.false_ = refl
-  no_to g.variable = refl
-  no_to (g.paren x) = refl
-  no_to (g.literal f l) = refl
-  no_to (g.members f l) = refl
-  no_to (g.empty w) = refl
   no_to (g.sided {k} {s} e w x) = side_no_to k s e
   no_to (g.call {k} {u} e x) = call_no_to k u e
-  no_to (g.concat x y) = refl
-  no_to (g.pick x y z) = refl
+  no_to _ = refl

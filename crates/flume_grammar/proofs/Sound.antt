@@ -1,8 +1,11 @@
 -- What a parser read, by its parts.
-use Rattle.std.proofs.Common.{◌≡◌, List, [], ◌∷◌, Result, Ok, Err, refl, sym, ap, ◌∙◌, subst}
+use Rattle.std.proofs.Common.{◌≡◌, ℕ, ◌≤◌, nat_le, Bool, true, false, None, if◌then◌else◌, List, [], ◌∷◌, Result, Ok, Err, refl, sym, ap, ◌∙◌, subst}
+use Rattle.std.proofs.lemmas.Bool.{leb-true}
 use Rattle.flume_tokens.specs.declared.token.Token.{Token}
+use Rattle.flume_grammar.specs.declared.fault.ScriptKind.TheVariants.{TooDeep}
 use Rattle.flume_grammar.specs.declared.fault.Stop.{Stop}
-use Rattle.flume_grammar.specs.inner.Out.{Out, give, bind, one, passed}
+use Rattle.flume_grammar.specs.declared.fault.Stop.TheVariants.{Fault}
+use Rattle.flume_grammar.specs.inner.Out.{Out, give, bind, no_deeper, one, passed}
 
 -- ---- what a parser read, by its parts
 
@@ -34,6 +37,35 @@ pub moved_by : {A : Type 0} (R : List Token → List Token → A → Type 0) (ts
     (x y : A) → ts' ≡ ts → us ≡ us' → x ≡ y → R ts us x → R ts' us' y
 moved_by R ts ts' us us' x y a c d h =
     subst (R ts' us') d (subst (λ z. R ts' z x) c (subst (λ z. R z us x) (sym a) h))
+
+-- what was read is no deeper
+pub record Shallow {A : Type 0} (R : List Token → List Token → A → ℕ → Type 0) (limit : ℕ)
+    (ts us : List Token) (a : A) : Type 0 where
+  pub depth : ℕ
+  pub spelled : R ts us a depth
+  pub small : depth ≤ limit
+
+pub shallow : {A : Type 0} (R : List Token → List Token → A → ℕ → Type 0) (limit : ℕ)
+    (p : List Token → Out (A × ℕ))
+    → ((ts : List Token) (x : A × ℕ) (us : List Token) → p ts ≡ Ok (x, us) → R ts us x.0 x.1)
+    → (ts : List Token) (a : A) (us : List Token) → bind (p ts) (no_deeper limit) ≡ Ok (a, us)
+    → Shallow R limit ts us a
+shallow {A} R limit p h ts a us q = by (bound (p ts) (no_deeper limit) a us q)
+  where
+    kept : (b : Bool) (x : A × ℕ) (vs : List Token)
+        → (if b then give x.0 vs else Err (Fault None TooDeep)) ≡ Ok (a, us)
+        → (b ≡ true) × (x.0 ≡ a) × (vs ≡ us)
+    kept true x vs e = let v = gave x.0 a vs us e in (refl, v.0, v.1)
+    kept false x vs e = cc
+
+    by : Bound (p ts) (no_deeper limit) a us → Shallow R limit ts us a
+    by x = let k = kept (nat_le x.got.1 limit) x.got x.rest x.after in
+        record {
+          depth = x.got.1;
+          spelled = subst (λ z. R ts us z x.got.1) k.1
+              (subst (λ z. R ts z x.got.0 x.got.1) k.2 (h ts x.got x.rest x.part));
+          small = leb-true x.got.1 limit k.0;
+        }
 
 pub record Passed {A : Type 0} (f : Token → Result A Stop) (a : A) (ts us : List Token) : Type 0
   where

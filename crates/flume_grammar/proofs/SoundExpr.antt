@@ -11,13 +11,13 @@ use Rattle.flume_grammar.specs.declared.parts.SoFar.{SoFar}
 use Rattle.flume_grammar.specs.declared.tree.Unary.TheVariants as unary
 use Rattle.flume_grammar.specs.declared.tree.Expr.TheVariants as tree
 use Rattle.flume_grammar.specs.inner.Out.{bind, one}
-use Rattle.flume_grammar.specs.inner.Reading.{is_sign, sign_at}
+use Rattle.flume_grammar.specs.inner.Reading.{is_sign}
 use Rattle.flume_grammar.specs.inner.Expressions.{fits, operand_start, so_far, Inner, continued, after_start, bare, enclosed, operand, expression_layer, expression_within}
 use Rattle.flume_grammar.specs.Grammar as g
 use Rattle.flume_grammar.specs.Terminals.{key, mark}
 use Rattle.flume_grammar.specs.Grammar.{IsExpr}
 use Rattle.flume_grammar.proofs.Sound.{Bound, bound, gave}
-use Rattle.flume_grammar.proofs.SoundTokens.{marked, sign_kind}
+use Rattle.flume_grammar.proofs.SoundTokens.{past_sign, sign_kind}
 use Rattle.flume_grammar.specs.Limits.{Limits}
 use Rattle.flume_grammar.proofs.Fair.{IsFair}
 use Rattle.flume_grammar.proofs.SoundSuffixes.{SoundE, IsSoFar, so_moved, token_is, s_continued}
@@ -26,10 +26,10 @@ use Rattle.flume_grammar.proofs.SoundParts.{s_record, s_list, s_empty, s_sided, 
 
 module _ (limits : Limits) (fair : IsFair limits) where
   module _ (limit : ℕ) (inner : Inner) (h : SoundE limits fair inner) where
-    least_8 : (least : ℕ) (ts us : List Token) (x : SoFar) → least ≤ 7 → IsSoFar limits fair 8 ts us
-        x
-        → IsSoFar limits fair least ts us x
-    least_8 least ts us x l (e, m) = (e, omega (arith, l, m))
+    least_8 : (least : ℕ) (ts vs us : List Token) (x : SoFar) → least ≤ 7 → ts ≡ vs
+        → IsSoFar limits fair 8 vs us x → IsSoFar limits fair least ts us x
+    least_8 least ts vs us x l e (i, m) =
+        (subst (λ z. IsExpr limits x.rank z us x.expr x.depth) (sym e) i, omega (arith, l, m))
 
     s_after : (least : ℕ) (s : Start) (ts vs : List Token) (x : SoFar) (us : List Token) → least ≤ 7
         → fits s least ≡ true → Begun limits fair limit inner h s ts vs → after_start limits inner s
@@ -38,17 +38,13 @@ module _ (limits : Limits) (fair : IsFair limits) where
     s_after least (start.Leaf e) ts vs x us l f w q = let v = gave (so_far 8 e 1) x vs us q in
         so_moved limits fair least ts ts vs us (so_far 8 e 1) x refl v.1 v.0 (w, omega (arith, l))
     s_after least start.Empty ts vs x us l f (n, e) q =
-        least_8 least ts us x l (subst (λ z. IsSoFar limits fair 8 z us x) (sym e)
-        (s_empty limits fair limit inner h n vs x us q))
+        least_8 least ts _ us x l e (s_empty limits fair limit inner h n vs x us q)
     s_after least start.Record ts vs x us l f (n, e) q =
-        least_8 least ts us x l (subst (λ z. IsSoFar limits fair 8 z us x) (sym e)
-        (s_record limits fair limit inner h n vs x us q))
+        least_8 least ts _ us x l e (s_record limits fair limit inner h n vs x us q)
     s_after least start.List ts vs x us l f (n, e) q =
-        least_8 least ts us x l (subst (λ z. IsSoFar limits fair 8 z us x) (sym e)
-        (s_list limits fair limit inner h n vs x us q))
+        least_8 least ts _ us x l e (s_list limits fair limit inner h n vs x us q)
     s_after least (start.Side s) ts vs x us l f (k, n, d, e) q =
-        least_8 least ts us x l (subst (λ z. IsSoFar limits fair 8 z us x) (sym e)
-        (s_sided limits fair limit inner h k s n vs x us d q))
+        least_8 least ts _ us x l e (s_sided limits fair limit inner h k s d n vs x us q)
     s_after least (start.Prefix unary.Not) ts vs x us l f (n, e) q =
         let a = bound (inner 3 vs) _ x us q in
         let y = so_far 3 (tree.Unary unary.Not a.got.0) (a.got.1 + 1) in
@@ -63,14 +59,11 @@ module _ (limits : Limits) (fair : IsFair limits) where
         (g.negate (h 7 vs a.got a.rest (lit≤ tt) a.part), l)
     s_after least (start.Prefix u) ts vs x us l f w q = absurd w
     s_after least (start.Call u) ts vs x us l f (k, n, d, e) q =
-        least_8 least ts us x l (subst (λ z. IsSoFar limits fair 8 z us x) (sym e)
-        (s_call limits fair limit inner h k u n vs x us d q))
+        least_8 least ts _ us x l e (s_call limits fair limit inner h k u d n vs x us q)
     s_after least start.Concat ts vs x us l f (n, e) q =
-        least_8 least ts us x l (subst (λ z. IsSoFar limits fair 8 z us x) (sym e)
-        (s_concat limits fair limit inner h n vs x us q))
+        least_8 least ts _ us x l e (s_concat limits fair limit inner h n vs x us q)
     s_after least start.Pick ts vs x us l f (n, e) q =
-        least_8 least ts us x l (subst (λ z. IsSoFar limits fair 8 z us x) (sym e)
-        (s_pick limits fair limit inner h n vs x us q))
+        least_8 least ts _ us x l e (s_pick limits fair limit inner h n vs x us q)
 
     s_bare : (least : ℕ) (ts : List Token) (x : SoFar) (us : List Token) → least ≤ 7
         → bare limits limit inner least ts ≡ Ok (x, us) → IsSoFar limits fair least ts us x
@@ -84,11 +77,10 @@ module _ (limits : Limits) (fair : IsFair limits) where
         → IsSoFar limits fair 8 (mark sign.Open n ∷ ts) us y
     s_enclosed n ts x vs y us e q =
         let a = bound (continued limit inner 1 x vs) _ y us q in
-        let b = bound (one (sign_at sign.Close) a.rest) _ y us a.after in
-        let m = marked sign.Close b.got a.rest b.rest b.part in
+        let b = past_sign sign.Close a.rest _ y us a.after in
         let v = gave (so_far 8 a.got.0 a.got.1) y b.rest us b.after in
-        let w : (IsExpr limits) 1 ts (mark sign.Close m.line ∷ b.rest) a.got.0 a.got.1 = subst
-        (λ z. (IsExpr limits) 1 ts z a.got.0 a.got.1) m.is
+        let w : (IsExpr limits) 1 ts (mark sign.Close b.line ∷ b.rest) a.got.0 a.got.1 = subst
+        (λ z. (IsExpr limits) 1 ts z a.got.0 a.got.1) b.is
         (s_continued limits fair limit inner h 1 ts x vs a.got a.rest (lit≤ tt) e a.part) in
         so_moved limits fair 8 _ _ b.rest us (so_far 8 a.got.0 a.got.1) y refl v.1 v.0
         (g.paren w, lit≤ tt)
@@ -111,11 +103,10 @@ module _ (limits : Limits) (fair : IsFair limits) where
     s_operand (t ∷ ts) least x us l q =
         opened_or (is_sign sign.Open t.kind) ts least t x us (IsSoFar limits fair least (t ∷ ts) us
         x) q
-        (λ e a. least_8 least (t ∷ ts) us x l
-        (subst (λ z. IsSoFar limits fair 8 z us x)
-        (sym (token_is limits fair t (kind.Sign sign.Open) ts (sign_kind sign.Open t.kind e)))
+        (λ e a. least_8 least (t ∷ ts) _ us x l
+        (token_is limits fair t (kind.Sign sign.Open) ts (sign_kind sign.Open t.kind e))
         (s_enclosed t.line ts a.got a.rest x us (s_operand ts 1 a.got a.rest (lit≤ tt) a.part)
-        a.after)))
+        a.after))
         (λ p. s_bare least (t ∷ ts) x us l p)
 
     s_layer : SoundE limits fair (expression_layer limits limit inner)

@@ -1,5 +1,5 @@
 -- What a loop of parts reads, and what a field is read as.
-use Rattle.std.proofs.Common.{◌≡◌, ℕ, zero, suc, length, List, ◌∷◌, Bool, true, false, Some, Ok, if◌then◌else◌, refl, ap, ◌∙◌, subst}
+use Rattle.std.proofs.Common.{◌≡◌, ℕ, zero, suc, length, List, [], ◌∷◌, ◌++◌, Bool, true, false, Some, Ok, if◌then◌else◌, refl, ap, ◌∙◌, subst}
 use Rattle.flume_tokens.specs.declared.token.Token.{Token}
 use Rattle.flume_tokens.specs.declared.sign.Sign.TheVariants as sign
 use Rattle.flume_grammar.specs.declared.parts.Parts.{Parts}
@@ -7,8 +7,8 @@ use Rattle.flume_grammar.specs.inner.Out.{Out, give, bind, one, many, all_of}
 use Rattle.flume_grammar.specs.inner.Reading.{sign_at, word_at}
 use Rattle.flume_grammar.specs.Terminals.{word_of, mark}
 use Rattle.flume_grammar.specs.Parts.{with_part}
-use Rattle.flume_grammar.proofs.Sound.{Bound, bound, gave}
-use Rattle.flume_grammar.proofs.SoundTokens.{marked, word_read}
+use Rattle.flume_grammar.proofs.Sound.{Bound, bound, gave, moved_by}
+use Rattle.flume_grammar.proofs.SoundTokens.{past_sign, word_read}
 
 -- ---- loops
 
@@ -43,6 +43,26 @@ pub kept_all : {A : Type 0} (more : A → List Token → Bool) (part : A → Lis
 unfolding all_of
 kept_all more part K step a ts b us h q = kept more part K step (length ts) a ts b us h q
 
+-- a list is read of parts, one after another
+pub kept_list : {A : Type 0} (more : List A → List Token → Bool) (part : List Token → Out A)
+    (R : List Token → List Token → List A → Type 0)
+    → ((ts : List Token) (xs : List A) (vs : List Token) (a : A) (us : List Token) → R ts vs xs
+    → part vs ≡ Ok (a, us) → R ts us (xs ++ a ∷ []))
+    → (ts : List Token) (xs : List A) (us : List Token) → R ts ts []
+    → all_of more (λ ys vs. bind (part vs) (λ a ws. give (ys ++ a ∷ []) ws)) [] ts ≡ Ok (xs, us)
+    → R ts us xs
+kept_list {A} more part R step ts xs us none q =
+    kept_all more (λ ys vs. bind (part vs) (λ a ws. give (ys ++ a ∷ []) ws)) (λ ys vs. R ts vs ys)
+    (λ ys vs zs ws t h e. turn ys vs zs ws h e) [] ts xs us none q
+  where
+    turn : (ys : List A) (vs : List Token) (zs : List A) (ws : List Token) → R ts vs ys
+        → bind (part vs) (λ a os. give (ys ++ a ∷ []) os) ≡ Ok (zs, ws) → R ts ws zs
+    turn ys vs zs ws h e =
+        let a = bound (part vs) _ zs ws e in
+        let v = gave (ys ++ a.got ∷ []) zs a.rest ws a.after in
+        moved_by R ts ts a.rest ws (ys ++ a.got ∷ []) zs refl v.1 v.0
+        (step ts ys vs a.got a.rest h a.part)
+
 -- ---- fields
 
 -- a field was read, with its name, `:` and its part
@@ -73,18 +93,17 @@ pub field_read : {X : Type 0} (R : List Token → List Token → X → ℕ → T
 field_read R inner h p ts q us e =
     let a = bound (one word_at ts) _ q us e in
     let w = word_read a.got ts a.rest a.part in
-    let b = bound (one (sign_at sign.Colon) a.rest) _ q us a.after in
-    let m = marked sign.Colon b.got a.rest b.rest b.part in
+    let b = past_sign sign.Colon a.rest _ q us a.after in
     let c = bound (inner b.rest) _ q us b.after in
     let g = gave (with_part p a.got c.got.0 c.got.1) q c.rest us c.after in
     record {
       word = w.token;
       name_ = a.got;
-      line = m.line;
+      line = b.line;
       part = c.got.0;
       depth = c.got.1;
       rest = b.rest;
-      start = w.is ∙ ap (λ z. w.token ∷ z) m.is;
+      start = w.is ∙ ap (λ z. w.token ∷ z) b.is;
       is_word = w.word;
       spelled = subst (λ z. R b.rest z c.got.0 c.got.1) g.1 (h b.rest c.got c.rest c.part);
       is = g.0;

@@ -11,8 +11,8 @@ use Rattle.flume_grammar.specs.declared.tree.Unary.{Unary}
 use Rattle.flume_grammar.specs.declared.tree.Side.{Side}
 use Rattle.flume_grammar.specs.declared.tree.Expr.{Expr}
 use Rattle.flume_grammar.specs.declared.tree.Expr.TheVariants as tree
-use Rattle.flume_grammar.specs.inner.Out.{one, all_of}
-use Rattle.flume_grammar.specs.inner.Reading.{sign_at, comma_at}
+use Rattle.flume_grammar.specs.inner.Out.{Out, bind, one, all_of}
+use Rattle.flume_grammar.specs.inner.Reading.{comma_at}
 use Rattle.flume_grammar.specs.Parts.{none, with_part}
 use Rattle.flume_grammar.specs.inner.Types.{at_comma, whole_type}
 use Rattle.flume_grammar.specs.inner.Expressions.{so_far, Inner, empty, field, next_field, record_, Members, next_member, list, argument, call, sided, concat, pick}
@@ -20,7 +20,7 @@ use Rattle.flume_grammar.specs.Grammar as g
 use Rattle.flume_grammar.specs.Terminals.{key, mark}
 use Rattle.flume_grammar.specs.Grammar.{IsWholeType, IsExpr, AreFields, AreMembers, call_of, side_of}
 use Rattle.flume_grammar.proofs.Sound.{bound, gave}
-use Rattle.flume_grammar.proofs.SoundTokens.{marked, comma_read}
+use Rattle.flume_grammar.proofs.SoundTokens.{past_sign, comma_read}
 use Rattle.flume_grammar.proofs.SoundLoops.{field_read, kept_all}
 use Rattle.flume_grammar.proofs.SoundTypes.{sound_whole}
 use Rattle.flume_grammar.specs.Limits.{Limits}
@@ -58,21 +58,23 @@ module _ (limits : Limits) (fair : IsFair limits) where
         let n = length-append p.names (f.name_ ∷ []) in
         subst (λ z. FieldsOf ts z us) f.is (g.next y f.is_word f.spelled, omega (arith, m.fewer, n))
 
-    pub s_record : (n : ℕ) (ts : List Token) (x : SoFar) (us : List Token)
-        → record_ limits inner ts ≡ Ok (x, us) → IsSoFar limits fair 8 (mark sign.OpenBrace n ∷ ts)
-        us x
+    -- what the parser reads behind this token is in the grammar
+    abbrev Shows : (ℕ → Token) → (List Token → Out SoFar) → Type 0
+    Shows head p = (n : ℕ) (ts : List Token) (x : SoFar) (us : List Token) → p ts ≡ Ok (x, us)
+        → IsSoFar limits fair 8 (head n ∷ ts) us x
+
+    pub s_record : Shows (mark sign.OpenBrace) (record_ limits inner)
     s_record n ts x us q =
         let a = bound (field inner none ts) _ x us q in
         let b = bound (all_of at_comma (next_field limits inner) a.got a.rest) _ x us a.after in
         let f = kept_all at_comma (next_field limits inner) (λ p vs. FieldsOf ts p vs)
         (λ p vs r ws t k e. s_more ts p vs r ws k e) a.got a.rest b.got b.rest
         (s_first ts a.got a.rest a.part) b.part in
-        let c = bound (one (sign_at sign.CloseBrace) b.rest) _ x us b.after in
-        let m = marked sign.CloseBrace c.got b.rest c.rest c.part in
+        let c = past_sign sign.CloseBrace b.rest _ x us b.after in
         let v = gave (so_far 8 (tree.Record b.got.names b.got.parts) (b.got.depth + 1)) x c.rest us
         c.after in
-        let y : (AreFields limits) ts (mark sign.CloseBrace m.line ∷ c.rest) b.got = subst
-        (λ z. (AreFields limits) ts z b.got) m.is f.0 in
+        let y : (AreFields limits) ts (mark sign.CloseBrace c.line ∷ c.rest) b.got = subst
+        (λ z. (AreFields limits) ts z b.got) c.is f.0 in
         so_moved limits fair 8 _ _ c.rest us (so_far 8 (tree.Record b.got.names b.got.parts)
         (b.got.depth + 1))
         x refl v.1 v.0 (g.literal y f.1, lit≤ tt)
@@ -98,9 +100,7 @@ module _ (limits : Limits) (fair : IsFair limits) where
         subst (λ z. MembersOf ts z us) v.0
         (subst (λ z. MembersOf ts (m.0 ++ b.got.0 ∷ [], max m.1 b.got.1) z) v.1 w)
 
-    pub s_list : (n : ℕ) (ts : List Token) (x : SoFar) (us : List Token)
-        → list limits inner ts ≡ Ok (x, us) → IsSoFar limits fair 8 (mark sign.OpenBracket n ∷ ts)
-        us x
+    pub s_list : Shows (mark sign.OpenBracket) (list limits inner)
     s_list n ts x us q =
         let a = bound (inner 1 ts) _ x us q in
         let b = bound (all_of at_comma (next_member limits inner) (a.got.0 ∷ [], a.got.1) a.rest)
@@ -110,120 +110,106 @@ module _ (limits : Limits) (fair : IsFair limits) where
         let f = kept_all at_comma (next_member limits inner) (λ p vs. MembersOf ts p vs)
         (λ p vs r ws t k e. s_member ts p vs r ws k e) (a.got.0 ∷ [], a.got.1) a.rest b.got
         b.rest s b.part in
-        let c = bound (one (sign_at sign.CloseBracket) b.rest) _ x us b.after in
-        let m = marked sign.CloseBracket c.got b.rest c.rest c.part in
+        let c = past_sign sign.CloseBracket b.rest _ x us b.after in
         let v = gave (so_far 8 (tree.List b.got.0) (b.got.1 + 1)) x c.rest us c.after in
-        let y : (AreMembers limits) ts (mark sign.CloseBracket m.line ∷ c.rest) b.got.0
-        b.got.1 = subst (λ z. (AreMembers limits) ts z b.got.0 b.got.1) m.is f.0 in
+        let y : (AreMembers limits) ts (mark sign.CloseBracket c.line ∷ c.rest) b.got.0
+        b.got.1 = subst (λ z. (AreMembers limits) ts z b.got.0 b.got.1) c.is f.0 in
         so_moved limits fair 8 _ _ c.rest us (so_far 8 (tree.List b.got.0) (b.got.1 + 1)) x refl v.1
         v.0
         (g.members y f.1, lit≤ tt)
 
-    record Argument (end : Sign) (ts us : List Token) (x : Expr × ℕ) : Type 0 where
+    -- an argument was read, with what ends it, and what follows goes on behind it
+    record Argument {B : Type 0} (end : Sign) (f : Expr × ℕ → List Token → Out B)
+        (ts : List Token) (y : B) (vs : List Token) : Type 0 where
+      got : Expr × ℕ
       line : ℕ
-      spelled : (IsExpr limits) 1 ts (mark end line ∷ us) x.0 x.1
+      rest : List Token
+      spelled : IsExpr limits 1 ts (mark end line ∷ rest) got.0 got.1
+      after : f got rest ≡ Ok (y, vs)
 
-    s_argument : (end : Sign) (ts : List Token) (x : Expr × ℕ) (us : List Token)
-        → argument inner end ts ≡ Ok (x, us) → Argument end ts us x
-    s_argument end ts x us q =
-        let a = bound (inner 1 ts) _ x us q in
-        let b = bound (one (sign_at end) a.rest) _ x us a.after in
-        let m = marked end b.got a.rest b.rest b.part in
-        let v = gave a.got x b.rest us b.after in
+    past_argument : {B : Type 0} (end : Sign) (ts : List Token)
+        (f : Expr × ℕ → List Token → Out B) (y : B) (vs : List Token)
+        → bind (argument inner end ts) f ≡ Ok (y, vs) → Argument end f ts y vs
+    past_argument end ts f y vs q =
+        let c = bound (argument inner end ts) f y vs q in
+        let a = bound (inner 1 ts) _ c.got c.rest c.part in
+        let b = past_sign end a.rest _ c.got c.rest a.after in
+        let v = gave a.got c.got b.rest c.rest b.after in
         record {
-          line = m.line;
-          spelled = moved limits fair ts ts a.rest (mark end m.line ∷ us) a.got x 1 refl
-              (m.is ∙ ap (λ z. mark end m.line ∷ z) v.1) v.0 (one_inner ts a.got a.rest a.part);
+          got = c.got;
+          line = b.line;
+          rest = c.rest;
+          spelled = moved limits fair ts ts a.rest (mark end b.line ∷ c.rest) a.got c.got 1 refl
+              (b.is ∙ ap (λ z. mark end b.line ∷ z) v.1) v.0 (one_inner ts a.got a.rest a.part);
+          after = c.after;
         }
 
-    pub s_empty : (n : ℕ) (ts : List Token) (x : SoFar) (us : List Token)
-        → empty limits ts ≡ Ok (x, us) → IsSoFar limits fair 8 (key keyword.Empty n ∷ ts) us x
+    pub s_empty : Shows (key keyword.Empty) (empty limits)
     s_empty n ts x us q =
-        let a = bound (one (sign_at sign.Less) ts) _ x us q in
-        let m = marked sign.Less a.got ts a.rest a.part in
+        let a = past_sign sign.Less ts _ x us q in
         let b = bound (whole_type limits a.rest) _ x us a.after in
-        let c = bound (one (sign_at sign.Greater) b.rest) _ x us b.after in
-        let k = marked sign.Greater c.got b.rest c.rest c.part in
+        let c = past_sign sign.Greater b.rest _ x us b.after in
         let v = gave (so_far 8 (tree.Empty b.got) 1) x c.rest us c.after in
-        let w : (IsWholeType limits) a.rest (mark sign.Greater k.line ∷ c.rest) b.got = subst
-        (λ z. (IsWholeType limits) a.rest z b.got) k.is
+        let w : (IsWholeType limits) a.rest (mark sign.Greater c.line ∷ c.rest) b.got = subst
+        (λ z. (IsWholeType limits) a.rest z b.got) c.is
         ((sound_whole limits fair) a.rest b.got b.rest b.part) in
-        so_moved limits fair 8 (key keyword.Empty n ∷ mark sign.Less m.line ∷ a.rest)
+        so_moved limits fair 8 (key keyword.Empty n ∷ mark sign.Less a.line ∷ a.rest)
         (key keyword.Empty n ∷ ts)
-        c.rest us (so_far 8 (tree.Empty b.got) 1) x (ap (λ z. key keyword.Empty n ∷ z) m.is) v.1
+        c.rest us (so_far 8 (tree.Empty b.got) 1) x (ap (λ z. key keyword.Empty n ∷ z) a.is) v.1
         v.0 (g.empty w, lit≤ tt)
 
-    pub s_sided : (k : Keyword) (s : Side) (n : ℕ) (ts : List Token) (x : SoFar) (us : List Token)
-        → side_of k ≡ Some s → sided limits inner s ts ≡ Ok (x, us)
-        → IsSoFar limits fair 8 (key k n ∷ ts) us x
-    s_sided k s n ts x us e q =
-        let a = bound (one (sign_at sign.Less) ts) _ x us q in
-        let m = marked sign.Less a.got ts a.rest a.part in
+    pub s_sided : (k : Keyword) (s : Side) → side_of k ≡ Some s
+        → Shows (key k) (sided limits inner s)
+    s_sided k s e n ts x us q =
+        let a = past_sign sign.Less ts _ x us q in
         let b = bound (whole_type limits a.rest) _ x us a.after in
-        let c = bound (one (sign_at sign.Greater) b.rest) _ x us b.after in
-        let i = marked sign.Greater c.got b.rest c.rest c.part in
-        let d = bound (one (sign_at sign.Open) c.rest) _ x us c.after in
-        let j = marked sign.Open d.got c.rest d.rest d.part in
-        let f = bound (argument inner sign.Close d.rest) _ x us d.after in
-        let o = s_argument sign.Close d.rest f.got f.rest f.part in
+        let c = past_sign sign.Greater b.rest _ x us b.after in
+        let d = past_sign sign.Open c.rest _ x us c.after in
+        let f = past_argument sign.Close d.rest _ x us d.after in
         let v = gave (so_far 8 (tree.Side s b.got f.got.0) (f.got.1 + 1)) x f.rest us f.after in
         let w : (IsWholeType limits) a.rest
-        (mark sign.Greater i.line ∷ mark sign.Open j.line ∷ d.rest) b.got =
-        subst (λ z. (IsWholeType limits) a.rest z b.got) (i.is
-        ∙ ap (λ z. mark sign.Greater i.line ∷ z) j.is)
+        (mark sign.Greater c.line ∷ mark sign.Open d.line ∷ d.rest) b.got =
+        subst (λ z. (IsWholeType limits) a.rest z b.got) (c.is
+        ∙ ap (λ z. mark sign.Greater c.line ∷ z) d.is)
         ((sound_whole limits fair) a.rest b.got b.rest b.part) in
-        so_moved limits fair 8 (key k n ∷ mark sign.Less m.line ∷ a.rest) (key k n ∷ ts) f.rest us
-        (so_far 8 (tree.Side s b.got f.got.0) (f.got.1 + 1)) x (ap (λ z. key k n ∷ z) m.is) v.1
-        v.0 (g.sided e w o.spelled, lit≤ tt)
+        so_moved limits fair 8 (key k n ∷ mark sign.Less a.line ∷ a.rest) (key k n ∷ ts) f.rest us
+        (so_far 8 (tree.Side s b.got f.got.0) (f.got.1 + 1)) x (ap (λ z. key k n ∷ z) a.is) v.1
+        v.0 (g.sided e w f.spelled, lit≤ tt)
 
-    pub s_call : (k : Keyword) (u : Unary) (n : ℕ) (ts : List Token) (x : SoFar) (us : List Token)
-        → call_of k ≡ Some u → call inner u ts ≡ Ok (x, us) → IsSoFar limits fair 8 (key k n ∷ ts)
-        us x
-    s_call k u n ts x us e q =
-        let a = bound (one (sign_at sign.Open) ts) _ x us q in
-        let m = marked sign.Open a.got ts a.rest a.part in
-        let b = bound (argument inner sign.Close a.rest) _ x us a.after in
-        let o = s_argument sign.Close a.rest b.got b.rest b.part in
+    pub s_call : (k : Keyword) (u : Unary) → call_of k ≡ Some u → Shows (key k) (call inner u)
+    s_call k u e n ts x us q =
+        let a = past_sign sign.Open ts _ x us q in
+        let b = past_argument sign.Close a.rest _ x us a.after in
         let v = gave (so_far 8 (tree.Unary u b.got.0) (b.got.1 + 1)) x b.rest us b.after in
-        so_moved limits fair 8 (key k n ∷ mark sign.Open m.line ∷ a.rest) (key k n ∷ ts) b.rest us
-        (so_far 8 (tree.Unary u b.got.0) (b.got.1 + 1)) x (ap (λ z. key k n ∷ z) m.is) v.1 v.0
-        (g.call e o.spelled, lit≤ tt)
+        so_moved limits fair 8 (key k n ∷ mark sign.Open a.line ∷ a.rest) (key k n ∷ ts) b.rest us
+        (so_far 8 (tree.Unary u b.got.0) (b.got.1 + 1)) x (ap (λ z. key k n ∷ z) a.is) v.1 v.0
+        (g.call e b.spelled, lit≤ tt)
 
-    pub s_concat : (n : ℕ) (ts : List Token) (x : SoFar) (us : List Token)
-        → concat inner ts ≡ Ok (x, us) → IsSoFar limits fair 8 (key keyword.Concat n ∷ ts) us x
+    pub s_concat : Shows (key keyword.Concat) (concat inner)
     s_concat n ts x us q =
-        let a = bound (one (sign_at sign.Open) ts) _ x us q in
-        let m = marked sign.Open a.got ts a.rest a.part in
-        let b = bound (argument inner sign.Comma a.rest) _ x us a.after in
-        let o = s_argument sign.Comma a.rest b.got b.rest b.part in
-        let c = bound (argument inner sign.Close b.rest) _ x us b.after in
-        let p = s_argument sign.Close b.rest c.got c.rest c.part in
+        let a = past_sign sign.Open ts _ x us q in
+        let b = past_argument sign.Comma a.rest _ x us a.after in
+        let c = past_argument sign.Close b.rest _ x us b.after in
         let v = gave (so_far 8 (tree.Concat b.got.0 c.got.0) (max b.got.1 c.got.1 + 1)) x c.rest us
         c.after in
-        so_moved limits fair 8 (key keyword.Concat n ∷ mark sign.Open m.line ∷ a.rest)
+        so_moved limits fair 8 (key keyword.Concat n ∷ mark sign.Open a.line ∷ a.rest)
         (key keyword.Concat n ∷ ts) c.rest us
         (so_far 8 (tree.Concat b.got.0 c.got.0) (max b.got.1 c.got.1 + 1)) x
-        (ap (λ z. key keyword.Concat n ∷ z) m.is) v.1 v.0 (g.concat o.spelled p.spelled, lit≤ tt)
+        (ap (λ z. key keyword.Concat n ∷ z) a.is) v.1 v.0 (g.concat b.spelled c.spelled, lit≤ tt)
 
-    pub s_pick : (n : ℕ) (ts : List Token) (x : SoFar) (us : List Token) → pick inner ts ≡ Ok
-        (x, us)
-        → IsSoFar limits fair 8 (key keyword.Pick n ∷ ts) us x
+    pub s_pick : Shows (key keyword.Pick) (pick inner)
     s_pick n ts x us q =
-        let a = bound (one (sign_at sign.Open) ts) _ x us q in
-        let m = marked sign.Open a.got ts a.rest a.part in
-        let b = bound (argument inner sign.Comma a.rest) _ x us a.after in
-        let o = s_argument sign.Comma a.rest b.got b.rest b.part in
-        let c = bound (argument inner sign.Comma b.rest) _ x us b.after in
-        let p = s_argument sign.Comma b.rest c.got c.rest c.part in
-        let d = bound (argument inner sign.Close c.rest) _ x us c.after in
-        let r = s_argument sign.Close c.rest d.got d.rest d.part in
+        let a = past_sign sign.Open ts _ x us q in
+        let b = past_argument sign.Comma a.rest _ x us a.after in
+        let c = past_argument sign.Comma b.rest _ x us b.after in
+        let d = past_argument sign.Close c.rest _ x us c.after in
         let y = so_far 8 (tree.Pick b.got.0 c.got.0 d.got.0)
         (max (max b.got.1 c.got.1) d.got.1 + 1) in
         let v = gave y x d.rest us d.after in
-        so_moved limits fair 8 (key keyword.Pick n ∷ mark sign.Open m.line ∷ a.rest)
+        so_moved limits fair 8 (key keyword.Pick n ∷ mark sign.Open a.line ∷ a.rest)
         (key keyword.Pick n ∷ ts)
         d.rest us y x
-        (ap (λ z. key keyword.Pick n ∷ z) m.is) v.1 v.0 (
-          g.pick o.spelled p.spelled r.spelled,
+        (ap (λ z. key keyword.Pick n ∷ z) a.is) v.1 v.0 (
+          g.pick b.spelled c.spelled d.spelled,
           lit≤ tt,
         )

@@ -14,14 +14,14 @@ use Rattle.flume_grammar.specs.declared.tree.Binary.TheVariants as operator
 use Rattle.flume_grammar.specs.declared.tree.Expr.{Expr}
 use Rattle.flume_grammar.specs.declared.tree.Expr.TheVariants as tree
 use Rattle.flume_grammar.specs.inner.Out.{one, all_of}
-use Rattle.flume_grammar.specs.inner.Reading.{sign_at, word_at}
+use Rattle.flume_grammar.specs.inner.Reading.{word_at}
 use Rattle.flume_grammar.specs.Operators.{operator_of, rank, left_rank}
 use Rattle.flume_grammar.specs.inner.Expressions.{so_far, operator_suffix, suffix_of, Inner, extend, passing, deep_at, extended, with_suffix, goes_on, next_suffix, continued}
 use Rattle.flume_grammar.specs.Grammar as g
 use Rattle.flume_grammar.specs.Terminals.{mark}
 use Rattle.flume_grammar.specs.Grammar.{IsExpr}
 use Rattle.flume_grammar.proofs.Sound.{bound, gave, one_token}
-use Rattle.flume_grammar.proofs.SoundTokens.{marked, word_read}
+use Rattle.flume_grammar.proofs.SoundTokens.{past_sign, word_read}
 use Rattle.flume_grammar.proofs.SoundLoops.{kept_all}
 use Rattle.flume_grammar.specs.Limits.{Limits}
 use Rattle.flume_grammar.proofs.Fair.{IsFair}
@@ -40,18 +40,7 @@ module _ (limits : Limits) (fair : IsFair limits) where
 
   rank_most : (o : Binary) → rank o + 1 ≤ 7
   rank_most operator.Or = lit≤ tt
-  rank_most operator.And = lit≤ tt
-  rank_most operator.Equal = lit≤ tt
-  rank_most operator.NotEqual = lit≤ tt
-  rank_most operator.Less = lit≤ tt
-  rank_most operator.AtMost = lit≤ tt
-  rank_most operator.Greater = lit≤ tt
-  rank_most operator.AtLeast = lit≤ tt
-  rank_most operator.Add = lit≤ tt
-  rank_most operator.Subtract = lit≤ tt
-  rank_most operator.Multiply = lit≤ tt
-  rank_most operator.Divide = lit≤ tt
-  rank_most operator.Remainder = lit≤ tt
+  rank_most _ = lit≤ tt
 
   abbrev pub SoundE : Inner → Type 0
   SoundE p = (r : ℕ) (ts : List Token) (x : Expr × ℕ) (us : List Token) → r ≤ 7
@@ -148,12 +137,11 @@ module _ (limits : Limits) (fair : IsFair limits) where
         v.0 (g.field b w.word, m)
     s_extend least ts x suffix.Index t vs y us (e, l) (k, r) m q =
         let a = bound (inner 1 vs) _ y us q in
-        let b = bound (one (sign_at sign.CloseBracket) a.rest) _ y us a.after in
-        let c = marked sign.CloseBracket b.got a.rest b.rest b.part in
+        let b = past_sign sign.CloseBracket a.rest _ y us a.after in
         let v = gave (so_far 8 (tree.Index x.expr a.got.0) (max x.depth a.got.1 + 1)) y b.rest us
         b.after in
-        let f : (IsExpr limits) 1 vs (mark sign.CloseBracket c.line ∷ b.rest) a.got.0
-        a.got.1 = subst (λ z. (IsExpr limits) 1 vs z a.got.0 a.got.1) c.is
+        let f : (IsExpr limits) 1 vs (mark sign.CloseBracket b.line ∷ b.rest) a.got.0
+        a.got.1 = subst (λ z. (IsExpr limits) 1 vs z a.got.0 a.got.1) b.is
         (h 1 vs a.got a.rest (lit≤ tt) a.part) in
         let d : (IsExpr limits) 8 ts (mark sign.OpenBracket t.line ∷ vs) x.expr x.depth = subst
         (λ z. (IsExpr limits) 8 ts z x.expr x.depth)

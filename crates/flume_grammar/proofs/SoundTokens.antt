@@ -1,5 +1,5 @@
--- A token that is read is of the kind that was asked for.
-use Rattle.std.proofs.Common.{◌≡◌, ℕ, ◌<◌, nat_lt, List, ◌∷◌, Bool, true, false, Option, Some, None, Ok, Err, if◌then◌else◌, refl, ap, ◌∙◌, rules}
+-- A token that is read is of the kind that was asked for, and what follows goes on behind it.
+use Rattle.std.proofs.Common.{◌≡◌, ℕ, ◌<◌, nat_lt, List, ◌∷◌, Bool, true, false, Option, Some, None, IfSome, Result, Ok, Err, if◌then◌else◌, refl, ap, ◌∙◌, subst, rules}
 use Rattle.std.proofs.lemmas.Bool.{ltb-true}
 use Rattle.flume_tokens.specs.declared.token.Token.{Token}
 use Rattle.flume_tokens.specs.declared.token.TokenKind.{TokenKind}
@@ -12,8 +12,8 @@ use Rattle.flume_tokens.specs.contracts.keyword.Keyword as keyword_type
 use Rattle.flume_tokens.specs.contracts.sign.Sign as sign_type
 use denote.Enum.Bare.{same_true}
 use Rattle.flume_grammar.specs.declared.fault.Stop.{Stop}
-use Rattle.flume_grammar.specs.inner.Out.{give, bind, one, next}
-use Rattle.flume_grammar.specs.inner.Reading.{is_sign, is_keyword, sign_at, keyword_at, name_of, name_at, word_at, number_of, number_at, text_of, text_at, comma_at, or_syntax, is_at_keyword, numbered}
+use Rattle.flume_grammar.specs.inner.Out.{Out, give, bind, one, next}
+use Rattle.flume_grammar.specs.inner.Reading.{is_sign, is_keyword, sign_at, keyword_at, name_of, name_at, word_at, number_of, number_at, text_of, text_at, comma_at, or_syntax, of_keyword, is_at_keyword, numbered}
 use Rattle.flume_grammar.specs.inner.Statements.{line_of_let}
 use Rattle.flume_grammar.specs.Terminals.{word_of, key, mark, name, number, text}
 use Rattle.flume_grammar.specs.Grammar.{IsNumbered, absent, present}
@@ -22,136 +22,139 @@ use Rattle.flume_grammar.proofs.Sound.{bound, gave, moved_by, one_token}
 -- ---- the tokens by their kinds
 
 chosen : {A : Type 0} (b : Bool) (s : Stop) (a c : A) → (if b then Ok a else Err s) ≡ Ok c
-    → b ≡ true
-chosen true s a c q = refl
+    → (b ≡ true) × (a ≡ c)
+chosen true s a c q = (refl, cc)
 chosen false s a c q = cc
+
+pub some_of : {A : Type 0} (t : Token) (o : Option A) (a : A) → or_syntax t o ≡ Ok a → o ≡ Some a
+some_of t (Some b) a q = let p : b ≡ a = cc in ap Some p
+some_of t None a q = cc
 
 pub sign_kind : (s : Sign) (k : TokenKind) → is_sign s k ≡ true → k ≡ kind.Sign s
 sign_kind s (kind.Sign r) q = ap kind.Sign (same_true sign_type.the_type (search rules) r s q)
-sign_kind s (kind.Keyword k) q = cc
-sign_kind s (kind.Name x) q = cc
-sign_kind s (kind.Number x) q = cc
-sign_kind s (kind.Text x) q = cc
+sign_kind s _ q = cc
 
 keyword_kind : (s : Keyword) (k : TokenKind) → is_keyword s k ≡ true → k ≡ kind.Keyword s
 keyword_kind s (kind.Keyword r) q =
     ap kind.Keyword (same_true keyword_type.the_type (search rules) r s q)
-keyword_kind s (kind.Sign k) q = cc
-keyword_kind s (kind.Name x) q = cc
-keyword_kind s (kind.Number x) q = cc
-keyword_kind s (kind.Text x) q = cc
+keyword_kind s _ q = cc
+
+-- which kind has a name, a number, a text
+content_kind : (k : TokenKind) (x : List ℕ) → (name_of k ≡ Some x → k ≡ kind.Name x)
+    × (number_of k ≡ Some x → k ≡ kind.Number x) × (text_of k ≡ Some x → k ≡ kind.Text x)
+content_kind (kind.Name y) x = ((λ q. let p : y ≡ x = cc in ap kind.Name p), (λ q. cc), (λ q. cc))
+content_kind (kind.Number y) x =
+    ((λ q. cc), (λ q. let p : y ≡ x = cc in ap kind.Number p), (λ q. cc))
+content_kind (kind.Text y) x = ((λ q. cc), (λ q. cc), (λ q. let p : y ≡ x = cc in ap kind.Text p))
+content_kind _ x = ((λ q. cc), (λ q. cc), (λ q. cc))
 
 -- a token of this kind
-token_is : (t : Token) (k : TokenKind) (ts us : List Token) → ts ≡ t ∷ us → t.kind ≡ k
-    → ts ≡ record { kind = k; line = t.line } ∷ us
-token_is t k ts us q e = q ∙ ap (λ z. record { kind = z; line = t.line } ∷ us) e
+pub of_kind : (t : Token) (k : TokenKind) → t.kind ≡ k → t ≡ record { kind = k; line = t.line }
+of_kind t k e = ap (λ z. record { kind = z; line = t.line }) e
 
-pub record Marked (s : Sign) (ts us : List Token) : Type 0 where
+-- ---- past a token
+
+-- one token was read, on some line, and what follows goes on behind it
+pub record Past {A B : Type 0} (such : A → ℕ → Token) (f : A → List Token → Out B)
+    (ts : List Token) (b : B) (vs : List Token) : Type 0 where
+  pub got : A
   pub line : ℕ
-  pub is : ts ≡ mark s line ∷ us
+  pub rest : List Token
+  pub is : ts ≡ such got line ∷ rest
+  pub after : f got rest ≡ Ok (b, vs)
 
-pub marked : (s : Sign) (u : Unit {0}) (ts us : List Token) → one (sign_at s) ts ≡ Ok (u, us)
-    → Marked s ts us
-marked s u ts us q =
-    let p = one_token (sign_at s) ts u us q in
+pub past : {A B : Type 0} (such : A → ℕ → Token) (p : Token → Result A Stop)
+    → ((t : Token) (a : A) → p t ≡ Ok a → t ≡ such a t.line) → (ts : List Token)
+    → (f : A → List Token → Out B) (b : B) (vs : List Token) → bind (one p ts) f ≡ Ok (b, vs)
+    → Past such f ts b vs
+past such p is ts f b vs q =
+    let a = bound (one p ts) f b vs q in
+    let t = one_token p ts a.got a.rest a.part in
     record {
-      line = p.token.line;
-      is =
-          token_is p.token (kind.Sign s) ts us p.is
-          (sign_kind s p.token.kind (chosen (is_sign s p.token.kind) _ tt u p.gives));
+      got = a.got;
+      line = t.token.line;
+      rest = a.rest;
+      is = t.is ∙ ap (λ z. z ∷ a.rest) (is t.token a.got t.gives);
+      after = a.after;
     }
 
-pub record Keyed (k : Keyword) (ts us : List Token) : Type 0 where
-  pub line : ℕ
-  pub is : ts ≡ key k line ∷ us
+pub past_sign : {B : Type 0} (s : Sign) (ts : List Token) (f : Unit {0} → List Token → Out B)
+    (b : B) (vs : List Token) → bind (one (sign_at s) ts) f ≡ Ok (b, vs)
+    → Past (λ _. mark s) f ts b vs
+past_sign s = past (λ _. mark s) (sign_at s) (λ t u q.
+    of_kind t (kind.Sign s) (sign_kind s t.kind (chosen (is_sign s t.kind) _ tt u q).0))
 
-pub keyed : (k : Keyword) (u : Unit {0}) (ts us : List Token) → one (keyword_at k) ts ≡ Ok (u, us)
-    → Keyed k ts us
-keyed k u ts us q =
-    let p = one_token (keyword_at k) ts u us q in
-    record {
-      line = p.token.line;
-      is =
-          token_is p.token (kind.Keyword k) ts us p.is
-          (keyword_kind k p.token.kind (chosen (is_keyword k p.token.kind) _ tt u p.gives));
-    }
-
-given_is : {A : Type 0} (b : Bool) (s : Stop) (a c : A) → (if b then Ok a else Err s) ≡ Ok c
-    → a ≡ c
-given_is true s a c q = cc
-given_is false s a c q = cc
+pub past_keyword : {B : Type 0} (k : Keyword) (ts : List Token) (f : Unit {0} → List Token → Out B)
+    (b : B) (vs : List Token) → bind (one (keyword_at k) ts) f ≡ Ok (b, vs)
+    → Past (λ _. key k) f ts b vs
+past_keyword k = past (λ _. key k) (keyword_at k) (λ t u q.
+    of_kind t (kind.Keyword k) (keyword_kind k t.kind (chosen (is_keyword k t.kind) _ tt u q).0))
 
 -- the line on which a let begins
-pub let_read : (n : ℕ) (ts us : List Token) → one line_of_let ts ≡ Ok (n, us)
-    → ts ≡ key keyword.Let n ∷ us
-let_read n ts us q =
-    let p = one_token line_of_let ts n us q in
-    let test = is_keyword keyword.Let p.token.kind in
-    token_is p.token (kind.Keyword keyword.Let) ts us p.is
-    (keyword_kind keyword.Let p.token.kind (chosen test _ p.token.line n p.gives))
-    ∙ ap (λ m. key keyword.Let m ∷ us) (given_is test _ p.token.line n p.gives)
+pub past_let : {B : Type 0} (ts : List Token) (f : ℕ → List Token → Out B) (b : B)
+    (vs : List Token) → bind (one line_of_let ts) f ≡ Ok (b, vs)
+    → Past (λ n _. key keyword.Let n) f ts b vs
+past_let = past (λ n _. key keyword.Let n) line_of_let (λ t n q.
+    let c = chosen (is_keyword keyword.Let t.kind) _ t.line n q in
+    of_kind t (kind.Keyword keyword.Let) (keyword_kind keyword.Let t.kind c.0)
+    ∙ ap (key keyword.Let) c.1)
 
-some_of : {A : Type 0} (t : Token) (o : Option A) (a : A) → or_syntax t o ≡ Ok a → o ≡ Some a
-some_of t (Some b) a q = let p : b ≡ a = cc in ap Some p
-some_of t None a q = cc
+module _ {B : Type 0} (ts : List Token) (f : List ℕ → List Token → Out B) (b : B)
+    (vs : List Token) where
+  pub past_name : bind (one name_at ts) f ≡ Ok (b, vs) → Past name f ts b vs
+  past_name = past name name_at (λ t x q. of_kind t (kind.Name x)
+      ((content_kind t.kind x).0 (some_of t (name_of t.kind) x q))) ts f b vs
 
-name_kind : (k : TokenKind) (x : List ℕ) → name_of k ≡ Some x → k ≡ kind.Name x
-name_kind (kind.Name y) x q = let p : y ≡ x = cc in ap kind.Name p
-name_kind (kind.Keyword k) x q = cc
-name_kind (kind.Sign k) x q = cc
-name_kind (kind.Number y) x q = cc
-name_kind (kind.Text y) x q = cc
+  pub past_number : bind (one number_at ts) f ≡ Ok (b, vs) → Past number f ts b vs
+  past_number = past number number_at (λ t x q. of_kind t (kind.Number x)
+      ((content_kind t.kind x).1 (some_of t (number_of t.kind) x q))) ts f b vs
 
-number_kind : (k : TokenKind) (x : List ℕ) → number_of k ≡ Some x → k ≡ kind.Number x
-number_kind (kind.Number y) x q = let p : y ≡ x = cc in ap kind.Number p
-number_kind (kind.Keyword k) x q = cc
-number_kind (kind.Sign k) x q = cc
-number_kind (kind.Name y) x q = cc
-number_kind (kind.Text y) x q = cc
+  pub past_text : bind (one text_at ts) f ≡ Ok (b, vs) → Past text f ts b vs
+  past_text = past text text_at (λ t x q. of_kind t (kind.Text x)
+      ((content_kind t.kind x).2 (some_of t (text_of t.kind) x q))) ts f b vs
 
-text_kind : (k : TokenKind) (x : List ℕ) → text_of k ≡ Some x → k ≡ kind.Text x
-text_kind (kind.Text y) x q = let p : y ≡ x = cc in ap kind.Text p
-text_kind (kind.Keyword k) x q = cc
-text_kind (kind.Sign k) x q = cc
-text_kind (kind.Name y) x q = cc
-text_kind (kind.Number y) x q = cc
+-- ---- what a keyword begins
 
-pub record Lined (f : ℕ → Token) (ts us : List Token) : Type 0 where
+-- what holds of all that keywords begin holds of what a token begins
+pub by_keyword : {A : Type 0} (start : Keyword → Option A) (P : Keyword → A → Type 0)
+    → ((k : Keyword) → IfSome (start k) (P k)) → (k : TokenKind) (z : A)
+    → of_keyword start k ≡ Some z → (j : Keyword) × (k ≡ kind.Keyword j) × P j z
+by_keyword start P h (kind.Keyword k) z q = (k, refl, subst (λ o. IfSome o (P k)) q (h k))
+by_keyword start P h _ z q = cc
+
+-- a keyword was read that begins this, and what follows goes on behind it
+pub record Begun {A B : Type 0} (P : Keyword → A → Type 0) (f : A → List Token → Out B)
+    (ts : List Token) (b : B) (vs : List Token) : Type 0 where
+  pub word : Keyword
+  pub got : A
   pub line : ℕ
-  pub is : ts ≡ f line ∷ us
+  pub rest : List Token
+  pub is : ts ≡ key word line ∷ rest
+  pub holds : P word got
+  pub after : f got rest ≡ Ok (b, vs)
 
-pub name_read : (x : List ℕ) (ts us : List Token) → one name_at ts ≡ Ok (x, us)
-    → Lined (name x) ts us
-name_read x ts us q =
-    let p = one_token name_at ts x us q in
+pub begun : {A B : Type 0} (start : Keyword → Option A) (P : Keyword → A → Type 0)
+    → ((k : Keyword) → IfSome (start k) (P k)) → (ts : List Token)
+    → (f : A → List Token → Out B) (b : B) (vs : List Token)
+    → bind (one (λ t. or_syntax t (of_keyword start t.kind)) ts) f ≡ Ok (b, vs)
+    → Begun P f ts b vs
+begun start P h ts f b vs q =
+    let p = λ (t : Token). or_syntax t (of_keyword start t.kind) in
+    let a = bound (one p ts) f b vs q in
+    let t = one_token p ts a.got a.rest a.part in
+    let k = by_keyword start P h t.token.kind a.got
+    (some_of t.token (of_keyword start t.token.kind) a.got t.gives) in
     record {
-      line = p.token.line;
-      is =
-          token_is p.token (kind.Name x) ts us p.is
-          (name_kind p.token.kind x (some_of p.token (name_of p.token.kind) x p.gives));
+      word = k.0;
+      got = a.got;
+      line = t.token.line;
+      rest = a.rest;
+      is = t.is ∙ ap (λ z. z ∷ a.rest) (of_kind t.token (kind.Keyword k.0) k.1);
+      holds = k.2;
+      after = a.after;
     }
 
-pub number_read : (x : List ℕ) (ts us : List Token) → one number_at ts ≡ Ok (x, us)
-    → Lined (number x) ts us
-number_read x ts us q =
-    let p = one_token number_at ts x us q in
-    record {
-      line = p.token.line;
-      is =
-          token_is p.token (kind.Number x) ts us p.is
-          (number_kind p.token.kind x (some_of p.token (number_of p.token.kind) x p.gives));
-    }
-
-pub text_read : (x : List ℕ) (ts us : List Token) → one text_at ts ≡ Ok (x, us)
-    → Lined (text x) ts us
-text_read x ts us q =
-    let p = one_token text_at ts x us q in
-    record {
-      line = p.token.line;
-      is =
-          token_is p.token (kind.Text x) ts us p.is
-          (text_kind p.token.kind x (some_of p.token (text_of p.token.kind) x p.gives));
-    }
+-- ---- words and commas
 
 pub record Worded (x : List ℕ) (ts us : List Token) : Type 0 where
   pub token : Token
@@ -167,12 +170,9 @@ pub record Comma (n limit : ℕ) (ts us : List Token) : Type 0 where
   pub is : ts ≡ mark sign.Comma line ∷ us
   pub fewer : n < limit
 
-inner_test : (b : Bool) (s : Stop) (u : Unit {0}) → (if b then Ok tt else Err s) ≡ Ok u → b ≡ true
-inner_test b s u q = chosen b s tt u q
-
 both : (a b : Bool) (s r : Stop) (u : Unit {0})
     → (if a then (if b then Ok tt else Err s) else Err r) ≡ Ok u → (a ≡ true) × (b ≡ true)
-both true b s r u q = (refl, inner_test b s u q)
+both true b s r u q = (refl, (chosen b s tt u q).0)
 both false b s r u q = cc
 
 pub comma_read : (n limit : ℕ) (u : Unit {0}) (ts us : List Token)
@@ -182,8 +182,8 @@ comma_read n limit u ts us q =
     let (a, b) = both (is_sign sign.Comma p.token.kind) (nat_lt n limit) _ _ u p.gives in
     record {
       line = p.token.line;
-      is = token_is p.token (kind.Sign sign.Comma) ts us p.is
-          (sign_kind sign.Comma p.token.kind a);
+      is = p.is ∙ ap (λ z. z ∷ us)
+          (of_kind p.token (kind.Sign sign.Comma) (sign_kind sign.Comma p.token.kind a));
       fewer = ltb-true n limit b;
     }
 
@@ -197,13 +197,10 @@ numbered_read k ts x us q = by (is_at_keyword k (next ts)) q
         (λ _ vs. bind (one number_at vs) (λ n ws. give (Some n) ws)) else give None ts) ≡ Ok
         (x, us) → IsNumbered k ts us x
     by true p =
-        let a = bound (one (keyword_at k) ts)
-        (λ _ vs. bind (one number_at vs) (λ n ws. give (Some n) ws)) x us p in
-        let m = keyed k a.got ts a.rest a.part in
-        let c = bound (one number_at a.rest) (λ n ws. give (Some n) ws) x us a.after in
-        let w = number_read c.got a.rest c.rest c.part in
+        let a = past_keyword k ts _ x us p in
+        let c = past_number a.rest _ x us a.after in
         let v = gave (Some c.got) x c.rest us c.after in
-        moved_by (IsNumbered k) (key k m.line ∷ number c.got w.line ∷ c.rest) ts c.rest us
-        (Some c.got) x (m.is ∙ ap (λ z. key k m.line ∷ z) w.is) v.1 v.0 present
+        moved_by (IsNumbered k) (key k a.line ∷ number c.got c.line ∷ c.rest) ts c.rest us
+        (Some c.got) x (a.is ∙ ap (λ z. key k a.line ∷ z) c.is) v.1 v.0 present
     by false p = let v = gave None x ts us p in
         moved_by (IsNumbered k) ts ts ts us None x refl v.1 v.0 absent

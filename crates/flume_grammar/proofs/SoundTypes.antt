@@ -1,6 +1,5 @@
 -- Types that are read are in the grammar.
-use Rattle.std.proofs.Common.{◌≡◌, ℕ, zero, suc, ◌+◌, ◌≤◌, max, length, length-append, nat_lt, nat_le, List, [], ◌∷◌, Bool, true, false, None, Result, Ok, Err, if◌then◌else◌, refl, sym, ap, ◌∙◌, subst, arith}
-use Rattle.std.proofs.lemmas.Bool.{leb-true}
+use Rattle.std.proofs.Common.{◌≡◌, ℕ, zero, suc, ◌+◌, ◌≤◌, max, length, length-append, nat_lt, List, [], ◌∷◌, Bool, true, false, Ok, Err, if◌then◌else◌, refl, sym, ap, ◌∙◌, subst, arith}
 use Rattle.flume_tokens.specs.declared.token.Token.{Token}
 use Rattle.flume_tokens.specs.declared.token.TokenKind.{TokenKind}
 use Rattle.flume_tokens.specs.declared.token.TokenKind.TheVariants as kind
@@ -8,23 +7,21 @@ use Rattle.flume_tokens.specs.declared.keyword.Keyword.{Keyword}
 use Rattle.flume_tokens.specs.declared.keyword.Keyword.TheVariants as keyword
 use Rattle.flume_tokens.specs.declared.sign.Sign.{Sign}
 use Rattle.flume_tokens.specs.declared.sign.Sign.TheVariants as sign
-use Rattle.flume_grammar.specs.declared.fault.Stop.{Stop}
 use Rattle.flume_grammar.specs.declared.fault.ScriptKind.TheVariants.{TooDeep}
-use Rattle.flume_grammar.specs.declared.fault.Stop.TheVariants.{Fault}
 use Rattle.flume_grammar.specs.declared.parts.Parts.{Parts}
 use Rattle.flume_grammar.specs.declared.start.TypeStart.{TypeStart}
 use Rattle.flume_grammar.specs.declared.start.TypeStart.TheVariants as type_start_
 use Rattle.flume_grammar.specs.declared.tree.Type.TheVariants as type_tree
-use Rattle.flume_grammar.specs.inner.Out.{give, at, one, all_of}
-use Rattle.flume_grammar.specs.inner.Reading.{sign_at, comma_at}
+use Rattle.flume_grammar.specs.inner.Out.{give, bind, at, one, all_of}
+use Rattle.flume_grammar.specs.inner.Reading.{comma_at}
 use Rattle.flume_grammar.specs.Terminals.{key, mark, name}
 use Rattle.flume_grammar.specs.Parts.{Tree, none, with_part}
 use Rattle.flume_grammar.specs.inner.Types.{Inner, kind_type, keyword_type, deep_start, type_start, list_type, pair_type, field_type, next_field_type, at_comma, record_type, after_start, type_layer, type_within, whole_type}
 use Rattle.flume_grammar.specs.Grammar.{IsWholeType, IsType, int, bool, text_, named, list, either, table, record_, AreFieldTypes, first, next as next_type_}
 use Rattle.flume_grammar.specs.Limits.{Limits}
 use Rattle.flume_grammar.proofs.Fair.{IsFair}
-use Rattle.flume_grammar.proofs.Sound.{bound, gave, one_token}
-use Rattle.flume_grammar.proofs.SoundTokens.{marked, comma_read}
+use Rattle.flume_grammar.proofs.Sound.{bound, gave, moved_by, shallow, one_token}
+use Rattle.flume_grammar.proofs.SoundTokens.{past_sign, comma_read}
 use Rattle.flume_grammar.proofs.SoundLoops.{kept_all, field_read}
 
 -- ---- types
@@ -34,11 +31,8 @@ module _ (limits : Limits) (fair : IsFair limits) where
   Sound p = (ts : List Token) (x : Tree × ℕ) (us : List Token) → p ts ≡ Ok (x, us)
       → IsType limits ts us x.0 x.1
 
-  moved : (ts ts' us us' : List Token) (x y : Tree × ℕ) → ts' ≡ ts → us ≡ us' → x ≡ y
-      → IsType limits ts us x.0 x.1 → IsType limits ts' us' y.0 y.1
-  moved ts ts' us us' x y a b c h =
-      subst (λ z. (IsType limits) ts' us' z.0 z.1) c (subst (λ z. (IsType limits) ts' z x.0 x.1) b
-      (subst (λ z. (IsType limits) z us x.0 x.1) (sym a) h))
+  abbrev IsRead : List Token → List Token → Tree × ℕ → Type 0
+  IsRead ts us x = IsType limits ts us x.0 x.1
 
   -- how a type began, with the tokens from there on
   abbrev Started : TypeStart → List Token → List Token → Type 0
@@ -47,10 +41,6 @@ module _ (limits : Limits) (fair : IsFair limits) where
   Started type_start_.Either ts us = (n : ℕ) × (ts ≡ key keyword.Either n ∷ us)
   Started type_start_.Table ts us = (n : ℕ) × (ts ≡ key keyword.Table n ∷ us)
   Started type_start_.Record ts us = (n : ℕ) × (ts ≡ mark sign.OpenBrace n ∷ us)
-
-  start_inj : (s r : TypeStart) (e : Stop) → (let x : Result TypeStart Stop = Ok s in x) ≡ Ok r
-      → s ≡ r
-  start_inj s r e q = cc
 
   deep_inv : (limit : ℕ) (t : Token) (s r : TypeStart) → deep_start limit t s ≡ Ok r → s ≡ r
   deep_inv limit t s r q = by (nat_lt 1 limit) q
@@ -116,46 +106,42 @@ module _ (limits : Limits) (fair : IsFair limits) where
     s_list : (n : ℕ) (ts : List Token) (x : Tree × ℕ) (us : List Token)
         → list_type inner ts ≡ Ok (x, us) → IsType limits (key keyword.List n ∷ ts) us x.0 x.1
     s_list n ts x us q =
-        let a = bound (one (sign_at sign.Less) ts) _ x us q in
-        let m = marked sign.Less a.got ts a.rest a.part in
+        let a = past_sign sign.Less ts _ x us q in
         let b = bound (inner a.rest) _ x us a.after in
-        let c = bound (one (sign_at sign.Greater) b.rest) _ x us b.after in
-        let k = marked sign.Greater c.got b.rest c.rest c.part in
+        let c = past_sign sign.Greater b.rest _ x us b.after in
         let g = gave (type_tree.List b.got.0, b.got.1 + 1) x c.rest us c.after in
-        let y : (IsType limits) a.rest (mark sign.Greater k.line ∷ c.rest) b.got.0 b.got.1 = subst
-        (λ z. (IsType limits) a.rest z b.got.0 b.got.1) k.is (h a.rest b.got b.rest b.part) in
-        moved (key keyword.List n ∷ mark sign.Less m.line ∷ a.rest) (key keyword.List n ∷ ts) c.rest
-        us (type_tree.List b.got.0, b.got.1 + 1) x (ap (λ z. key keyword.List n ∷ z) m.is) g.1
+        let y : (IsType limits) a.rest (mark sign.Greater c.line ∷ c.rest) b.got.0 b.got.1 = subst
+        (λ z. (IsType limits) a.rest z b.got.0 b.got.1) c.is (h a.rest b.got b.rest b.part) in
+        moved_by IsRead (key keyword.List n ∷ mark sign.Less a.line ∷ a.rest)
+        (key keyword.List n ∷ ts) c.rest
+        us (type_tree.List b.got.0, b.got.1 + 1) x (ap (λ z. key keyword.List n ∷ z) a.is) g.1
         g.0 (list y)
 
     s_pair : (ts : List Token) (x : Tree × Tree × ℕ) (us : List Token)
         → pair_type inner ts ≡ Ok (x, us) → Pair ts us x
     s_pair ts x us q =
-        let a = bound (one (sign_at sign.Less) ts) _ x us q in
-        let m = marked sign.Less a.got ts a.rest a.part in
+        let a = past_sign sign.Less ts _ x us q in
         let b = bound (inner a.rest) _ x us a.after in
-        let c = bound (one (sign_at sign.Comma) b.rest) _ x us b.after in
-        let k = marked sign.Comma c.got b.rest c.rest c.part in
+        let c = past_sign sign.Comma b.rest _ x us b.after in
         let d = bound (inner c.rest) _ x us c.after in
-        let e = bound (one (sign_at sign.Greater) d.rest) _ x us d.after in
-        let o = marked sign.Greater e.got d.rest e.rest e.part in
+        let e = past_sign sign.Greater d.rest _ x us d.after in
         let g = gave (b.got.0, d.got.0, max b.got.1 d.got.1 + 1) x e.rest us e.after in
         record {
-          m = m.line;
-          k = k.line;
-          o = o.line;
+          m = a.line;
+          k = c.line;
+          o = e.line;
           a = b.got.1;
           b = d.got.1;
           vs = a.rest;
           ws = c.rest;
-          start = m.is;
-          left = subst (λ t. (IsType limits) a.rest (mark sign.Comma k.line ∷ c.rest) t b.got.1)
-              (ap (λ y. y.0) g.0) (subst (λ z. (IsType limits) a.rest z b.got.0 b.got.1) k.is
+          start = a.is;
+          left = subst (λ t. (IsType limits) a.rest (mark sign.Comma c.line ∷ c.rest) t b.got.1)
+              (ap (λ y. y.0) g.0) (subst (λ z. (IsType limits) a.rest z b.got.0 b.got.1) c.is
               (h a.rest b.got b.rest b.part));
-          right = subst (λ t. (IsType limits) c.rest (mark sign.Greater o.line ∷ us) t d.got.1)
+          right = subst (λ t. (IsType limits) c.rest (mark sign.Greater e.line ∷ us) t d.got.1)
               (ap (λ y. y.1) g.0)
-              (subst (λ z. (IsType limits) c.rest (mark sign.Greater o.line ∷ z) d.got.0 d.got.1)
-              g.1 (subst (λ z. (IsType limits) c.rest z d.got.0 d.got.1) o.is
+              (subst (λ z. (IsType limits) c.rest (mark sign.Greater e.line ∷ z) d.got.0 d.got.1)
+              g.1 (subst (λ z. (IsType limits) c.rest z d.got.0 d.got.1) e.is
               (h c.rest d.got d.rest d.part)));
           depth = ap (λ y. y.2) g.0;
         }
@@ -199,39 +185,42 @@ module _ (limits : Limits) (fair : IsFair limits) where
         let f = kept_all at_comma (next_field_type limits inner) (λ p vs. SoFarOf ts p vs)
         (λ p vs r ws t k e. s_next ts p vs r ws t k e) a.got a.rest b.got b.rest
         (s_first ts a.got a.rest a.part) b.part in
-        let c = bound (one (sign_at sign.CloseBrace) b.rest) _ x us b.after in
-        let m = marked sign.CloseBrace c.got b.rest c.rest c.part in
+        let c = past_sign sign.CloseBrace b.rest _ x us b.after in
         let g = gave (type_tree.Record b.got.names b.got.parts, b.got.depth + 1) x c.rest us
         c.after in
-        let y : (AreFieldTypes limits) ts (mark sign.CloseBrace m.line ∷ c.rest) b.got = subst
-        (λ z. (AreFieldTypes limits) ts z b.got) m.is f.0 in
-        moved (mark sign.OpenBrace n ∷ ts) (mark sign.OpenBrace n ∷ ts) c.rest us
+        let y : (AreFieldTypes limits) ts (mark sign.CloseBrace c.line ∷ c.rest) b.got = subst
+        (λ z. (AreFieldTypes limits) ts z b.got) c.is f.0 in
+        moved_by IsRead (mark sign.OpenBrace n ∷ ts) (mark sign.OpenBrace n ∷ ts) c.rest us
         (type_tree.Record b.got.names b.got.parts, b.got.depth + 1) x refl g.1 g.0
         (record_ y f.1)
+
+    -- two types in angle brackets behind a keyword
+    s_both : (k : Keyword) (f : Tree → Tree → Tree)
+        → ((n : ℕ) (vs us : List Token) (y : Tree × Tree × ℕ) (p : Pair vs us y)
+        → IsRead (key k n ∷ mark sign.Less p.m ∷ p.vs) us (f y.0 y.1, max p.a p.b + 1))
+        → (n : ℕ) (ts vs : List Token) (x : Tree × ℕ) (us : List Token) → ts ≡ key k n ∷ vs
+        → bind (pair_type inner vs) (λ y ws. give (f y.0 y.1, y.2) ws) ≡ Ok (x, us)
+        → IsRead ts us x
+    s_both k f h n ts vs x us e q =
+        let a = bound (pair_type inner vs) _ x us q in
+        let p = s_pair vs a.got a.rest a.part in
+        let g = gave (f a.got.0 a.got.1, a.got.2) x a.rest us a.after in
+        moved_by IsRead (key k n ∷ mark sign.Less p.m ∷ p.vs) ts a.rest us
+        (f a.got.0 a.got.1, max p.a p.b + 1) x (e ∙ ap (λ z. key k n ∷ z) p.start) g.1
+        (ap (λ d. (f a.got.0 a.got.1, d)) p.depth ∙ g.0) (h n vs a.rest a.got p)
 
     s_after : (s : TypeStart) (ts vs : List Token) (x : Tree × ℕ) (us : List Token)
         → Started s ts vs → after_start limits inner s vs ≡ Ok (x, us)
         → IsType limits ts us x.0 x.1
     s_after (type_start_.Leaf t) ts vs x us w q = let g = gave (t, 1) x vs us q in
-        moved ts ts vs us (t, 1) x refl g.1 g.0 w
+        moved_by IsRead ts ts vs us (t, 1) x refl g.1 g.0 w
     s_after type_start_.List ts vs x us (n, e) q = subst (λ z. (IsType limits) z us x.0 x.1) (sym e)
         (s_list n vs x us q)
     s_after type_start_.Either ts vs x us (n, e) q =
-        let a = bound (pair_type inner vs) _ x us q in
-        let p = s_pair vs a.got a.rest a.part in
-        let g = gave (type_tree.Either a.got.0 a.got.1, a.got.2) x a.rest us a.after in
-        moved (key keyword.Either n ∷ mark sign.Less p.m ∷ p.vs) ts a.rest us
-        (type_tree.Either a.got.0 a.got.1, max p.a p.b + 1) x (e
-        ∙ ap (λ z. key keyword.Either n ∷ z) p.start) g.1
-        (ap (λ d. (type_tree.Either a.got.0 a.got.1, d)) p.depth ∙ g.0) (either p.left p.right)
+        s_both keyword.Either type_tree.Either (λ m ws os y p. either p.left p.right) n ts vs x us e
+        q
     s_after type_start_.Table ts vs x us (n, e) q =
-        let a = bound (pair_type inner vs) _ x us q in
-        let p = s_pair vs a.got a.rest a.part in
-        let g = gave (type_tree.Table a.got.0 a.got.1, a.got.2) x a.rest us a.after in
-        moved (key keyword.Table n ∷ mark sign.Less p.m ∷ p.vs) ts a.rest us
-        (type_tree.Table a.got.0 a.got.1, max p.a p.b + 1) x (e
-        ∙ ap (λ z. key keyword.Table n ∷ z) p.start) g.1
-        (ap (λ d. (type_tree.Table a.got.0 a.got.1, d)) p.depth ∙ g.0) (table p.left p.right)
+        s_both keyword.Table type_tree.Table (λ m ws os y p. table p.left p.right) n ts vs x us e q
     s_after type_start_.Record ts vs x us (n, e) q =
         subst (λ z. (IsType limits) z us x.0 x.1) (sym e) (s_record n vs x us q)
 
@@ -245,22 +234,9 @@ module _ (limits : Limits) (fair : IsFair limits) where
   sound_type zero ts x us q = cc
   sound_type (suc n) ts x us q = s_layer (type_within limits n) (sound_type n) (suc n) ts x us q
 
-  small : (b : Bool) (x : Tree × ℕ) (us : List Token) (y : Tree) (vs : List Token)
-      → (if b then give x.0 us else Err (Fault None TooDeep)) ≡ Ok (y, vs) → (b ≡ true) × (x.0 ≡ y)
-      × (us ≡ vs)
-  small true x us y vs q = let g = gave x.0 y us vs q in (refl, g.0, g.1)
-  small false x us y vs q = cc
-
   pub sound_whole : (ts : List Token) (t : Tree) (us : List Token)
       → whole_type limits ts ≡ Ok (t, us) → IsWholeType limits ts us t
   sound_whole ts t us q =
-      let a = bound (type_within limits limits.depth ts) _ t us q in
-      let b = small (nat_le a.got.1 limits.depth) a.got a.rest t us a.after in
-      record {
-        depth = a.got.1;
-        spelled = subst (λ z. (IsType limits) ts us z a.got.1) b.1
-            (subst (λ z. (IsType limits) ts z a.got.0 a.got.1) b.2
-            (sound_type limits.depth ts a.got a.rest a.part));
-        small =
-            leb-true a.got.1 limits.depth b.0;
-      }
+      let w = shallow (IsType limits) limits.depth (type_within limits limits.depth)
+      (sound_type limits.depth) ts t us q in
+      record { depth = w.depth; spelled = w.spelled; small = w.small }

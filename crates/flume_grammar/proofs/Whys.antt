@@ -15,7 +15,7 @@ use Rattle.flume_grammar.specs.Fault.{IsBeginning, IsWhy}
 use Rattle.flume_grammar.proofs.CompleteScript.{complete_script}
 use Rattle.flume_grammar.proofs.Sound.{gave, bound}
 use Rattle.flume_grammar.proofs.Open.{Ends}
-use Rattle.flume_grammar.proofs.OpenScript.{nothing, t_statement}
+use Rattle.flume_grammar.proofs.OpenScript.{nothing, statement_turns}
 use Rattle.flume_grammar.proofs.Pair.{Kinds, Spared, Swallows, Passes, RaiseAt}
 use Rattle.flume_grammar.proofs.PairTokens.{Growth}
 use Rattle.flume_grammar.proofs.PairScript.{raise_statements}
@@ -34,7 +34,7 @@ module _ (limits : Limits) (fair : IsFair limits) where
   all_read (suc k) ss rs (t ∷ ts) us h e =
       let x = bound (next_statement limits ss (t ∷ ts))
       (λ b vs. many k is_more (next_statement limits) b vs) rs us e in
-      let i = t_statement limits fair ss x.got (t ∷ ts) x.rest x.part in
+      let i = (statement_turns limits fair).takes ss (t ∷ ts) x.got x.rest tt refl x.part in
       all_read k x.got rs x.rest us (omega (arith, h, i)) x.after
 
   pub left_none : (ts : List Token) (ss : List Statement) (us : List Token) → p_ ts ≡ Ok (ss, us)

@@ -24,18 +24,11 @@ pub record IsBelow (limits more : Limits) : Type 0 where
 
 -- one more level of depth
 abbrev pub deeper : Limits → Limits
-deeper l = record {
-  depth = l.depth + 1;
-  fields = l.fields;
-  members = l.members;
-  inputs = l.inputs;
-  outputs = l.outputs;
-}
+deeper l = record l { depth = l.depth + 1 }
 
 -- one more field, one more member, one more input and one more output
 abbrev pub longer : Limits → Limits
-longer l = record {
-  depth = l.depth;
+longer l = record l {
   fields = l.fields + 1;
   members = l.members + 1;
   inputs = l.inputs + 1;

@@ -1,5 +1,5 @@
 // The number behind a keyword, read from tokens.
-ghost use Rattle.flume_grammar.specs.inner.Reads.{Reads, Passes};
+ghost use Rattle.flume_grammar.specs.inner.Reads.{Passes};
 ghost use Rattle.flume_grammar.specs.inner.Reading as spec;
 
 use flume_grammar::Stop;
@@ -14,15 +14,8 @@ pub fn numbered(tokens: &mut Cursor, word: Keyword) -> Result<Option<Str>, Stop>
 {
     if tokens.is_at_keyword(word) {
         keyword(tokens, word)?;
-        digits(tokens)
+        Ok(Some(number(tokens)?))
     } else {
         Ok(None)
     }
-}
-
-fn digits(tokens: &mut Cursor) -> Result<Option<Str>, Stop>
-    ensures { Reads spec.digits tokens.old tokens.new result }
-{
-    let digits = number(tokens)?;
-    Ok(Some(digits))
 }

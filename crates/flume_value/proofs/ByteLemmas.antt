@@ -1,13 +1,16 @@
 -- The bytes of a number, the highest first, tell which number it is.
-use Rattle.std.proofs.Common.{◌≡◌, ℕ, zero, suc, ◌+◌, ◌*◌, ◌/◌, ◌%◌, ◌^◌, ◌<◌, ℤ, pos, negsuc, true, List, [], ◌∷◌, ◌++◌, length, FitsSigned, to_z, of_z, refl, sym, ap, ◌∙◌, arith}
-use Rattle.std.specs.Int.{w64, w128, bytes_high_first, byte_at}
+use Rattle.std.proofs.Common.{◌≡◌, ℕ, zero, suc, ◌+◌, ◌*◌, ◌/◌, ◌%◌, ◌^◌, ◌<◌, ℤ, true, List, [], ◌∷◌, ◌++◌, length, FitsSigned, to_z, of_z, refl, sym, ap, ◌∙◌, subst, arith}
+use Rattle.std.specs.Int.{Width, w64, w128, bytes_high_first, byte_at}
 use Rattle.std.proofs.Math.Arith.{mod-mul}
 use Rattle.std.proofs.Math.Nat.{mod-eq_of_lt, div-one, mod-one}
 use Rattle.std.proofs.lemmas.Bool.{ltb-true}
 use Rattle.std.proofs.lemmas.Int.{to_z-of_z}
+use mir.Val.{bits}
+use mir.ValLaws.{of_z_fits}
 use native.Mathlib.Nat.{pow-succ'}
 use Rattle.flume_value.specs.Canonical.{length_bytes, int_bytes, wide_bytes}
 use Rattle.flume_value.specs.Ranges.{fits_int, fits_wide, fits_length}
+use Rattle.flume_value.proofs.RangeLemmas.{signed-fits_int, signed-fits_wide}
 
 pow_positive : (k : ℕ) → 0 < 256 ^ k
 pow_positive zero = omega arith
@@ -69,45 +72,28 @@ length_bytes-alike m n rest more p q e =
     let both = split_alike (bytes_high_first 8 m) (bytes_high_first 8 n) rest more refl e in
     (bytes_alike 8 m n (ltb-true m (2 ^ 64) p) (ltb-true n (2 ^ 64) q) both.0, both.1)
 
-below_64 : (n : ℤ) → fits_int n ≡ true → of_z w64 n < 256 ^ 8
-below_64 (pos n) p = let low = ltb-true n (2 ^ 63) p in omega (arith, low)
-below_64 (negsuc n) p = omega arith
+-- a signed number, in as many bytes as its width has
+module _ (w : Width) (k : ℕ) (whole : 2 ^ bits w ≡ 256 ^ k) where
+  low : (n : ℤ) → FitsSigned w n → of_z w n < 256 ^ k
+  low n f = subst (λ m. of_z w n < m) whole (of_z_fits w n f).fits
 
-signed_64 : (n : ℤ) → fits_int n ≡ true → FitsSigned w64 n
-signed_64 (pos n) p = record { sfits = ltb-true n (2 ^ 63) p }
-signed_64 (negsuc n) p = record { sfits = ltb-true n (2 ^ 63) p }
-
-below_128 : (n : ℤ) → fits_wide n ≡ true → of_z w128 n < 256 ^ 16
-below_128 (pos n) p = let low = ltb-true n (2 ^ 127) p in omega (arith, low)
-below_128 (negsuc n) p = omega arith
-
-signed_128 : (n : ℤ) → fits_wide n ≡ true → FitsSigned w128 n
-signed_128 (pos n) p = record { sfits = ltb-true n (2 ^ 127) p }
-signed_128 (negsuc n) p = record { sfits = ltb-true n (2 ^ 127) p }
+  signed_bytes-alike : (m n : ℤ) (rest more : List ℕ) → FitsSigned w m → FitsSigned w n
+      → bytes_high_first k (of_z w m) ++ rest ≡ bytes_high_first k (of_z w n) ++ more
+      → (m ≡ n) × (rest ≡ more)
+  signed_bytes-alike m n rest more f g e =
+      let both = split_alike (bytes_high_first k (of_z w m)) (bytes_high_first k (of_z w n))
+      rest more (length-bytes k (of_z w m) ∙ sym (length-bytes k (of_z w n))) e in
+      let same = bytes_alike k (of_z w m) (of_z w n) (low m f) (low n g) both.0 in
+      (sym (to_z-of_z w m f) ∙ ap (to_z w) same ∙ to_z-of_z w n g, both.1)
 
 pub int_bytes-alike : (m n : ℤ) (rest more : List ℕ) → fits_int m ≡ true → fits_int n ≡ true
     → int_bytes m ++ rest ≡ int_bytes n ++ more → (m ≡ n) × (rest ≡ more)
 unfolding int_bytes
 int_bytes-alike m n rest more p q e =
-    let both =
-    split_alike (bytes_high_first 8 (of_z w64 m))
-    (bytes_high_first 8 (of_z w64 n)) rest more refl e in
-    let same = bytes_alike 8 (of_z w64 m) (of_z w64 n) (below_64 m p) (below_64 n q) both.0 in (
-      sym (to_z-of_z w64 m (signed_64 m p)) ∙ ap (to_z w64) same
-          ∙ to_z-of_z w64 n (signed_64 n q),
-      both.1,
-    )
+    signed_bytes-alike w64 8 refl m n rest more (signed-fits_int m p) (signed-fits_int n q) e
 
 pub wide_bytes-alike : (m n : ℤ) (rest more : List ℕ) → fits_wide m ≡ true → fits_wide n ≡ true
     → wide_bytes m ++ rest ≡ wide_bytes n ++ more → (m ≡ n) × (rest ≡ more)
 unfolding wide_bytes
 wide_bytes-alike m n rest more p q e =
-    let both =
-    split_alike (bytes_high_first 16 (of_z w128 m))
-    (bytes_high_first 16 (of_z w128 n)) rest more refl e in
-    let same = bytes_alike 16 (of_z w128 m) (of_z w128 n) (below_128 m p) (below_128 n q)
-    both.0 in (
-      sym (to_z-of_z w128 m (signed_128 m p)) ∙ ap (to_z w128) same
-          ∙ to_z-of_z w128 n (signed_128 n q),
-      both.1,
-    )
+    signed_bytes-alike w128 16 refl m n rest more (signed-fits_wide m p) (signed-fits_wide n q) e

@@ -2,7 +2,7 @@
 use Rattle.std.proofs.Common.{◌≡◌, ◌<◌, ◌^◌, ℕ, ℤ, pos, negsuc, Bool, true, ◌&&◌, List, [], ◌∷◌, length, map, FitsSigned, refl, ap, ◌∙◌}
 use Rattle.std.specs.List.{list_all}
 use Rattle.std.specs.Int.{w64, w128}
-use Rattle.std.proofs.lemmas.Bool.{lt-ltb}
+use Rattle.std.proofs.lemmas.Bool.{lt-ltb, ltb-true}
 use Rattle.std.proofs.lemmas.List.{length-map}
 use Rattle.flume_value.specs.declared.value.Value.{Value, Value-F, out-Value, map-Value, fold_out-Value}
 use Rattle.flume_value.specs.declared.value.Value.TheVariants as variant
@@ -59,6 +59,14 @@ fits_int-signed (negsuc n) f = lt-ltb n (2 ^ 63) f.sfits
 pub fits_wide-signed : (n : ℤ) → FitsSigned w128 n → fits_wide n ≡ true
 fits_wide-signed (pos n) f = lt-ltb n (2 ^ 127) f.sfits
 fits_wide-signed (negsuc n) f = lt-ltb n (2 ^ 127) f.sfits
+
+pub signed-fits_int : (n : ℤ) → fits_int n ≡ true → FitsSigned w64 n
+signed-fits_int (pos n) p = record { sfits = ltb-true n (2 ^ 63) p }
+signed-fits_int (negsuc n) p = record { sfits = ltb-true n (2 ^ 63) p }
+
+pub signed-fits_wide : (n : ℤ) → fits_wide n ≡ true → FitsSigned w128 n
+signed-fits_wide (pos n) p = record { sfits = ltb-true n (2 ^ 127) p }
+signed-fits_wide (negsuc n) p = record { sfits = ltb-true n (2 ^ 127) p }
 
 pub fits_length-below : (n : ℕ) → n < 2 ^ 64 → fits_length n ≡ true
 fits_length-below n low = lt-ltb n (2 ^ 64) low

@@ -21,14 +21,14 @@ use Rattle.plan_laws.specs.declared.operations.Key.TheVariants.{Mapper, Whole}
 use Rattle.plan_laws.specs.declared.operations.Grouped.{Grouped}
 use Rattle.plan_laws.specs.Operations.{has_key, inputs_at}
 use Rattle.plan_laws.proofs.Carrying.{outs_has}
-use Rattle.plan_rules.specs.Fitting.{IsUsed, gbk_inputs, same_key, takes_key}
+use Rattle.plan_rules.specs.Fitting.{IsUsed, same_key, takes_key}
 use Rattle.plan_roles.specs.Levels.{level}
 use Rattle.plan_roles.specs.Mappers.{key_of, outputs_of, passes}
 use Rattle.form_laws.specs.Classes.{IsGbk, IsGbkAt, keys_of}
 use Rattle.form_laws.specs.Operations.{class_keys, first_uses, grouped, key_passes, passes_at}
 use Rattle.form_laws.proofs.Basics.{all_filtered, negated, all_kept as each_kept}
 use Rattle.form_laws.proofs.Counting.{all_true}
-use Rattle.form_laws.proofs.Standing.{inputs_from, key_has, keys_are, passes_there}
+use Rattle.form_laws.proofs.Standing.{at_passes, inputs_from, key_has, keys_are, passes_there}
 
 -- ---- lists without repeats
 abbrev Apart : {X : Type 0} → (X → X → Bool) → List X → Type 0
@@ -70,14 +70,6 @@ uses_distinct (k ∷ ks) = (
   distinct_kept same_key (λ j. not (same_key k j)) (first_uses ks) (uses_distinct ks),
 )
 
-inputs_same : (es : List Entry) (o : Option Node) → gbk_inputs es o ≡ inputs_from es o
-inputs_same es None = refl
-inputs_same es (Some (Source r)) = refl
-inputs_same es (Some (Flatten ins)) = refl
-inputs_same es (Some (Pdo c f)) = refl
-inputs_same es (Some (Gbk c o l k)) = refl
-inputs_same es (Some (Barrier ins o l a)) = refl
-
 all_any : (f : Place → Place → Bool) (cs : List Place) → ((c : Place) → f c c ≡ true)
     → Each (λ c. list_any (f c) cs ≡ true) cs
 all_any f [] h = tt
@@ -95,10 +87,7 @@ node_used b n =
     let ins : List Place = inputs_from es (node_at es n) in
     subst (Each (λ k. takes_key es k (grouped b n) ≡ true)) (sym (keys_are b n))
     (Each-map (λ k. takes_key es k (grouped b n) ≡ true) (key_of b l) ins
-    (Each-weaker (λ c. list_any (has_key (key_of b l c)) ins ≡ true)
-    (λ c. takes_key es (key_of b l c) (grouped b n) ≡ true)
-    (λ c h. ap (list_any (has_key (key_of b l c))) (inputs_same es (node_at es n)) ∙ h) ins
-    (all_any (λ c d. has_key (key_of b l c) d) ins (key_has b l))))
+    (all_any (λ c d. has_key (key_of b l c) d) ins (key_has b l)))
 
 pub class_used : (b : Blocked) (ns : List ℕ)
     → Each (IsUsed b.graph.nodes (map (grouped b) ns)) (flat_map (keys_of b) ns)
@@ -220,13 +209,10 @@ outputs_distinct b n d f ok h =
 
 passes_distinct : (b : Blocked) (n : ℕ) (o : Option Node) → IsSound b.graph
     → node_at b.graph.nodes n ≡ o → Apart same_place (passes_at b n o)
-passes_distinct b n None ok h = tt
-passes_distinct b n (Some (Source r)) ok h = tt
-passes_distinct b n (Some (Flatten ins)) ok h = tt
-passes_distinct b n (Some (Gbk c o l k)) ok h = tt
-passes_distinct b n (Some (Barrier ins o l a)) ok h = tt
-passes_distinct b n (Some (Pdo d f)) ok h =
-    distinct_kept same_place (passes b) (outputs_of n f) (outputs_distinct b n d f ok h)
+passes_distinct b n o ok h =
+    at_passes (Apart same_place) b n o tt
+    (λ d f i. distinct_kept same_place (passes b) (outputs_of n f)
+    (outputs_distinct b n d f ok (h ∙ i)))
 
 others_apart : (b : Blocked) (n : ℕ) (ks : List Key)
     → Each (λ j. same_key (Mapper n) j ≡ false) ks

@@ -22,6 +22,7 @@ use Rattle.plan_laws.specs.declared.operations.Key.{Key}
 use Rattle.plan_laws.specs.Operations.{IsFlat, IsHonest, runs, times, works_at}
 use Rattle.plan_rules.specs.Fitting.{AreFit, IsFit, IsUsed, flat_runs, same_key}
 use Rattle.plan_roles.specs.Mappers.{is_mapper, is_reducer, is_stage, maps_at, outputs_of, passes, reducer_of}
+use Rattle.plan_roles.specs.Roles.{passes_of}
 use Rattle.form_laws.specs.declared.ranked.Ranked.{Ranked}
 use Rattle.form_laws.specs.Classes.{IsGbk, IsGbkAt, keys_of, members}
 use Rattle.form_laws.specs.Formed.{AreFormed, in_order}
@@ -34,7 +35,7 @@ use Rattle.form_laws.proofs.Keying.{reducers}
 use Rattle.form_laws.proofs.Ordering.{runs_of}
 use Rattle.form_laws.proofs.Progress.{all_alone_so}
 use Rattle.form_laws.proofs.Settling.{among_all, formed_ordered}
-use Rattle.form_laws.proofs.Standing.{outs_there, passes_there, uses_ok}
+use Rattle.form_laws.proofs.Standing.{at_passes, outs_there, passes_there, uses_ok}
 use Rattle.form_laws.proofs.Apartness.{class_some, class_used, keys_distinct, outputs_distinct, to_distinct, uses_distinct}
 use Rattle.form_laws.proofs.Reducing.{all_reduced}
 
@@ -50,13 +51,10 @@ pdo_outs b n d f cs h a =
 
 no_objects : (b : Blocked) (n : ℕ) (o : Option Node) → node_at b.graph.nodes n ≡ o
     → Each (λ c. is_object_at b.graph.nodes c ≡ false) (passes_at b n o)
-no_objects b n None h = tt
-no_objects b n (Some (Source r)) h = tt
-no_objects b n (Some (Flatten ins)) h = tt
-no_objects b n (Some (Gbk c o l k)) h = tt
-no_objects b n (Some (Barrier ins o l a)) h = tt
-no_objects b n (Some (Pdo d f)) h =
-    pdo_outs b n d f (passes_at b n (Some (Pdo d f))) h (passes_there b n (Some (Pdo d f)) h)
+no_objects b n o h =
+    at_passes (Each (λ c. is_object_at b.graph.nodes c ≡ false)) b n o tt
+    (λ d f i. pdo_outs b n d f (passes_of b n f) (h ∙ i)
+    (passes_there b n (Some (Pdo d f)) (h ∙ i)))
 
 passes_no : (b : Blocked) (ks : List Key)
     → Each (λ c. is_object_at b.graph.nodes c ≡ false) (flat_map (key_passes b) ks)

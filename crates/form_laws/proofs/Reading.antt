@@ -28,25 +28,16 @@ use Rattle.form_laws.proofs.Basics.{any_found, none_found, negated}
 
 -- ---- kinds of nodes
 abbrev pub is_gbk : Node → Bool
-is_gbk (Source r) = false
-is_gbk (Flatten ins) = false
-is_gbk (Pdo c f) = false
 is_gbk (Gbk c o l k) = true
-is_gbk (Barrier ins o l a) = false
+is_gbk _ = false
 
 abbrev pub is_pdo : Node → Bool
-is_pdo (Source r) = false
-is_pdo (Flatten ins) = false
 is_pdo (Pdo c f) = true
-is_pdo (Gbk c o l k) = false
-is_pdo (Barrier ins o l a) = false
+is_pdo _ = false
 
 abbrev pub is_flatten : Node → Bool
-is_flatten (Source r) = false
 is_flatten (Flatten ins) = true
-is_flatten (Pdo c f) = false
-is_flatten (Gbk c o l k) = false
-is_flatten (Barrier ins o l a) = false
+is_flatten _ = false
 
 -- ---- stages
 -- a reader that is no Gbk works on it or is a Flatten

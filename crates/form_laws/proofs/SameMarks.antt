@@ -139,12 +139,8 @@ module _ (g : Graph) (m n : List Place) (same : (c : Place) → among c m ≡ am
   -- ---- operations
 
   passes_at_alike : (k : ℕ) (o : Option Node) → passes_at left k o ≡ passes_at right k o
-  passes_at_alike k None = refl
-  passes_at_alike k (Some (Source r)) = refl
-  passes_at_alike k (Some (Flatten ins)) = refl
   passes_at_alike k (Some (Pdo c f)) = refl
-  passes_at_alike k (Some (Gbk c o l h)) = refl
-  passes_at_alike k (Some (Barrier ins o l h)) = refl
+  passes_at_alike k _ = refl
 
   key_passes_at : (k : Key) → key_passes left k ≡ key_passes right k
   key_passes_at (Mapper k) = passes_at_alike k (node_at g.nodes k)

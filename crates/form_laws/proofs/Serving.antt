@@ -104,6 +104,31 @@ serve_flat b cs c ins h z s =
       ends = inr (refl, place_is c z);
     }
 
+-- what gives an object
+abbrev object_ranked : Blocked → ℕ → Ranked
+object_ranked b n =
+    record { rank = 2 * level b.graph.nodes n; number = n; does = Flat n }
+
+serve_object : (b : Blocked) (cs : List (List ℕ)) (c : Place) (ins : List Place) (o : ℕ) (l : Bool)
+    (a : Act) → node_at b.graph.nodes c.node ≡ Some (Barrier ins o l a) → c.out ≡ 0
+    → ends_at (Some (Barrier ins o l a)) ≡ false
+    → barrier_ranked b c.node a ≡ object_ranked b c.node → Served b cs c
+serve_object b cs c ins o l a h z e same =
+    let es : List Entry = b.graph.nodes in
+    let y : Ranked = object_ranked b c.node in
+    let end : is_end es (Flat c.node) ≡ false =
+    ap (λ (x : Option Node). ends_at x && not (goes_on es (place c.node 0))) h
+    ∙ ap (λ (x : Bool). x && not (goes_on es (place c.node 0))) e in
+    record {
+      by = y;
+      among = among_right y (map (class_ranked b) cs) (all_alone b es)
+          (alone_in b es c.node (Barrier ins o l a) y h (inl same));
+      gives = inl (place_is c z);
+      bound = inr (inl (omega arith));
+      flat = λ i x e. never (sym end ∙ i);
+      ends = inl end;
+    }
+
 serve_barrier : (b : Blocked) (cs : List (List ℕ)) (c : Place) (ins : List Place) (o : ℕ) (l : Bool)
     (a : Act) → node_at b.graph.nodes c.node ≡ Some (Barrier ins o l a) → c.out ≡ 0 → Served b cs c
 serve_barrier b cs c ins o l (SideInput f) h z =
@@ -117,34 +142,9 @@ serve_barrier b cs c ins o l (SideInput f) h z =
       flat = λ i. never i;
       ends = inl refl;
     }
-serve_barrier b cs c ins o l (Operate f) h z =
-    let es : List Entry = b.graph.nodes in
-    let y : Ranked = barrier_ranked b c.node (Operate f) in
-    let end : is_end es (Flat c.node) ≡ false =
-    ap (λ (x : Option Node). ends_at x && not (goes_on es (place c.node 0))) h in
-    record {
-      by = y;
-      among = among_right y (map (class_ranked b) cs) (all_alone b es)
-          (alone_in b es c.node (Barrier ins o l (Operate f)) y h (inl refl));
-      gives = inl (place_is c z);
-      bound = inr (inl (omega arith));
-      flat = λ i x e. never (sym end ∙ i);
-      ends = inl end;
-    }
+serve_barrier b cs c ins o l (Operate f) h z = serve_object b cs c ins o l (Operate f) h z refl refl
 serve_barrier b cs c ins o l (Singleton k) h z =
-    let es : List Entry = b.graph.nodes in
-    let y : Ranked = barrier_ranked b c.node (Singleton k) in
-    let end : is_end es (Flat c.node) ≡ false =
-    ap (λ (x : Option Node). ends_at x && not (goes_on es (place c.node 0))) h in
-    record {
-      by = y;
-      among = among_right y (map (class_ranked b) cs) (all_alone b es)
-          (alone_in b es c.node (Barrier ins o l (Singleton k)) y h (inl refl));
-      gives = inl (place_is c z);
-      bound = inr (inl (omega arith));
-      flat = λ i x e. never (sym end ∙ i);
-      ends = inl end;
-    }
+    serve_object b cs c ins o l (Singleton k) h z refl refl
 
 serve_class : (b : Blocked) (cs : List (List ℕ)) (n : ℕ) (k : ClassOf b cs n) (c : Place)
     → IsIn c (gives_of b.graph.nodes (class_operation b k.gbks))

@@ -22,7 +22,9 @@ use Rattle.plan_laws.specs.Operations.{HasKey, IsFlat, IsGroupedOk, IsHonest, Is
 use Rattle.plan_laws.proofs.Carrying.{outs_has}
 use Rattle.plan_roles.specs.Levels.{level}
 use Rattle.plan_roles.specs.Mappers.{is_mapper, key_of, outputs_of, passes}
+use Rattle.plan_roles.specs.Roles.{passes_of}
 use Rattle.plan_rules.specs.Fitting.{same_key}
+pub use Rattle.plan_rules.specs.Fitting.{gbk_inputs as inputs_from}
 use Rattle.form_laws.specs.Classes.{IsGbk, IsGbkAt, keys_at, keys_of}
 use Rattle.form_laws.specs.Operations.{class_keys, class_operation, first_uses, grouped, key_passes, barrier_does, passes_at, trivial}
 use Rattle.form_laws.proofs.Basics.{all_kept}
@@ -41,23 +43,10 @@ all_flat f P h (x ∷ xs) = Each-append P (f x) (flat_map f xs) (h x) (all_flat 
 
 -- ---- keys
 
--- what the Gbk takes
-abbrev pub inputs_from : List Entry → Option Node → List Place
-inputs_from es None = []
-inputs_from es (Some (Source r)) = []
-inputs_from es (Some (Flatten ins)) = []
-inputs_from es (Some (Pdo c f)) = []
-inputs_from es (Some (Gbk c o l k)) = read_through es c
-inputs_from es (Some (Barrier ins o l a)) = []
-
 keys_map : (b : Blocked) (n : ℕ) (o : Option Node) → keys_at b n o
     ≡ map (key_of b (level b.graph.nodes n)) (inputs_from b.graph.nodes o)
-keys_map b n None = refl
-keys_map b n (Some (Source r)) = refl
-keys_map b n (Some (Flatten ins)) = refl
-keys_map b n (Some (Pdo c f)) = refl
 keys_map b n (Some (Gbk c o l k)) = refl
-keys_map b n (Some (Barrier ins o l a)) = refl
+keys_map b n _ = refl
 
 -- the keys of the node n, one for each input
 pub keys_are : (b : Blocked) (n : ℕ) → keys_of b n
@@ -202,16 +191,18 @@ pub outs_there : (es : List Entry) (n : ℕ) (d : Place) (f : Forest)
     → node_at es n ≡ Some (Pdo d f) → Each (λ c. (c.node ≡ n) × IsThere es c) (outputs_of n f)
 outs_there es n d f h = outs_at_there es n d f (outs_of f) h (outs_has f)
 
+-- what passes through of a Pdo, or nothing
+pub at_passes : (P : List Place → Type 0) (b : Blocked) (n : ℕ) (o : Option Node) → P []
+    → ((c : Place) (f : Forest) → o ≡ Some (Pdo c f) → P (passes_of b n f)) → P (passes_at b n o)
+at_passes P b n (Some (Pdo c f)) e p = p c f refl
+at_passes P b n _ e p = e
+
 pub passes_there : (b : Blocked) (n : ℕ) (o : Option Node) → node_at b.graph.nodes n ≡ o
     → Each (λ c. (c.node ≡ n) × IsThere b.graph.nodes c) (passes_at b n o)
-passes_there b n None h = tt
-passes_there b n (Some (Source r)) h = tt
-passes_there b n (Some (Flatten ins)) h = tt
-passes_there b n (Some (Gbk d o l k)) h = tt
-passes_there b n (Some (Barrier ins o l a)) h = tt
-passes_there b n (Some (Pdo d f)) h =
-    all_kept (λ c. (c.node ≡ n) × IsThere b.graph.nodes c) (passes b) (outputs_of n f)
-    (outs_there b.graph.nodes n d f h)
+passes_there b n o h =
+    at_passes (Each (λ c. (c.node ≡ n) × IsThere b.graph.nodes c)) b n o tt
+    (λ d f i. all_kept (λ c. (c.node ≡ n) × IsThere b.graph.nodes c) (passes b) (outputs_of n f)
+    (outs_there b.graph.nodes n d f (h ∙ i)))
 
 passes_ok : (b : Blocked) (all ks : List Key) → ((c : Place) → HasKey ks c → HasKey all c)
     → Each (IsTaken b.graph.nodes all) (flat_map (key_passes b) ks)

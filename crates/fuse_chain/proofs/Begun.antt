@@ -11,14 +11,13 @@ use Rattle.exec_graph.specs.declared.graph.Place.{Place}
 use Rattle.exec_graph.specs.declared.graph.Node.{Node}
 use Rattle.exec_graph.specs.declared.graph.Node.TheVariants.{Source, Flatten, Pdo, Gbk, Barrier}
 use Rattle.exec_graph.specs.declared.graph.Entry.{Entry}
-use Rattle.exec_graph.specs.declared.graph.Graph.{Graph}
 use Rattle.exec_graph.specs.declared.graph.Blocked.{Blocked}
 use Rattle.exec_graph.proofs.Entries.{all_found, all_map, entry}
 use Rattle.graph_laws.specs.Joining.{reread}
 use Rattle.graph_laws.proofs.ReadPlaces.{nodes_read, outputs_read}
 use Rattle.pardo_fuse.specs.Fusing.{finished, holds_out, is_first}
 use Rattle.pardo_fuse.specs.SingleFusing.{new_place, planted, step_at}
-use Rattle.pardo_fuse.specs.Parting.{part_number, part_place, parted, parted_nodes, parts, parts_of}
+use Rattle.pardo_fuse.specs.Parting.{part_number, parted, parted_nodes, parts, parts_of}
 use Rattle.pardo_fuse.specs.Wellformed.{IsFusible}
 use Rattle.pardo_fuse.proofs.Counting.{times}
 use Rattle.pardo_fuse.proofs.Naming.{outs_differ}
@@ -32,27 +31,14 @@ use Rattle.fuse_chain.proofs.SideBySide.{bare, reads_output, rooted}
 use Rattle.fuse_chain.proofs.Plans.{drawn, drawn_node, drawn_pdo}
 use Rattle.fuse_chain.proofs.States.{IsFine, IsState, graph_of, named_graph}
 use Rattle.fuse_chain.proofs.Stepping.{graph_alike}
-use Rattle.fuse_chain.proofs.Whole.{can, fine_part, first_site, found, holds_mod, ok_at, own, place_part, sites_at, stands, whole, whole_node, wholes}
+use Rattle.fuse_chain.proofs.Whole.{can, fine_part, first_site, found, holds_mod, ok_at, own, place_part, sites_at, stands, whole, whole_node, wholes, scene}
 use Rattle.fuse_chain.proofs.Rows.{row_numbered, rooted_numbers, sites_once}
 
 module _ (b : Blocked) (fu : IsFusible b) where
-  abbrev g : Graph
-  g = b.graph
-
-  abbrev k : ℕ
-  k = b.graph.next
-
-  abbrev es : List Entry
-  es = b.graph.nodes
-
-  abbrev r : Place → Place
-  r = part_place b.graph
+  open (scene b) use {g, k, es, r, outs}
 
   abbrev hs : List Entry
   hs = wholes b
-
-  abbrev outs : List Place
-  outs = map (part_place b.graph) b.graph.outputs
 
   -- ---- what is drawn
   own_first : (n : ℕ) (c : Place) (f : Forest) → node_at es n ≡ Some (Pdo c f) → (d : Place)
@@ -87,8 +73,6 @@ module _ (b : Blocked) (fu : IsFusible b) where
 
   node_drawn : (n : ℕ) (x : Node) → node_at es n ≡ Some x
       → drawn (own b) (parts_of k n (reread r x)) ≡ entry n (whole_node b n x) ∷ []
-  node_drawn n (Source s) at = refl
-  node_drawn n (Flatten ins) at = refl
   node_drawn n (Pdo c f) at =
       let s = step_at_node g (can b fu) n c f at in
       by f (row_of f s) (filled f s)
@@ -104,8 +88,7 @@ module _ (b : Blocked) (fu : IsFusible b) where
           (own_first n c f at (r c))
           ∙ ap (λ (xs : List Entry). entry n (Pdo (r c) (rooted (parted b) (sites g n))) ∷ xs)
           (later_drawn n 0 c f at (r c) rest w.2)
-  node_drawn n (Gbk c o l m) at = refl
-  node_drawn n (Barrier ins o l a) at = refl
+  node_drawn n _ at = refl
 
   all_drawn : (ds : List Entry) → Each (λ (e : Entry). node_at es e.number ≡ Some e.node) ds
       → drawn (own b) (all_parts k r ds) ≡ map (whole b) ds
@@ -131,8 +114,6 @@ module _ (b : Blocked) (fu : IsFusible b) where
   )
 
   outs_whole : (n : ℕ) (x : Node) → node_at es n ≡ Some x → HasOuts (whole_node b n x)
-  outs_whole n (Source s) at = tt
-  outs_whole n (Flatten ins) at = tt
   outs_whole n (Pdo c f) at =
       let s = step_at_node g (can b fu) n c f at in
       outs_differ (reads_output (parted b))
@@ -143,8 +124,7 @@ module _ (b : Blocked) (fu : IsFusible b) where
       let o = sites_once k n 0 q f (low g (can b fu) n (Pdo c f) at) (row_of f s) in
       let p = ap (times q) (rooted_numbers (parted b) (sites g n)) in
       omega arith)
-  outs_whole n (Gbk c o l m) at = tt
-  outs_whole n (Barrier ins o l a) at = tt
+  outs_whole n _ at = tt
 
   abbrev IsRead : Place → Type 0
   IsRead c = is_read g c ≡ true

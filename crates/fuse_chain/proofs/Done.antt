@@ -12,7 +12,7 @@ use Rattle.exec_graph.specs.Readers.{calls_on, is_read, readers, same_place, tho
 use Rattle.exec_graph.specs.Wellformed.{Ascends}
 use Rattle.exec_graph.specs.declared.graph.Place.{Place}
 use Rattle.exec_graph.specs.declared.graph.Node.{Node}
-use Rattle.exec_graph.specs.declared.graph.Node.TheVariants.{Source, Flatten, Pdo, Gbk, Barrier}
+use Rattle.exec_graph.specs.declared.graph.Node.TheVariants.{Pdo}
 use Rattle.exec_graph.specs.declared.graph.Entry.{Entry}
 use Rattle.exec_graph.specs.declared.graph.Graph.{Graph}
 use Rattle.exec_graph.specs.declared.graph.Blocked.{Blocked}
@@ -20,19 +20,20 @@ use Rattle.exec_graph.proofs.Entries.{all_found}
 use Rattle.graph_laws.specs.Joining.{reread}
 use Rattle.graph_laws.specs.Single.{HasSteps, IsOneStep}
 use Rattle.pardo_fuse.specs.Fusing.{is_first}
-use Rattle.pardo_fuse.specs.Parting.{part_number, part_place, parted, parted_nodes, parts, parts_of}
+use Rattle.pardo_fuse.specs.Parting.{part_place, parted, parted_nodes, parts, parts_of}
 use Rattle.pardo_fuse.specs.Wellformed.{IsFusible}
 use Rattle.pardo_fuse.proofs.Parting.{all_parts, number_mod, parts_mod, small_mod}
 use Rattle.pardo_fuse.proofs.Places.{same_is, same_self}
-use Rattle.pardo_fuse.proofs.Sites.{outputs_of, sites}
+use Rattle.pardo_fuse.proofs.Sites.{parts_readers, sites}
 use Rattle.pardo_fuse.proofs.Unparting.{each_part, low}
 use Rattle.fuse_chain.specs.Rewrites.{InOrder, LeadsTo, Rewrite, is_sibling, other_of}
 use Rattle.fuse_chain.proofs.SideBySide.{rooted}
 use Rattle.fuse_chain.proofs.Partly.{in_last, in_other, not_in}
 use Rattle.fuse_chain.proofs.Plans.{Plan, drawn}
-use Rattle.fuse_chain.proofs.Splits.{below_last, end, found_of, is_in, those_two}
+use Rattle.fuse_chain.proofs.Splits.{below_last, end, found_of, is_in}
 use Rattle.fuse_chain.proofs.States.{IsState, graph_of, named_graph}
-use Rattle.fuse_chain.proofs.Whole.{can, first_site, own, sites_at}
+use Rattle.fuse_chain.proofs.Whole.{can, first_site, own, sites_at, scene}
+use Rattle.pardo_fuse.proofs.Lifting.{those-append}
 
 -- The outputs that read c, of the first nodes.
 abbrev pub calls : Blocked → List Entry → Place → List ℕ
@@ -72,19 +73,6 @@ pub parts_two : (k : ℕ) (r : Place → Place) (xs ys : List Entry)
     → all_parts k r (xs ++ ys) ≡ all_parts k r xs ++ all_parts k r ys
 parts_two k r xs ys = flat_map-append (λ e. parts_of k e.number (reread r e.node)) xs ys
 
-row_calls : (c d : Place) (k n : ℕ) (f : Forest) (t : Bool) → same_place c d ≡ t
-    → those (calls_on c) (parts k n d f) ≡ cond t (outputs_of k n f) []
-row_calls c d k n Bare true e = refl
-row_calls c d k n Bare false e = refl
-row_calls c d k n (Grow l kids rest) true e =
-    ap (λ (t : Bool). cond t (part_number k n l.at ∷ those (calls_on c) (parts k n d rest))
-    (those (calls_on c) (parts k n d rest))) e
-    ∙ ap (λ (xs : List ℕ). part_number k n l.at ∷ xs) (row_calls c d k n rest true e)
-row_calls c d k n (Grow l kids rest) false e =
-    ap (λ (t : Bool). cond t (part_number k n l.at ∷ those (calls_on c) (parts k n d rest))
-    (those (calls_on c) (parts k n d rest))) e
-    ∙ row_calls c d k n rest false e
-
 -- Each output that reads is of one of the nodes.
 those_mod : (P : ℕ → Type 0) (k : ℕ) (t : Node → Bool) (n : ℕ) → P n → (hs : List Entry)
     → Each (λ (h : Entry). h.number % k ≡ n) hs → Each (λ m. P (m % k)) (those t hs)
@@ -102,7 +90,7 @@ pub calls_mod : (P : ℕ → Type 0) (k : ℕ) (r : Place → Place) (c : Place)
 calls_mod P k r c [] a p = tt
 calls_mod P k r c (e ∷ ds) a p =
     subst (Each (λ m. P (m % k)))
-    (sym (those_two (calls_on c) (parts_of k e.number (reread r e.node))
+    (sym (those-append (calls_on c) (parts_of k e.number (reread r e.node))
     (all_parts k r ds)))
     (Each-append (λ m. P (m % k)) (those (calls_on c) (parts_of k e.number (reread r e.node)))
     (readers (all_parts k r ds) c)
@@ -124,20 +112,7 @@ in_each (e ∷ ds) = (
     later false y h = h
 
 module _ (b : Blocked) (fu : IsFusible b) where
-  abbrev g : Graph
-  g = b.graph
-
-  abbrev k : ℕ
-  k = b.graph.next
-
-  abbrev es : List Entry
-  es = b.graph.nodes
-
-  abbrev r : Place → Place
-  r = part_place b.graph
-
-  abbrev ps : List Entry
-  ps = parted_nodes b.graph
+  open (scene b) use {g, k, es, r, ps}
 
   pub below_done : (done rest : List Entry) → es ≡ done ++ rest
       → Each (λ (e : Entry). e.number < k) done
@@ -170,11 +145,8 @@ module _ (b : Blocked) (fu : IsFusible b) where
   )
 
   node_from : (n : ℕ) (x : Node) → node_at es n ≡ Some x → Each From (parts_of k n (reread r x))
-  node_from n (Source s) at = (λ c f e. let bad : ⊥ = cc in absurd bad, tt)
-  node_from n (Flatten ins) at = (λ c f e. let bad : ⊥ = cc in absurd bad, tt)
   node_from n (Pdo d t) at = row_from n d t at t
-  node_from n (Gbk d o l m) at = (λ c f e. let bad : ⊥ = cc in absurd bad, tt)
-  node_from n (Barrier ins o l a) at = (λ c f e. let bad : ⊥ = cc in absurd bad, tt)
+  node_from n _ at = (λ c f e. let bad : ⊥ = cc in absurd bad, tt)
 
   pub from : (q : ℕ) (c : Place) (f : Forest) → node_at ps q ≡ Some (Pdo c f)
       → (d : Place) × (t : Forest) × (node_at es (q % k) ≡ Some (Pdo d t)) × (c ≡ r d)
@@ -187,7 +159,7 @@ module _ (b : Blocked) (fu : IsFusible b) where
       ≡ calls b done c ++ those (calls_on c) (parts_of k e.number (reread r e.node))
   calls_end done e c =
       ap (λ (l : List Entry). readers l c) (parts_two k r done (e ∷ []))
-      ∙ those_two (calls_on c) (all_parts k r done) (all_parts k r (e ∷ []))
+      ∙ those-append (calls_on c) (all_parts k r done) (all_parts k r (e ∷ []))
       ∙ ap (λ (l : List Entry). calls b done c ++ readers l c)
       (append-nil (parts_of k e.number (reread r e.node)))
 
@@ -198,7 +170,7 @@ module _ (b : Blocked) (fu : IsFusible b) where
       calls_end done e c
       ∙ ap (λ (x : Node). calls b done c
       ++ those (calls_on c) (parts_of k e.number (reread r x))) is
-      ∙ ap (λ (l : List ℕ). calls b done c ++ l) (row_calls c (r d) k e.number f t h)
+      ∙ ap (λ (l : List ℕ). calls b done c ++ l) (parts_readers c k e.number (r d) f t h)
       ∙ ap (λ (l : List ℕ). calls b done c ++ cond t l []) (sym (sites_at b fu e.number d f at))
 
   -- Where nothing changes for c, and the output is of another node.

@@ -32,8 +32,9 @@ use Rattle.fuse_chain.specs.Rewrites.{ByKids, InOrder, IsKid, Kid, LeadsTo, Rewr
 use Rattle.fuse_chain.proofs.CutStates.{any_two}
 use Rattle.fuse_chain.proofs.KidSteps.{keeper_is, kid_of_cut}
 use Rattle.fuse_chain.proofs.LeastSteps.{IsNumbering, next_numbering}
-use Rattle.fuse_chain.proofs.Splits.{append_end, end, found_of, those_none, those_two}
+use Rattle.fuse_chain.proofs.Splits.{append_end, end, found_of, those_none}
 use Rattle.fuse_chain.proofs.States.{graph_of}
+use Rattle.pardo_fuse.proofs.Lifting.{those-append}
 
 -- The outputs of which some of these Pdos, or none at all, are readers.
 abbrev pub later : Blocked → List Entry → Cut
@@ -134,7 +135,7 @@ module _ (b : Blocked) (chain : CanChain b) where
       → any_node (calls_on d) done ≡ false → is_first e.number (readers es d) ≡ true
   first_of done rest e d f split is none =
       ap (λ l. is_first e.number (readers l d)) split
-      ∙ ap (is_first e.number) (those_two (calls_on d) done (e ∷ rest))
+      ∙ ap (is_first e.number) (those-append (calls_on d) done (e ∷ rest))
       ∙ ap (λ l. is_first e.number (l ++ those (calls_on d) (e ∷ rest)))
       (those_none (calls_on d) done none)
       ∙ ap (λ (x : Node). is_first e.number (cond (calls_on d x) (e.number ∷ readers rest d)

@@ -2,10 +2,10 @@
 use Rattle.std.proofs.Common.{◌≡◌, ℕ, ◌≤◌, Bool, true, false, cond, eqb, ◌||◌, ◌&&◌, List, [], ◌∷◌, Option, Some, None, refl, sym, ap, ◌∙◌, subst, arith, zero, suc}
 use Rattle.std.proofs.lemmas.Bool.{eqb-true, eq-eqb, false≢true, ne_eqb}
 use Rattle.std.specs.List.{AllByRecursion as Each}
-use Rattle.exec_graph.specs.Forests.{Label, Forest, Bare, Grow, numbered, with_out}
+use Rattle.exec_graph.specs.Forests.{Forest, Bare, Grow, numbered, with_out}
 use Rattle.exec_graph.specs.declared.graph.Place.{Place}
 use Rattle.exec_graph.specs.declared.graph.Node.{Node}
-use Rattle.exec_graph.specs.declared.graph.Node.TheVariants.{Source, Flatten, Pdo, Gbk, Barrier}
+use Rattle.exec_graph.specs.declared.graph.Node.TheVariants.{Pdo}
 use Rattle.exec_graph.specs.declared.graph.Entry.{Entry}
 use Rattle.exec_graph.specs.Meaning.{place, node_at, AllDiffer, has_out, is_out}
 use Rattle.exec_graph.specs.Readers.{among, any_node, calls_on, collects, is_read, readers, same_place}
@@ -32,7 +32,7 @@ use Rattle.pardo_fuse.proofs.Reading.{IsReader, all_readers}
 use Rattle.fuse_chain.specs.Cuts.{IsNextKid, with_inner}
 use Rattle.fuse_chain.specs.Rewrites.{BecomesKid, IsKid}
 use Rattle.fuse_chain.proofs.CutStates.{cut_sound, cut_state, joined_drawn, leader_found, leads_if, owner_in, owner_led, plan_of, read_kept}
-use Rattle.fuse_chain.proofs.Names.{EachOut, grow_alike, of_kids, of_label, of_rest}
+use Rattle.fuse_chain.proofs.Names.{EachOut, grafted_through, grow_alike, of_kids, of_label, of_rest}
 use Rattle.fuse_chain.proofs.Plans.{IsNext, drawn_next}
 use Rattle.fuse_chain.proofs.Rewriting.{kid_differ, kid_step}
 use Rattle.fuse_chain.proofs.States.{IsState, fused_in, graph_of, named_graph}
@@ -96,27 +96,11 @@ grafted_kept : (keep : ℕ → Bool) (n : ℕ) (g f : Forest) → keep n ≡ tru
     → grafted n (kept_by keep g) (kept_by keep f) ≡ kept_by keep (grafted n g f)
 grafted_kept keep n g Bare k = refl
 grafted_kept keep n g (Grow l kids rest) k =
-    by (is_out l.out n) (is_out (out_kept keep l.out) n) (is_out_kept keep n l.out k)
+    grafted_through (kept_by keep) l (with_out (out_kept keep l.out) l) g kids rest
+    (grafted n g kids) (grafted n g rest) (grafted n (kept_by keep g) (kept_by keep kids))
+    (grafted n (kept_by keep g) (kept_by keep rest)) (λ y z. refl) (beside_kept keep kids g)
+    (is_out l.out n) (is_out (out_kept keep l.out) n) (is_out_kept keep n l.out k)
     (grafted_kept keep n g kids k) (grafted_kept keep n g rest k)
-  where
-    m : Label
-    m = with_out (out_kept keep l.out) l
-
-    by : (a b : Bool) → b ≡ a
-        → grafted n (kept_by keep g) (kept_by keep kids) ≡ kept_by keep (grafted n g kids)
-        → grafted n (kept_by keep g) (kept_by keep rest) ≡ kept_by keep (grafted n g rest)
-        → cond b (Grow m (beside (kept_by keep kids) (kept_by keep g)) (kept_by keep rest))
-        (Grow m (grafted n (kept_by keep g) (kept_by keep kids))
-        (grafted n (kept_by keep g) (kept_by keep rest)))
-        ≡ kept_by keep (cond a (Grow l (beside kids g) rest)
-        (Grow l (grafted n g kids) (grafted n g rest)))
-    by true true e i j =
-        ap (λ (y : Forest). Grow m y (kept_by keep rest)) (beside_kept keep kids g)
-    by true false e i j = absurd (false≢true e)
-    by false true e i j = absurd (false≢true (sym e))
-    by false false e i j =
-        ap (λ (y : Forest). Grow m y (grafted n (kept_by keep g) (kept_by keep rest))) i
-        ∙ ap (λ (y : Forest). Grow m (kept_by keep (grafted n g kids)) y) j
 
 -- ---- the node with an output
 pub record IsHolder (b : Cut) (n : ℕ) : Type 0 where
@@ -138,8 +122,6 @@ holder b n can h =
   where
     by : (p : ℕ) (x : Node) → node_at (joined_nodes b) p ≡ Some x → holds_out n x ≡ true
         → IsHolder b n
-    by p (Source r) at h = absurd (false≢true h)
-    by p (Flatten ins) at h = absurd (false≢true h)
     by p (Pdo c f) at h =
         let k = led b can p (now b c) (numbered 0 f) (at_finished (now b) (joined_nodes b) p
         ∙ ap (done_node (now b)) at) in
@@ -154,8 +136,7 @@ holder b n can h =
           leads = k.leader.leads;
           has = ap (has_out n) (sym forest) ∙ h;
         }
-    by p (Gbk c o l k) at h = absurd (false≢true h)
-    by p (Barrier ins o l a) at h = absurd (false≢true h)
+    by p _ at h = absurd (false≢true h)
 
 first_only : (n q : ℕ) (xs : List ℕ) → is_first n xs ≡ true → is_first q xs ≡ true → n ≡ q
 first_only n q [] h i = absurd (false≢true h)

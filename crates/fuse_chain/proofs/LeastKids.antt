@@ -1,12 +1,11 @@
 -- To take the lesser number at each kid is to take the least number of each class.
-use Rattle.std.proofs.Common.{◌≡◌, ℕ, ◌<◌, ◌≤◌, ◌⊎◌, inl, inr, Bool, true, false, cond, eqb, ltb, ◌&&◌, ◌||◌, List, [], ◌∷◌, ◌++◌, map, Some, refl, sym, ap, ◌∙◌, subst, arith}
-use Rattle.std.specs.List.{AllByRecursion as Each, flat_map}
+use Rattle.std.proofs.Common.{◌≡◌, ℕ, ◌<◌, ◌≤◌, Bool, true, false, cond, ltb, ◌&&◌, List, [], ◌∷◌, ◌++◌, Some, refl, sym, ap, ◌∙◌, subst, arith}
+use Rattle.std.specs.List.{AllByRecursion as Each}
 use Rattle.std.proofs.Math.Bool.{and-false}
 use Rattle.std.proofs.lemmas.Bool.{eqb-true, false≢true, ltb-false, ltb-true}
-use Rattle.flume_value.proofs.EachLemmas.{Each-append}
 use Rattle.exec_graph.specs.Forests.{Label, Forest, Bare, Grow}
 use Rattle.exec_graph.specs.Meaning.{IsThere, node_at, place, reads}
-use Rattle.exec_graph.specs.Readers.{any_node, calls_on, readers}
+use Rattle.exec_graph.specs.Readers.{calls_on, readers}
 use Rattle.exec_graph.specs.declared.graph.Place.{Place}
 use Rattle.exec_graph.specs.declared.graph.Node.{Node}
 use Rattle.exec_graph.specs.declared.graph.Node.TheVariants.{Source, Flatten, Pdo, Gbk, Barrier}
@@ -19,12 +18,12 @@ use Rattle.exec_graph.proofs.Soundness.{differ_ascends}
 use Rattle.graph_laws.proofs.Numbering.{label_old}
 use Rattle.pardo_fuse.specs.Readers.{Cut, cut_of, is_pdo, is_unmarked}
 use Rattle.pardo_fuse.specs.Fusing.{finished, forest_over, fused_by_parents, is_first, joined_by, kept_nodes, kept_of, leads, least, least_at, least_of, members_over, moved_to}
-use Rattle.pardo_fuse.specs.Parting.{part_place, parted, parted_nodes}
-use Rattle.pardo_fuse.specs.SingleFusing.{CanFuse, Grown, fused_by, kids_of}
+use Rattle.pardo_fuse.specs.Parting.{part_place, parted}
+use Rattle.pardo_fuse.specs.SingleFusing.{Grown, fused_by, kids_of}
 use Rattle.pardo_fuse.specs.Wellformed.{IsFusible}
 use Rattle.pardo_fuse.proofs.Hanging.{can_mark}
 use Rattle.pardo_fuse.proofs.Levels.{all_grown}
-use Rattle.pardo_fuse.proofs.Once.{AllGrown, Found, all_of}
+use Rattle.pardo_fuse.proofs.Once.{AllGrown, all_of}
 use Rattle.pardo_fuse.proofs.PartedNodes.{can_part}
 use Rattle.pardo_fuse.proofs.Partition.{numbers}
 use Rattle.pardo_fuse.proofs.Passing.{any_listed}
@@ -34,12 +33,12 @@ use Rattle.pardo_fuse.proofs.SiteKids.{leads_part}
 use Rattle.pardo_fuse.proofs.Unparting.{CanPart, other_found}
 use Rattle.fuse_chain.specs.Cuts.{siblings_of}
 use Rattle.fuse_chain.specs.Numbers.{KidsToLeast, after_kids}
-use Rattle.fuse_chain.specs.Rewrites.{ByKids, LeadsTo, Rewrite}
+use Rattle.fuse_chain.specs.Rewrites.{ByKids, LeadsTo}
 use Rattle.fuse_chain.proofs.KidChains.{can_later, cut_graph, kids_inner, kids_last, kids_numbered, later}
 use Rattle.fuse_chain.proofs.LeastParts.{class_counts}
 use Rattle.fuse_chain.proofs.LeastSteps.{IsNumbering}
-use Rattle.fuse_chain.proofs.Minima.{least_stays}
 use Rattle.fuse_chain.proofs.Premises.{AscendsLow, CanChain, can_chain}
+use Rattle.pardo_fuse.proofs.Members.{all_kept, least_same}
 
 both : (t : Bool) (ns : List ℕ) → cond t ns ns ≡ ns
 both true ns = refl
@@ -120,7 +119,7 @@ module _ (b : Blocked) (chain : CanChain b) where
         let g : AllGrown begun = all_grown begun (can_later b [] chain.can) in
         let first : is_first m (readers es e) ≡ true = leads_first begun m e lead in
         sym (ap (least m) (flat (readers es e) (all_of begun e) (g e))
-        ∙ least_stays m (readers es e)
+        ∙ least_same m (readers es e)
         (first_low m e es chain.low (chain.first m e first) first));
     others = λ m h. refl;
     apart = λ m i e. e;
@@ -152,15 +151,6 @@ stood_left b n (Gbk d o l k) at = ((Gbk d o l k, at, λ c f e. let no : ⊥ = cc
 stood_left b n (Barrier ins o l a) at =
     ((Barrier ins o l a, at, λ c f e. let no : ⊥ = cc in absurd no), tt)
 
-all_stood : (b : Cut) (es : List Entry) → Found b es
-    → Each (λ (h : Entry). Stood b h.number)
-    (flat_map (λ (e : Entry). kept_of b e.number e.node) es)
-all_stood b [] a = tt
-all_stood b (e ∷ es) a =
-    Each-append (λ (h : Entry). Stood b h.number) (kept_of b e.number e.node)
-    (flat_map (λ (d : Entry). kept_of b d.number d.node) es) (stood_left b e.number e.node a.0)
-    (all_stood b es a.1)
-
 pub stood_by_parents : (a : Blocked) → IsFusible a
     → Each (λ (h : Entry). Stood (cut_of a) h.number) (fused_by_parents a).graph.nodes
 unfolding joined_by
@@ -168,7 +158,7 @@ stood_by_parents a fu =
     let b : Cut = cut_of a in
     let P : Entry → Type 0 = λ h. Stood b h.number in
     all_map (finished (moved_to (kept_nodes b))) P P (λ h p. p) (kept_nodes b)
-    (all_stood b b.graph.nodes
+    (all_kept b (Stood b) (stood_left b) b.graph.nodes
     (each_found b.graph.nodes (differ_ascends b.graph.nodes fu.ok.ok.founded.ascends)))
 
 -- ---- the numbers at the end
@@ -183,12 +173,6 @@ module _ (a : Blocked) (fu : IsFusible a) (l : ℕ → ℕ)
   at_last : (n : ℕ) (z : Node) → node_at g.nodes n ≡ Some z
       → ((c : Place) (f : Forest) → z ≡ Pdo c f → leads (cut_of a) n c ≡ true)
       → l n ≡ least_of (cut_of a) n
-  at_last n (Source r) at lead =
-      num.others n (ap is_pdo (other_found g can n (Source r) at refl))
-      ∙ sym (ap (least_at (cut_of a) n) at)
-  at_last n (Flatten ins) at lead =
-      num.others n (ap is_pdo (other_found g can n (Flatten ins) at refl))
-      ∙ sym (ap (least_at (cut_of a) n) at)
   at_last n (Pdo c f) at lead =
       let t : IsThere g.nodes c =
       (all_found (λ e. Each (IsThere g.nodes) (reads e.node)) g.nodes n (Pdo c f) at
@@ -199,11 +183,8 @@ module _ (a : Blocked) (fu : IsFusible a) (l : ℕ → ℕ)
       ∙ sym (class_counts a fu c t n)
       ∙ sym (ap (least_at (cut_of a) n) at
       ∙ ap (λ (s : Bool). cond s (least n (members_over (cut_of a) c)) n) leads_here)
-  at_last n (Gbk c o k h) at lead =
-      num.others n (ap is_pdo (other_found g can n (Gbk c o k h) at refl))
-      ∙ sym (ap (least_at (cut_of a) n) at)
-  at_last n (Barrier ins o k h) at lead =
-      num.others n (ap is_pdo (other_found g can n (Barrier ins o k h) at refl))
+  at_last n x at lead =
+      num.others n (ap is_pdo (other_found g can n x at refl))
       ∙ sym (ap (least_at (cut_of a) n) at)
 
 last_numbers : (a : Blocked) → IsFusible a → (l : ℕ → ℕ) → IsNumbering (cut_of (parted a)) l

@@ -1,31 +1,29 @@
 -- The least number of a class is that of the parts of its Pdos.
-use Rattle.std.proofs.Common.{◌≡◌, ℕ, ◌+◌, ◌*◌, ◌<◌, ◌≤◌, Bool, true, false, cond, ltb, List, [], ◌∷◌, ◌++◌, length, Option, Some, None, refl, sym, ap, ◌∙◌, subst, arith, zero, suc}
+use Rattle.std.proofs.Common.{◌≡◌, ℕ, ◌+◌, ◌≤◌, Bool, true, false, cond, List, [], ◌∷◌, ◌++◌, length, Option, Some, None, refl, sym, ap, ◌∙◌, subst, arith, zero, suc}
 use Rattle.std.specs.List.{AllByRecursion as Each, flat_map}
 use Rattle.exec_graph.specs.Forests.{Label, Forest, Bare, Grow}
 use Rattle.exec_graph.specs.Meaning.{IsThere, node_at, place}
 use Rattle.exec_graph.specs.Readers.{readers}
 use Rattle.exec_graph.specs.declared.graph.Place.{Place}
 use Rattle.exec_graph.specs.declared.graph.Node.{Node}
-use Rattle.exec_graph.specs.declared.graph.Node.TheVariants.{Pdo}
 use Rattle.exec_graph.specs.declared.graph.Blocked.{Blocked}
 use Rattle.exec_graph.specs.declared.graph.Graph.{Graph}
 use Rattle.exec_graph.proofs.Solving.{each_found}
 use Rattle.pardo_fuse.specs.Readers.{Cut, cut_of, is_inner}
 use Rattle.pardo_fuse.specs.Fusing.{kids_on, least, lesser, members, members_over, over_outs, step_in}
-use Rattle.pardo_fuse.specs.Parting.{part_number, part_place, parted, parted_nodes}
+use Rattle.pardo_fuse.specs.Parting.{part_number, part_place, parted}
 use Rattle.pardo_fuse.specs.SingleFusing.{kids_of, planted, step_at, trees}
 use Rattle.pardo_fuse.specs.Wellformed.{IsFusible}
-use Rattle.pardo_fuse.specs.inner.Naming.{steps_at}
-use Rattle.pardo_fuse.specs.inner.Numbers.{members_at}
 use Rattle.pardo_fuse.proofs.Hanging.{can_mark, levels_same}
-use Rattle.pardo_fuse.proofs.Leasts.{around, least_more}
+use Rattle.pardo_fuse.proofs.Leasts.{least_more}
 use Rattle.pardo_fuse.proofs.Once.{all_of}
 use Rattle.pardo_fuse.proofs.Parting.{EachLabel, first_number, row_of, IsRow, label_weaker}
 use Rattle.pardo_fuse.proofs.Partition.{numbers}
 use Rattle.pardo_fuse.proofs.SiteKids.{CanMark, IsPdoAt, filled, kids_part, readers_pdos}
 use Rattle.pardo_fuse.proofs.Sites.{all_sites, outputs_of, readers_part}
 use Rattle.pardo_fuse.proofs.Unparting.{step_at_node}
-use Rattle.fuse_chain.proofs.Minima.{first_is, least_low, lesser_under}
+use Rattle.fuse_chain.proofs.Minima.{first_is, lesser_under}
+use Rattle.pardo_fuse.proofs.Members.{least_low}
 
 kids_pdos : (a : Blocked) → CanMark a → (n : ℕ) (o : Option ℕ)
     → Each (IsPdoAt a.graph) (kids_on (cut_of a) n o)

@@ -1,13 +1,14 @@
 -- A kid under the lesser number: the least numbers of the classes before and after it.
-use Rattle.std.proofs.Common.{◌≡◌, ℕ, ◌<◌, ◌≤◌, Bool, true, false, cond, eqb, ltb, List, [], ◌∷◌, Some, refl, sym, ap, ◌∙◌, subst, arith}
+use Rattle.std.proofs.Common.{◌≡◌, ℕ, ◌≤◌, Bool, true, false, cond, eqb, ltb, List, [], ◌∷◌, Some, refl, sym, ap, ◌∙◌, subst, arith}
 use Rattle.std.proofs.lemmas.Bool.{eqb-true, eq-eqb, false≢true}
 use Rattle.exec_graph.specs.Forests.{Forest}
 use Rattle.exec_graph.specs.Meaning.{has_out, node_at, place}
 use Rattle.exec_graph.specs.Readers.{readers, same_place}
 use Rattle.exec_graph.specs.declared.graph.Place.{Place}
-use Rattle.exec_graph.specs.declared.graph.Entry.{Entry}
 use Rattle.exec_graph.specs.declared.graph.Node.TheVariants.{Pdo}
 use Rattle.exec_graph.proofs.Bools.{not_true}
+pub use Rattle.graph_laws.proofs.Exchanging.{other_twice as two_twice}
+use Rattle.graph_laws.proofs.Exchanging.{other_far, other_left}
 use Rattle.graph_laws.proofs.Joining.{lacks_grafted}
 use Rattle.pardo_fuse.specs.Readers.{Cut, is_pdo}
 use Rattle.pardo_fuse.specs.Fusing.{is_first, leads, least, lesser}
@@ -18,7 +19,7 @@ use Rattle.pardo_fuse.proofs.Levels.{all_grown}
 use Rattle.pardo_fuse.proofs.Naming.{has_pruned, has_times}
 use Rattle.pardo_fuse.proofs.Once.{AllGrown, all_of}
 use Rattle.pardo_fuse.proofs.Partition.{numbers}
-use Rattle.pardo_fuse.proofs.Places.{same_is, same_self}
+use Rattle.pardo_fuse.proofs.Places.{same_self}
 use Rattle.pardo_fuse.proofs.Seeing.{head_few}
 use Rattle.fuse_chain.specs.Cuts.{IsNextKid}
 use Rattle.fuse_chain.specs.Numbers.{after_kid, other_of_two}
@@ -31,29 +32,6 @@ pub record IsNumbering (b : Cut) (l : ℕ → ℕ) : Type 0 where
       → leads b m e ≡ true → l m ≡ least m (numbers (all_of b e))
   pub others : (m : ℕ) → is_pdo (node_at b.graph.nodes m) ≡ false → l m ≡ m
   pub apart : (m i : ℕ) → l m ≡ l i → m ≡ i
-
--- ---- two numbers
-two_left : (a b : ℕ) → other_of_two a b a ≡ b
-two_left a b = rw (eq-eqb a a refl) refl
-
-two_far : (a b n : ℕ) → (n ≡ a → ⊥) → (n ≡ b → ⊥) → other_of_two a b n ≡ n
-two_far a b n x y =
-    rw (not_true (eqb n a) (λ i. x (eqb-true n a i)), not_true (eqb n b) (λ i. y (eqb-true n b i)))
-    refl
-
-two_right : (a b : ℕ) → (a ≡ b → ⊥) → other_of_two a b b ≡ a
-two_right a b apart =
-    rw (not_true (eqb b a) (λ i. apart (sym (eqb-true b a i))), eq-eqb b b refl) refl
-
-pub two_twice : (a b n : ℕ) → (a ≡ b → ⊥) → other_of_two a b (other_of_two a b n) ≡ n
-two_twice a b n apart = by (eqb n a) (eqb n b) refl refl
-  where
-    by : (r s : Bool) → eqb n a ≡ r → eqb n b ≡ s → other_of_two a b (cond r b (cond s a n)) ≡ n
-    by true s i j = two_right a b apart ∙ sym (eqb-true n a i)
-    by false true i j = two_left a b ∙ sym (eqb-true n b j)
-    by false false i j =
-        two_far a b n (λ e. false≢true (sym i ∙ eq-eqb n a e))
-        (λ e. false≢true (sym j ∙ eq-eqb n b e))
 
 -- ---- one kid
 module _ (b : Cut) (n q : ℕ) (can : CanFuse b) (more : IsNextKid b n q) where
@@ -123,12 +101,12 @@ module _ (b : Cut) (n q : ℕ) (can : CanFuse b) (more : IsNextKid b n q) where
     l_differ e = differ b n q can more (num.apart p q e)
 
     new_p : new p ≡ lesser (l p) (l q)
-    new_p = ap (λ (x : ℕ). cond (ltb (l q) (l p)) x (l p)) (two_left (l p) (l q))
+    new_p = ap (λ (x : ℕ). cond (ltb (l q) (l p)) x (l p)) (other_left (l p) (l q))
 
     new_other : (m : ℕ) → (m ≡ p → ⊥) → (m ≡ q → ⊥) → new m ≡ l m
     new_other m x y =
         ap (λ (k : ℕ). cond (ltb (l q) (l p)) k (l m))
-        (two_far (l p) (l q) (l m) (λ e. x (num.apart m p e)) (λ e. y (num.apart m q e)))
+        (other_far (l p) (l q) (l m) (λ e. x (num.apart m p e)) (λ e. y (num.apart m q e)))
         ∙ both (ltb (l q) (l p))
       where
         both : (t : Bool) → cond t (l m) (l m) ≡ l m

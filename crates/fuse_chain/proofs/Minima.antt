@@ -1,6 +1,5 @@
 -- The least of some numbers, and of the numbers of forests that are put together.
 use Rattle.std.proofs.Common.{◌≡◌, ℕ, ◌+◌, ◌<◌, ◌≤◌, Bool, true, false, cond, ltb, ◌||◌, List, [], ◌∷◌, ◌++◌, append_assoc, refl, sym, ap, ◌∙◌, arith}
-use Rattle.std.specs.List.{AllByRecursion as Each}
 use Rattle.std.proofs.lemmas.Bool.{false≢true, le-ltb, lt-ltb, ltb-false, ltb-true}
 use Rattle.exec_graph.specs.Forests.{Label, Forest, Bare, Grow}
 use Rattle.exec_graph.specs.Meaning.{has_out, is_out}
@@ -70,29 +69,12 @@ lesser_join a q x = by (ltb q a) (ltb x q) refl refl
         let high : q ≤ x = ltb-false x q j in
         first_is a x (omega (arith, most, high)) ∙ sym (first_is a q most)
 
-lesser_low : (m n : ℕ) → lesser m n ≤ m
-lesser_low m n = by (ltb n m) refl
-  where
-    by : (b : Bool) → ltb n m ≡ b → cond b n m ≤ m
-    by true i = let less : n < m = ltb-true n m i in omega arith
-    by false i = omega arith
-
 pub lesser_under : (m n : ℕ) → lesser m n ≤ n
 lesser_under m n = by (ltb n m) refl
   where
     by : (b : Bool) → ltb n m ≡ b → cond b n m ≤ n
     by true i = omega arith
     by false i = ltb-false n m i
-
-pub least_low : (m : ℕ) (xs : List ℕ) → least m xs ≤ m
-least_low m [] = omega arith
-least_low m (x ∷ xs) =
-    let i = least_low (lesser m x) xs in let j = lesser_low m x in omega (arith, i, j)
-
-pub least_stays : (m : ℕ) (xs : List ℕ) → Each (λ x. m ≤ x) xs → least m xs ≡ m
-least_stays m [] a = refl
-least_stays m (x ∷ xs) a =
-    ap (λ (n : ℕ). least n xs) (first_is m x a.0) ∙ least_stays m xs a.1
 
 pub lesser_same : (n : ℕ) → lesser n n ≡ n
 lesser_same n = first_is n n (omega arith)

@@ -1,6 +1,6 @@
 -- A Pdo that reads what one of the first nodes reads becomes a sibling of the first that does, with
 -- all outputs of its step.
-use Rattle.std.proofs.Common.{◌≡◌, ℕ, ◌%◌, ◌<◌, Bool, true, false, cond, eqb, List, ◌∷◌, ◌++◌, map, Some, None, refl, sym, ap, ◌∙◌, subst, arith}
+use Rattle.std.proofs.Common.{◌≡◌, ℕ, ◌%◌, ◌<◌, Bool, true, false, cond, eqb, List, ◌∷◌, ◌++◌, Some, None, refl, sym, ap, ◌∙◌, subst, arith, Option}
 use Rattle.std.proofs.lemmas.Bool.{eqb-true, eq-eqb, false≢true, ne_eqb}
 use Rattle.std.specs.List.{AllByRecursion as Each}
 use Rattle.flume_value.proofs.EachLemmas.{Each-left}
@@ -11,13 +11,12 @@ use Rattle.exec_graph.specs.Wellformed.{Ascends}
 use Rattle.exec_graph.specs.declared.graph.Place.{Place}
 use Rattle.exec_graph.specs.declared.graph.Node.TheVariants.{Pdo}
 use Rattle.exec_graph.specs.declared.graph.Entry.{Entry}
-use Rattle.exec_graph.specs.declared.graph.Graph.{Graph}
 use Rattle.exec_graph.specs.declared.graph.Blocked.{Blocked}
 use Rattle.graph_laws.specs.Joining.{beside}
 use Rattle.graph_laws.specs.Kids.{kept_by}
 use Rattle.graph_laws.proofs.Kids.{sibling_sound}
 use Rattle.pardo_fuse.specs.Fusing.{is_first}
-use Rattle.pardo_fuse.specs.Parting.{part_place, parted, parted_nodes}
+use Rattle.pardo_fuse.specs.Parting.{parted}
 use Rattle.pardo_fuse.specs.Readers.{cut_of}
 use Rattle.pardo_fuse.specs.Wellformed.{IsFusible}
 use Rattle.pardo_fuse.proofs.Parting.{all_parts, small_mod}
@@ -38,27 +37,21 @@ use Rattle.fuse_chain.proofs.Rewriting.{sibling_join, sibling_step}
 use Rattle.fuse_chain.proofs.SiblingSteps.{uses_alike}
 use Rattle.fuse_chain.proofs.Splits.{ascends_last, below_last, end, is_in}
 use Rattle.fuse_chain.proofs.States.{IsState, fused_in, graph_of, named_graph}
-use Rattle.fuse_chain.proofs.Whole.{can, own}
+use Rattle.fuse_chain.proofs.Whole.{can, own, scene}
 use Rattle.fuse_chain.proofs.Done.{IsDone, StepsFrom, at_q as last_at, below_done, calls, calls_here as last_calls, calls_mod, done_graph, done_nodes, elsewhere, in_each, mod_q as last_mod, out_q as last_out, part_done, parts_two, sites_q as last_sites, steps_done}
 
+-- The plan of a Pdo that a step begins, as the step is done or not.
+plan_in : (b : Blocked) (done : List Entry) (m : ℕ) (c : Place) (t : Bool)
+    → m % b.graph.next ≡ m → is_in m done ≡ t
+    → part_done b done m c ≡ cond t (cond (is_first m (calls b done c))
+    (Some (rooted (parted b) (calls b done c))) None) (own b m c)
+plan_in b done m c t begins is =
+    let steps : Option Forest = cond (is_first m (calls b done c))
+    (Some (rooted (parted b) (calls b done c))) None in
+    ap (λ x. cond (is_in x done) steps (own b m c)) begins ∙ ap (λ x. cond x steps (own b m c)) is
+
 module _ (b : Blocked) (fu : IsFusible b) where
-  abbrev g : Graph
-  g = b.graph
-
-  abbrev k : ℕ
-  k = b.graph.next
-
-  abbrev es : List Entry
-  es = b.graph.nodes
-
-  abbrev r : Place → Place
-  r = part_place b.graph
-
-  abbrev ps : List Entry
-  ps = parted_nodes b.graph
-
-  abbrev outs : List Place
-  outs = map (part_place b.graph) b.graph.outputs
+  open (scene b) use {g, k, es, r, ps, outs}
 
   module _ (done rest : List Entry) (e : Entry) (d : Place) (f : Forest)
       (split : b.graph.nodes ≡ done ++ (e ∷ rest)) (is : e.node ≡ Pdo d f) where
@@ -130,10 +123,7 @@ module _ (b : Blocked) (fu : IsFusible b) where
 
       plan_p : part_done b done p (r d) ≡ Some first_steps
       plan_p =
-          ap (λ x. cond (is_in x done) (cond (is_first p (calls b done (r d)))
-          (Some (rooted (parted b) (calls b done (r d)))) None) (own b p (r d))) mod_p
-          ∙ ap (λ x. cond x (cond (is_first p (calls b done (r d)))
-          (Some (rooted (parted b) (calls b done (r d)))) None) (own b p (r d))) p_in
+          plan_in b done p (r d) true mod_p p_in
           ∙ ap (λ l. cond (is_first p l) (Some (rooted (parted b) l)) None) some
           ∙ ap (λ x. cond x (Some first_steps) None) (eq-eqb p p refl)
 
@@ -145,20 +135,11 @@ module _ (b : Blocked) (fu : IsFusible b) where
           ∙ ap (λ x. cond x (Some last_step) None) (eq-eqb q q refl)
 
       plan_q : part_done b done q (r d) ≡ Some last_step
-      plan_q =
-          ap (λ x. cond (is_in x done) (cond (is_first q (calls b done (r d)))
-          (Some (rooted (parted b) (calls b done (r d)))) None) (own b q (r d))) mod_q
-          ∙ ap (λ x. cond x (cond (is_first q (calls b done (r d)))
-          (Some (rooted (parted b) (calls b done (r d)))) None) (own b q (r d))) out_q
-          ∙ own_q
+      plan_q = plan_in b done q (r d) false mod_q out_q ∙ own_q
 
       next_p : part_done b (end done e) p (r d) ≡ Some (rooted (parted b) ((p ∷ more) ++ sites g q))
       next_p =
-          ap (λ x. cond (is_in x (end done e)) (cond (is_first p (calls b (end done e) (r d)))
-          (Some (rooted (parted b) (calls b (end done e) (r d)))) None) (own b p (r d))) mod_p
-          ∙ ap (λ x. cond x (cond (is_first p (calls b (end done e) (r d)))
-          (Some (rooted (parted b) (calls b (end done e) (r d)))) None) (own b p (r d)))
-          (in_other p done e differ ∙ p_in)
+          plan_in b (end done e) p (r d) true mod_p (in_other p done e differ ∙ p_in)
           ∙ ap (λ l. cond (is_first p l) (Some (rooted (parted b) l)) None) new
           ∙ ap (λ x. cond x (Some (rooted (parted b) ((p ∷ more) ++ sites g q))) None)
           (eq-eqb p p refl)

@@ -7,7 +7,7 @@ use Rattle.exec_graph.specs.Readers.{readers}
 use Rattle.exec_graph.specs.Wellformed.{Ascends}
 use Rattle.exec_graph.specs.declared.graph.Place.{Place}
 use Rattle.exec_graph.specs.declared.graph.Node.{Node}
-use Rattle.exec_graph.specs.declared.graph.Node.TheVariants.{Source, Flatten, Pdo, Gbk, Barrier}
+use Rattle.exec_graph.specs.declared.graph.Node.TheVariants.{Pdo, Gbk}
 use Rattle.exec_graph.specs.declared.graph.Entry.{Entry}
 use Rattle.exec_graph.specs.declared.graph.Graph.{Graph}
 use Rattle.exec_graph.specs.declared.graph.Blocked.{Blocked}
@@ -61,8 +61,6 @@ row_low k n i c (Grow l kids rest) tail h r a = (
 node_low : (k n : ℕ) (x : Node) (r : Place → Place) (tail : List Entry) → n < k
     → HasSteps IsOneStep x → Each (λ (d : Entry). d.number < k → n < d.number) tail
     → AscendsLow k tail → AscendsLow k (parts_of k n (reread r x) ++ tail)
-node_low k n (Source s) r tail h o t a = (λ _. t, a)
-node_low k n (Flatten ins) r tail h o t a = (λ _. t, a)
 node_low k n (Pdo c f) r tail h o t a = by f (row_of f o)
   where
     by : (f : Forest) → IsRow 0 f → AscendsLow k (parts k n (r c) f ++ tail)
@@ -75,7 +73,7 @@ node_low k n (Pdo c f) r tail h o t a = by f (row_of f o)
       row_low k n 0 (r c) rest tail h w.2 a,
     )
 node_low k n (Gbk c o l m) r tail h q t a = (λ _. t, a)
-node_low k n (Barrier ins i l d) r tail h o t a = (λ _. t, a)
+node_low k n _ r tail h o t a = (λ _. t, a)
 
 above_parts : (k n : ℕ) (r : Place → Place) (es : List Entry)
     → Each (λ (e : Entry). e.number < k) es

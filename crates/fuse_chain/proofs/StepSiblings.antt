@@ -17,7 +17,7 @@ use Rattle.graph_laws.specs.Joining.{reread}
 use Rattle.graph_laws.specs.Kids.{kept_by}
 use Rattle.pardo_fuse.specs.Fusing.{is_first}
 use Rattle.pardo_fuse.specs.SingleFusing.{forest_of, fused_by, Grown, joined_nodes, keeps_output, kids_of, planted, step_at}
-use Rattle.pardo_fuse.specs.Parting.{part_place, parted, parted_nodes, parts_of}
+use Rattle.pardo_fuse.specs.Parting.{parted, parts_of}
 use Rattle.pardo_fuse.specs.Readers.{Cut, is_unmarked}
 use Rattle.pardo_fuse.specs.Wellformed.{IsFusible}
 use Rattle.pardo_fuse.proofs.Chaining.{grown_one}
@@ -38,25 +38,12 @@ use Rattle.fuse_chain.proofs.Partly.{found_in}
 use Rattle.fuse_chain.proofs.Plans.{drawn, drawn_alike}
 use Rattle.fuse_chain.proofs.Splits.{append_end, end, those_none}
 use Rattle.fuse_chain.proofs.States.{IsState, graph_of, named_graph}
-use Rattle.fuse_chain.proofs.Whole.{can, own, whole}
+use Rattle.fuse_chain.proofs.Whole.{can, own, whole, scene}
 use Rattle.fuse_chain.proofs.Done.{IsDone, StepsFrom, calls, done_graph, done_nodes, fresh_plan, from, other_plan, part_done}
 use Rattle.fuse_chain.proofs.OneMore.{one_more}
 
 module _ (b : Blocked) (fu : IsFusible b) where
-  abbrev k : ℕ
-  k = b.graph.next
-
-  abbrev es : List Entry
-  es = b.graph.nodes
-
-  abbrev r : Place → Place
-  r = part_place b.graph
-
-  abbrev ps : List Entry
-  ps = parted_nodes b.graph
-
-  abbrev outs : List Place
-  outs = map (part_place b.graph) b.graph.outputs
+  open (scene b) use {k, es, r, ps, outs}
 
   -- ---- the chain
   skip : (done rest : List Entry) (e : Entry)

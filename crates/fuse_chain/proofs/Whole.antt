@@ -55,18 +55,27 @@ abbrev pub own : Blocked → Plan
 own b q c = cond (is_first q (sites b.graph (q % b.graph.next)))
     (Some (rooted (parted b) (sites b.graph (q % b.graph.next)))) None
 
+-- The graph, its numbers and nodes, where a former collection is, and the parts.
+pub record Scene : Type 0 where
+  pub g : Graph
+  pub k : ℕ
+  pub es : List Entry
+  pub r : Place → Place
+  pub ps : List Entry
+  pub outs : List Place
+
+abbrev pub scene : Blocked → Scene
+scene b = record {
+  g = b.graph;
+  k = b.graph.next;
+  es = b.graph.nodes;
+  r = part_place b.graph;
+  ps = parted_nodes b.graph;
+  outs = map (part_place b.graph) b.graph.outputs;
+}
+
 module _ (b : Blocked) (fu : IsFusible b) where
-  abbrev g : Graph
-  g = b.graph
-
-  abbrev k : ℕ
-  k = b.graph.next
-
-  abbrev es : List Entry
-  es = b.graph.nodes
-
-  abbrev r : Place → Place
-  r = part_place b.graph
+  open (scene b) use {g, k, es, r}
 
   pub can : CanPart b.graph
   can = can_part b fu
@@ -149,25 +158,19 @@ module _ (b : Blocked) (fu : IsFusible b) where
 
   pdo_same : (n : ℕ) (x : Node) → is_pdo (Some (whole_node b n x)) ≡ is_pdo (Some x)
   pdo_same n (Source s) = refl
-  pdo_same n (Flatten ins) = refl
-  pdo_same n (Pdo c f) = refl
-  pdo_same n (Gbk c o l m) = refl
-  pdo_same n (Barrier ins o l a) = refl
+  pdo_same n _ = refl
 
   -- ---- the outputs that are held
   pub holds_mod : (n i : ℕ) (x : Node) → node_at es n ≡ Some x
       → holds_out i (whole_node b n x) ≡ true
       → (i % k ≡ n) × (is_pdo (Some x) ≡ true)
-  holds_mod n i (Source s) at h = absurd (false≢true h)
-  holds_mod n i (Flatten ins) at h = absurd (false≢true h)
   holds_mod n i (Pdo c f) at h = (
     sites_mod k n f i (low g can n (Pdo c f) at)
         (subst (λ (l : List ℕ). 0 < times i l) (sites_at n c f at)
         (rooted_in (parted b) (sites g n) i h)),
     refl,
   )
-  holds_mod n i (Gbk c o l m) at h = absurd (false≢true h)
-  holds_mod n i (Barrier ins o l a) at h = absurd (false≢true h)
+  holds_mod n i _ at h = absurd (false≢true h)
 
   not_held : (i : ℕ) → i < k → is_pdo (node_at es i) ≡ false → any_node (holds_out i) hs ≡ false
   not_held i lo none = all es found

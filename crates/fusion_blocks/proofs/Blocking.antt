@@ -1,5 +1,5 @@
 -- The marks of a whole graph.
-use Rattle.std.proofs.Common.{◌≡◌, ℕ, Bool, true, false, cond, ◌&&◌, ◌||◌, ◌⊎◌, inl, inr, List, [], ◌∷◌, ◌++◌, Option, Some, None, append-nil, append_assoc, refl, sym, ap, ◌∙◌, subst}
+use Rattle.std.proofs.Common.{◌≡◌, ℕ, Bool, true, false, cond, ◌&&◌, ◌||◌, ◌⊎◌, inl, inr, List, [], ◌∷◌, ◌++◌, Option, Some, append-nil, append_assoc, refl, sym, ap, ◌∙◌, subst}
 use Rattle.std.proofs.lemmas.Bool.{false≢true}
 use Rattle.std.specs.List.{AllByRecursion, list_any}
 use Rattle.flume_value.proofs.EachLemmas.{Each-append, Each-right, Each-weaker}
@@ -8,7 +8,7 @@ use Rattle.exec_graph.specs.Readers.{among, same_place}
 use Rattle.exec_graph.specs.Wellformed.{IsBlockedOk, IsGraphOk, is_lifted}
 use Rattle.exec_graph.specs.declared.graph.Place.{Place}
 use Rattle.exec_graph.specs.declared.graph.Node.{Node}
-use Rattle.exec_graph.specs.declared.graph.Node.TheVariants.{Source, Flatten, Pdo, Gbk, Barrier}
+use Rattle.exec_graph.specs.declared.graph.Node.TheVariants.{Flatten, Pdo, Gbk}
 use Rattle.exec_graph.specs.declared.graph.Entry.{Entry}
 use Rattle.exec_graph.specs.declared.graph.Graph.{Graph}
 use Rattle.exec_graph.specs.declared.graph.Blocked.{Blocked}
@@ -42,16 +42,14 @@ and_none false = refl
 
 fed_by : (es : List Entry) (c : Place) (n : ℕ) (x : Node)
     → (groups c x || (is_grouped es (place n 0) && flattens c x)) ≡ among c (fed es n x)
-fed_by es c n (Source r) = and_none (is_grouped es (place n 0))
 fed_by es c n (Flatten ins) = by (is_grouped es (place n 0))
   where
     by : (b : Bool) → (b && among c ins) ≡ among c (cond b ins [])
     by true = refl
     by false = refl
-fed_by es c n (Pdo d f) = and_none (is_grouped es (place n 0))
 fed_by es c n (Gbk d o l k) =
     ap (λ (b : Bool). same_place c d || b) (and_none (is_grouped es (place n 0)))
-fed_by es c n (Barrier ins o l a) = and_none (is_grouped es (place n 0))
+fed_by es c n _ = and_none (is_grouped es (place n 0))
 
 pub among_all : (P : Place → Type 0) (c : Place) (cs : List Place) → among c cs ≡ true
     → AllByRecursion P cs → P c
@@ -70,15 +68,13 @@ all_among P (c ∷ cs) h = (
 -- what feeds is there
 fed_there : (es : List Entry) (c : Place) (n : ℕ) (x : Node) → among c (fed es n x) ≡ true
     → AllByRecursion (IsThere es) (reads x) → IsThere es c
-fed_there es c n (Source r) h a = absurd (false≢true h)
 fed_there es c n (Flatten ins) h a = by (is_grouped es (place n 0)) h
   where
     by : (b : Bool) → among c (cond b ins []) ≡ true → IsThere es c
     by true q = among_all (IsThere es) c ins q a
     by false q = absurd (false≢true q)
-fed_there es c n (Pdo d f) h a = absurd (false≢true h)
 fed_there es c n (Gbk d o l k) h a = among_all (IsThere es) c (d ∷ []) h a
-fed_there es c n (Barrier ins o l i) h a = absurd (false≢true h)
+fed_there es c n _ h a = absurd (false≢true h)
 
 feeding_there : (es rest : List Entry) (c : Place) → list_any (feeds_by es c) rest ≡ true
     → AllByRecursion (λ e. AllByRecursion (IsThere es) (reads e.node)) rest → IsThere es c
@@ -168,13 +164,8 @@ abbrev IsMarkable : List Entry → Place → Type 0
 IsMarkable es d = IsThere es d × (takes_mark (node_at es d.node) ≡ true)
 
 not_lifted : (o : Option Node) → takes_mark o ≡ true → is_lifted o ≡ false
-not_lifted None h = refl
-not_lifted (Some (Source r)) h = refl
-not_lifted (Some (Flatten ins)) h = refl
-not_lifted (Some (Pdo c f)) h = refl
-not_lifted (Some (Gbk c o l None)) h = refl
 not_lifted (Some (Gbk c o l (Some k))) h = absurd (false≢true h)
-not_lifted (Some (Barrier ins o l a)) h = refl
+not_lifted _ h = refl
 
 chain_markable : (es : List Entry) (c : Place) (cs : List Place) → AllThere es → IsChain es c cs
     → IsThere es c → AllByRecursion (IsMarkable es) cs

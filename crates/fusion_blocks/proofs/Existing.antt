@@ -89,12 +89,9 @@ are_estimates scales es ok =
 -- ---- chains
 
 abbrev is_link : Option Node → Bool
-is_link None = false
-is_link (Some (Source r)) = false
-is_link (Some (Flatten ins)) = false
 is_link (Some (Pdo c f)) = true
 is_link (Some (Gbk c o l k)) = true
-is_link (Some (Barrier ins o l a)) = false
+is_link _ = false
 
 chain_link : (es : List Entry) (c : Place) (cs : List Place) → IsChain es c cs
     → is_link (node_at es c.node) ≡ true
@@ -158,12 +155,8 @@ least_marks old (Least b) = (
 )
 
 abbrev is_pdo : Option Node → Bool
-is_pdo None = false
-is_pdo (Some (Source r)) = false
-is_pdo (Some (Flatten ins)) = false
 is_pdo (Some (Pdo c f)) = true
-is_pdo (Some (Gbk c o l k)) = false
-is_pdo (Some (Barrier ins o l a)) = false
+is_pdo _ = false
 
 no_mark : (es : List Entry) (m : ℕ → ℕ) (c : Place) (old : List Place)
     → is_pdo (node_at es c.node) ≡ false → Marked old (IsMarkOf es m c)
@@ -172,14 +165,10 @@ no_mark es m c old e =
 
 one_mark : (es : List Entry) (m : ℕ → ℕ) (c : Place) (old : List Place) (o : Option Node)
     → node_at es c.node ≡ o → Known es m c → Marked old (IsMarkOf es m c)
-one_mark es m c old None e k = no_mark es m c old (ap is_pdo e)
-one_mark es m c old (Some (Source r)) e k = no_mark es m c old (ap is_pdo e)
-one_mark es m c old (Some (Flatten ins)) e k = no_mark es m c old (ap is_pdo e)
 one_mark es m c old (Some (Pdo i f)) e k =
     let r = least_marks old k.0 in
     (r.0, by_stretch es m c i f k.0 old r.0 e k.1 r.1)
-one_mark es m c old (Some (Gbk d o l h)) e k = no_mark es m c old (ap is_pdo e)
-one_mark es m c old (Some (Barrier ins o l a)) e k = no_mark es m c old (ap is_pdo e)
+one_mark es m c old _ e k = no_mark es m c old (ap is_pdo e)
 
 marks_from : (es : List Entry) (m : ℕ → ℕ) → ((c : Place) → Known es m c) → (old cs : List Place)
     → Marked old (MarkedFrom es m cs)

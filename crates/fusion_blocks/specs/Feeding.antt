@@ -6,24 +6,18 @@ use Rattle.exec_graph.specs.Meaning.{place}
 use Rattle.exec_graph.specs.Readers.{same_place, among, any_node}
 use Rattle.exec_graph.specs.declared.graph.Place.{Place}
 use Rattle.exec_graph.specs.declared.graph.Node.{Node}
-use Rattle.exec_graph.specs.declared.graph.Node.TheVariants.{Source, Flatten, Pdo, Gbk, Barrier}
+use Rattle.exec_graph.specs.declared.graph.Node.TheVariants.{Flatten, Gbk}
 use Rattle.exec_graph.specs.declared.graph.Entry.{Entry}
 
 -- whether the node is a Gbk of c
 abbrev pub groups : Place → Node → Bool
-groups c (Source r) = false
-groups c (Flatten ins) = false
-groups c (Pdo d f) = false
 groups c (Gbk d o l k) = same_place c d
-groups c (Barrier ins o l a) = false
+groups c _ = false
 
 -- whether the node is a Flatten of c
 abbrev pub flattens : Place → Node → Bool
-flattens c (Source r) = false
 flattens c (Flatten ins) = among c ins
-flattens c (Pdo d f) = false
-flattens c (Gbk d o l k) = false
-flattens c (Barrier ins o l a) = false
+flattens c _ = false
 
 -- whether c is the input of a Gbk
 abbrev pub is_grouped : List Entry → Place → Bool

@@ -27,7 +27,7 @@ use Rattle.sink_laws.specs.of_graph_laws.Single.{HasSteps, IsOneStep, most_outpu
 use Rattle.pardo_fuse.specs.Wellformed.{IsFusible}
 use Rattle.plan_rules.specs.Fitting.{HasFewOutputs, HasSourcesBelow, IsInBounds, IsNarrow, IsSourceBelow, SourcesAgree}
 use Rattle.graph_bounds.specs.Sources.{AreOfKinds, HasKinds, BringSuch, BringsSuch, OfSource}
-use Rattle.graph_bounds.proofs.Sourcing.{such_lifted, such_sunk}
+use Rattle.graph_bounds.proofs.Sourcing.{node_reread, such_lifted, such_sunk}
 
 pub numbered_few : (m s : ℕ) (f : Forest) → HasFewOutputs m f → HasFewOutputs m (numbered s f)
 numbered_few m s Bare h = tt
@@ -184,20 +184,9 @@ narrow_parents n b can h =
 
 -- ---- under other numbers
 
-such_reread : (n : Input ⊎ Act → Type 0) (r : Place → Place) (x : Node) → BringsSuch n x
-    → BringsSuch n (reread r x)
-such_reread n r (Source s) h = h
-such_reread n r (Flatten ins) h = h
-such_reread n r (Pdo c f) h = h
-such_reread n r (Gbk c o l k) h = h
-such_reread n r (Barrier ins o l a) h = h
-
 narrow_reread : (r : Place → Place) (x : Node) → IsNarrow x → IsNarrow (reread r x)
 narrow_reread r (Source s) h = h
-narrow_reread r (Flatten ins) h = h
-narrow_reread r (Pdo c f) h = h
-narrow_reread r (Gbk c o l k) h = h
-narrow_reread r (Barrier ins o l a) h = h
+narrow_reread r _ h = h
 
 -- what holds of nodes, whatever they read, holds of them under other numbers
 all_renumbered : (P : Node → Type 0) → ((r : Place → Place) (x : Node) → P x → P (reread r x))
@@ -211,7 +200,7 @@ all_renumbered P still l es a =
 such_fused : (n : Input ⊎ Act → Type 0) (b : Blocked) → IsFusible b → BringSuch n b.graph.nodes
     → BringSuch n (fused b).graph.nodes
 such_fused n b can h =
-    all_renumbered (BringsSuch n) (such_reread n) (least_of (cut_of b))
+    all_renumbered (BringsSuch n) (node_reread n) (least_of (cut_of b))
     (fused_by_parents b).graph.nodes (such_parents n b can h)
 
 narrow_fused : (n : Input ⊎ Act → Type 0) (b : Blocked) → IsFusible b → BringSuch n b.graph.nodes
@@ -240,10 +229,7 @@ below_such n (e ∷ es) h = (such_node n e.node h.0, below_such n es h.1)
   where
     such_node : (n : ℕ) (x : Node) → BringsSuch (OfSource (λ r. r.number < n)) x → IsSourceBelow n x
     such_node n (Source s) i = i
-    such_node n (Flatten ins) i = tt
-    such_node n (Pdo c f) i = tt
-    such_node n (Gbk c o l k) i = tt
-    such_node n (Barrier ins o l a) i = tt
+    such_node n _ i = tt
 
 pub sources_sunk : (n : ℕ) (g h : Graph) → IsSunk g h → HasSourcesBelow n g
     → HasSourcesBelow n h
@@ -303,10 +289,8 @@ such_free (e ∷ es) h = (such_node e.node h.0, such_free es h.1)
   where
     such_node : (x : Node) → BringsSuch IsFree x → IsNodeFree x
     such_node (Source s) i = i
-    such_node (Flatten ins) i = tt
-    such_node (Pdo c f) i = tt
-    such_node (Gbk c o l k) i = tt
     such_node (Barrier ins o l a) i = i
+    such_node _ i = tt
 
 pub free_sunk : (g h : Graph) → IsSunk g h → IsObjectFree g → IsObjectFree h
 free_sunk g h k s = such_free h.nodes (such_sunk IsFree g h k (free_such g.nodes s))

@@ -10,10 +10,10 @@ use Rattle.combine_table.specs.contracts.comb.CombPartialEq.TheImpl as combs
 use Rattle.flume_value.proofs.BoolLemmas.{both_true, and_both}
 use Rattle.flume_value.proofs.EachLemmas.{Each-both, Each-weaker, each_passes, all_pass}
 use Rattle.graph_checks.specs.declared.callers.Callers.{Callers}
-use Rattle.graph_checks.specs.declared.callers.Callers.TheVariants.{One, Several}
+use Rattle.graph_checks.specs.declared.callers.Callers.TheVariants.{One}
 use Rattle.exec_graph.specs.declared.graph.Place.{Place}
 use Rattle.exec_graph.specs.declared.graph.Node.{Node}
-use Rattle.exec_graph.specs.declared.graph.Node.TheVariants.{Source, Flatten, Pdo, Gbk, Barrier}
+use Rattle.exec_graph.specs.declared.graph.Node.TheVariants.{Flatten, Pdo, Gbk, Barrier}
 use Rattle.exec_graph.specs.declared.graph.Entry.{Entry}
 use Rattle.exec_graph.specs.declared.graph.Graph.{Graph}
 use Rattle.exec_graph.specs.Meaning.{AllDiffer, place}
@@ -44,11 +44,9 @@ sizes_to n l h = grind (arith, nat_tests)
 
 -- ---- lifted groups
 called_from : (k : Comb) (o : Option Callers) → called_by k o ≡ true → o ≡ Some (One (Some k))
-called_from k None h = absurd (false≢true h)
-called_from k (Some Several) h = absurd (false≢true h)
-called_from k (Some (One None)) h = absurd (false≢true h)
 called_from k (Some (One (Some root))) h =
     ap (λ (r : Comb). Some (One (Some r))) (comb_from root k h)
+called_from k _ h = absurd (false≢true h)
 
 called_to : (k : Comb) (o : Option Callers) → o ≡ Some (One (Some k)) → called_by k o ≡ true
 called_to k o h = ap (called_by k) h ∙ comb_to k
@@ -83,12 +81,9 @@ abbrev pub objects : List Entry → Bool
 objects es = list_all (λ (e : Entry). objects_in es e.node) es
 
 node_objects : (es : List Entry) (x : Node) → Ascends es → objects_in es x ≡ has_objects es x
-node_objects es (Source r) up = refl
-node_objects es (Flatten ins) up = refl
-node_objects es (Pdo c f) up = refl
-node_objects es (Gbk c o l k) up = refl
 node_objects es (Barrier ins o l a) up = ap (takes_such a)
     (map_same (is_object_in es) (is_object_at es) (λ c. object_there es c.node up) ins)
+node_objects es _ up = refl
 
 objects_from : (es : List Entry) → Ascends es → objects es ≡ true → HaveObjects es
 objects_from es up h = Each-weaker (λ (e : Entry). IsTrue (objects_in es e.node))
@@ -107,17 +102,14 @@ record Passes (g : Graph) (n : ℕ) (x : Node) : Type 0 where
   pub lifted : lifted_ok g n x ≡ true
 
 node_from : (g : Graph) (n : ℕ) (x : Node) → AllDiffer g.nodes → Passes g n x → IsNodeOk g n x
-node_from g n (Source r) d p = tt
 node_from g n (Flatten ins) d p = sizes_from (length ins) p.flatten
 node_from g n (Pdo c f) d p =
     let q = both_true (in_order 0 (spots f)) (all_read g n (spots f)) p.forest in
     record { order = numbered_from 0 f q.0; read = read_from g n f q.1 }
-node_from g n (Gbk c o l None) d p = tt
 node_from g n (Gbk c o l (Some k)) d p = lifted_from g n k d p.lifted
-node_from g n (Barrier ins o l a) d p = tt
+node_from g n _ d p = tt
 
 node_to : (g : Graph) (n : ℕ) (x : Node) → AllDiffer g.nodes → IsNodeOk g n x → Passes g n x
-node_to g n (Source r) d a = record { flatten = refl; forest = refl; lifted = refl }
 node_to g n (Flatten ins) d a =
     record { flatten = sizes_to (length ins) a.0 a.1; forest = refl; lifted = refl }
 node_to g n (Pdo c f) d a = record {
@@ -126,10 +118,9 @@ node_to g n (Pdo c f) d a = record {
       (read_to g n f a.read);
   lifted = refl;
 }
-node_to g n (Gbk c o l None) d a = record { flatten = refl; forest = refl; lifted = refl }
 node_to g n (Gbk c o l (Some k)) d a =
     record { flatten = refl; forest = refl; lifted = lifted_to g n k d a }
-node_to g n (Barrier ins o l i) d a = record { flatten = refl; forest = refl; lifted = refl }
+node_to g n _ d a = record { flatten = refl; forest = refl; lifted = refl }
 
 -- ---- all nodes
 abbrev pub flattens : List Entry → Bool

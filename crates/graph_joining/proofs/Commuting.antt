@@ -1,7 +1,8 @@
 -- Nodes that read elsewhere, are others or are gone, in one order or another.
-use Rattle.std.proofs.Common.{◌≡◌, ℕ, Bool, true, false, cond, eqb, List, [], ◌∷◌, map, refl, sym, ap, ap₂, ◌∙◌}
-use Rattle.std.proofs.lemmas.Bool.{eqb-true, eq-eqb}
+use Rattle.std.proofs.Common.{◌≡◌, ◌⊎◌, ℕ, Bool, true, false, cond, eqb, List, [], ◌∷◌, map, Option, Some, inl, inr, refl, sym, ap, ap₂, subst, ◌∙◌}
+use Rattle.std.proofs.lemmas.Bool.{eqb-true, eq-eqb, ne_eqb}
 use Rattle.exec_graph.specs.Forests.{Forest}
+use Rattle.exec_graph.specs.Meaning.{node_at}
 use Rattle.exec_graph.specs.declared.graph.Entry.{Entry}
 use Rattle.exec_graph.specs.declared.graph.Node.{Node}
 use Rattle.exec_graph.specs.declared.graph.Node.TheVariants.{Source, Flatten, Pdo, Gbk, Barrier}
@@ -98,3 +99,40 @@ without_other (e ∷ es) p q x apart =
     by true false i j s = rw (not_true (eqb p q) (λ k. apart (eqb-true p q k)), i) refl
     by false true i j s = rw j refl
     by false false i j s = rw (i, j) (ap (λ (l : List Entry). e ∷ l) s)
+
+-- two nodes are others, and the first is gone
+pub without_first : (es : List Entry) (p q : ℕ) (x y : Node) → (q ≡ p → ⊥)
+    → without (set_node (set_node es p x) q y) p ≡ set_node (without es p) q y
+without_first es p q x y apart =
+    without_other (set_node es p x) q p y apart
+    ∙ ap (λ (l : List Entry). set_node l q y) (without_same es p x)
+
+-- one of two is gone, which both were the same
+pub without_one : (es : List Entry) (p q n : ℕ) (x : Node) → (p ≡ q → ⊥)
+    → (n ≡ p) ⊎ (n ≡ q) → without (set_node (set_node es p x) q x) (cond (eqb n p) q p)
+    ≡ set_node (without es (cond (eqb n p) q p)) n x
+without_one es p q n x apart (inl e) =
+    subst (λ (m : ℕ). without (set_node (set_node es p x) q x) (cond (eqb m p) q p)
+    ≡ set_node (without es (cond (eqb m p) q p)) m x) (sym e)
+    (rw (eq-eqb p p refl) (without_same (set_node es p x) q x ∙ without_other es p q x apart))
+without_one es p q n x apart (inr e) =
+    subst (λ (m : ℕ). without (set_node (set_node es p x) q x) (cond (eqb m p) q p)
+    ≡ set_node (without es (cond (eqb m p) q p)) m x) (sym e)
+    (rw (ne_eqb q p (λ i. apart (sym i))) (without_first es p q x x (λ i. apart (sym i))))
+
+-- another node stays as it is
+pub node_set : (es : List Entry) (q m : ℕ) (x : Node) → (m ≡ q → ⊥)
+    → node_at (set_node es q x) m ≡ node_at es m
+node_set [] q m x far = refl
+node_set (d ∷ es) q m x far = by (eqb d.number q) refl (node_set es q m x far)
+  where
+    by : (b : Bool) → eqb d.number q ≡ b → node_at (set_node es q x) m ≡ node_at es m
+        → node_at (cond b (entry q x ∷ es) (d ∷ set_node es q x)) m
+        ≡ cond (eqb d.number m) (Some d.node) (node_at es m)
+    by true e i =
+        let n : d.number ≡ q = eqb-true d.number q e in
+        ap (λ (b : Bool). cond b (Some x) (node_at es m))
+        (not_true (eqb q m) (λ j. far (sym (eqb-true q m j))))
+        ∙ sym (ap (λ (b : Bool). cond b (Some d.node) (node_at es m))
+        (not_true (eqb d.number m) (λ j. far (sym (eqb-true d.number m j) ∙ n))))
+    by false e i = ap (λ (o : Option Node). cond (eqb d.number m) (Some d.node) o) i

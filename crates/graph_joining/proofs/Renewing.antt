@@ -14,20 +14,18 @@ use Rattle.graph_laws.proofs.Reading.{any_set}
 use Rattle.graph_laws.proofs.Wellness.{mapped, node_at-map}
 use Rattle.graph_walks.specs.Outs.{outs, place_of}
 use Rattle.graph_walks.proofs.Places.{number_place}
-use Rattle.graph_joining.specs.inner.Refits.{refitted_by, reread_by}
+use Rattle.graph_joining.specs.inner.Refits.{graph_of, refitted_by, reread_by}
 use Rattle.graph_joining.proofs.Commuting.{nodes_both, places_both, set_map, set_over}
-use Rattle.graph_joining.proofs.Rereads.{kept_same, moved_same, nodes_same, nodes_same_number, places_same, places_same_number, set_again}
+use Rattle.graph_joining.proofs.Rereads.{kept_same, moved_same, nodes_same, nodes_same_number, places_same_number, set_again}
+use Rattle.graph_walks.proofs.Rereads.{places_same}
 
 -- twice refitted is once refitted
 refitted_twice : (g : Graph) (n : ℕ) (c : Place) (f h : Forest) (r : ℕ → ℕ)
     → refitted (refitted g n c f same_number) n c h r ≡ refitted g n c h r
 refitted_twice g n c f h r =
     let R : Place → Place = moved_out n r in
-    ap₂ (λ (es : List Entry) (cs : List Place). let x : Graph = record {
-      nodes = map (reread_entry R) es;
-      outputs = map R cs;
-      next = g.next;
-    } in x)
+    ap₂ (λ (es : List Entry) (cs : List Place).
+    graph_of (map (reread_entry R) es) (map R cs) g.next)
     (ap (λ (es : List Entry). set_node es n (Pdo c h))
     (nodes_same_number n (set_node g.nodes n (Pdo c f)))
     ∙ set_again g.nodes n (Pdo c f) (Pdo c h))
@@ -36,11 +34,7 @@ refitted_twice g n c f h r =
 refitted_alike : (g : Graph) (n : ℕ) (c : Place) (f : Forest) (r s : ℕ → ℕ)
     → ((j : ℕ) → r j ≡ s j) → refitted g n c f r ≡ refitted g n c f s
 refitted_alike g n c f r s e =
-    ap₂ (λ (es : List Entry) (cs : List Place). let x : Graph = record {
-      nodes = es;
-      outputs = cs;
-      next = g.next;
-    } in x)
+    ap₂ (λ (es : List Entry) (cs : List Place). graph_of es cs g.next)
     (nodes_same (moved_out n r) (moved_out n s) (moved_same n r s e)
     (set_node g.nodes n (Pdo c f)))
     (places_same (moved_out n r) (moved_out n s) (moved_same n r s e) g.outputs)
@@ -87,11 +81,7 @@ module _ (g : Graph) (n : ℕ) (c : Place) (all : Forest) (r : Place → Place)
       ≡ refitted whole n c roots table
   once roots table =
       let T : Place → Place = moved_out n table in
-      ap₂ (λ (es : List Entry) (cs : List Place). let x : Graph = record {
-        nodes = es;
-        outputs = cs;
-        next = g.next;
-      } in x)
+      ap₂ (λ (es : List Entry) (cs : List Place). graph_of es cs g.next)
       (sym (ap (λ (es : List Entry). map (reread_entry T) es)
       (set_over r g.nodes n (Pdo c all) c roots stays)
       ∙ nodes_both r T (set_node g.nodes n (Pdo c roots))))

@@ -9,22 +9,8 @@ use Rattle.exec_graph.specs.declared.graph.Node.TheVariants.{Source, Flatten, Pd
 use Rattle.exec_graph.specs.declared.graph.Place.{Place}
 use Rattle.exec_graph.proofs.Entries.{entry}
 use Rattle.graph_laws.specs.Joining.{reread, reread_entry, set_node}
+use Rattle.graph_walks.proofs.Rereads.{places_same, reread_same}
 use Rattle.graph_laws.specs.Kids.{kept_by, moved_out, out_kept, same_number}
-
-pub places_same : (r s : Place → Place) → ((c : Place) → r c ≡ s c) → (cs : List Place)
-    → map r cs ≡ map s cs
-places_same r s e [] = refl
-places_same r s e (c ∷ cs) =
-    ap₂ (λ (d : Place) (ds : List Place). d ∷ ds) (e c) (places_same r s e cs)
-
-reread_same : (r s : Place → Place) → ((c : Place) → r c ≡ s c) → (x : Node)
-    → reread r x ≡ reread s x
-reread_same r s e (Source i) = refl
-reread_same r s e (Flatten ins) = ap (λ (ds : List Place). Flatten ds) (places_same r s e ins)
-reread_same r s e (Pdo c f) = ap (λ (d : Place). Pdo d f) (e c)
-reread_same r s e (Gbk c o l k) = ap (λ (d : Place). Gbk d o l k) (e c)
-reread_same r s e (Barrier ins o l a) =
-    ap (λ (ds : List Place). Barrier ds o l a) (places_same r s e ins)
 
 pub nodes_same : (r s : Place → Place) → ((c : Place) → r c ≡ s c) → (es : List Entry)
     → map (reread_entry r) es ≡ map (reread_entry s) es

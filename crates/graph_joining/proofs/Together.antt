@@ -1,6 +1,6 @@
 -- Two Pdos that become one step by step do so in one go.
 use Rattle.std.proofs.Common.{◌≡◌, ℕ, Bool, true, false, cond, eqb, List, map, refl, sym, ap, ap₂, ◌∙◌}
-use Rattle.std.proofs.lemmas.Bool.{eqb-true, eq-eqb}
+use Rattle.std.proofs.lemmas.Bool.{eq-eqb, ne_eqb}
 use Rattle.exec_graph.specs.Forests.{Forest, Bare}
 use Rattle.exec_graph.specs.Meaning.{place}
 use Rattle.exec_graph.specs.declared.graph.Entry.{Entry}
@@ -8,23 +8,15 @@ use Rattle.exec_graph.specs.declared.graph.Graph.{Graph}
 use Rattle.exec_graph.specs.declared.graph.Node.{Node}
 use Rattle.exec_graph.specs.declared.graph.Node.TheVariants.{Pdo}
 use Rattle.exec_graph.specs.declared.graph.Place.{Place}
-use Rattle.exec_graph.proofs.Bools.{not_true}
 use Rattle.graph_laws.specs.Joining.{joined_into, moved, reread_entry, set_node, without}
 use Rattle.graph_laws.specs.Kids.{apart, even, moved_out, named_by, odd}
 use Rattle.graph_rewrites.specs.Exchange.{exchanged, swapped}
 use Rattle.graph_joining.specs.inner.Apart.{apart_place}
-use Rattle.graph_joining.specs.inner.Refits.{parted, refitted_by}
-use Rattle.graph_joining.proofs.Commuting.{nodes_both, places_both, set_over, without_map, without_other, without_same}
-use Rattle.graph_joining.proofs.Rereads.{nodes_same, places_same, set_again}
-
--- the one is not the other, and reads neither
-pub record Differ (p q : ℕ) (c : Place) : Type 0 where
-  pub apart : p ≡ q → ⊥
-  pub own : c.node ≡ p → ⊥
-  pub away : c.node ≡ q → ⊥
-
-far : (m n : ℕ) → (m ≡ n → ⊥) → eqb m n ≡ false
-far m n h = not_true (eqb m n) (λ i. h (eqb-true m n i))
+use Rattle.graph_joining.specs.inner.Joined.{Differ}
+use Rattle.graph_joining.specs.inner.Refits.{graph_of, parted, refitted_by}
+use Rattle.graph_joining.proofs.Commuting.{nodes_both, places_both, set_over, without_first, without_map, without_other, without_same}
+use Rattle.graph_joining.proofs.Rereads.{nodes_same, set_again}
+use Rattle.graph_walks.proofs.Rereads.{places_same}
 
 -- ---- places
 
@@ -50,8 +42,8 @@ at_once p q differ c = by (eqb c.node p) (eqb c.node q) refl
         → moved p q (moved_out q odd (cond a (place p (even c.out)) c))
         ≡ cond a (place p (even c.out)) (cond b (place p (odd c.out)) c)
     by true b i =
-        ap (λ (d : Place). moved p q d) (out_far q odd (place p (even c.out)) (far p q differ))
-        ∙ moved_far p q (place p (even c.out)) (far p q differ)
+        ap (λ (d : Place). moved p q d) (out_far q odd (place p (even c.out)) (ne_eqb p q differ))
+        ∙ moved_far p q (place p (even c.out)) (ne_eqb p q differ)
     by false true i =
         ap (λ (d : Place). moved p q d) (out_here q odd c i)
         ∙ moved_here p q (place q (odd c.out)) (eq-eqb q q refl)
@@ -71,7 +63,7 @@ after_exchange p q differ c = by (eqb c.node p) (eqb c.node q) refl refl
         (cond (eqb q p) (place q (odd c.out)) (place q c.out))) (eq-eqb q q refl)
     by false true i j =
         ap₂ (λ (x y : Bool). cond x (place q (even c.out))
-        (cond y (place q (odd c.out)) (place p c.out))) (far p q differ) (eq-eqb p p refl)
+        (cond y (place q (odd c.out)) (place p c.out))) (ne_eqb p q differ) (eq-eqb p p refl)
     by false false i j =
         ap₂ (λ (x y : Bool). cond x (place q (even c.out)) (cond y (place q (odd c.out)) c)) j i
 
@@ -83,14 +75,14 @@ other_at_once p q differ c =
 exchanged_far : (p q : ℕ) (c : Place) → (c.node ≡ p → ⊥) → (c.node ≡ q → ⊥)
     → exchanged p q c ≡ c
 exchanged_far p q c own away =
-    ap₂ (λ (a b : Bool). place (cond a q (cond b p c.node)) c.out) (far c.node p own)
-    (far c.node q away)
+    ap₂ (λ (a b : Bool). place (cond a q (cond b p c.node)) c.out) (ne_eqb c.node p own)
+    (ne_eqb c.node q away)
 
 pub apart_far : (p q n : ℕ) (c : Place) → (c.node ≡ p → ⊥) → (c.node ≡ q → ⊥)
     → apart_place p q n c ≡ c
 apart_far p q n c own away =
     ap₂ (λ (a b : Bool). cond a (place n (even c.out)) (cond b (place n (odd c.out)) c))
-    (far c.node p own) (far c.node q away)
+    (ne_eqb c.node p own) (ne_eqb c.node q away)
 
 -- ---- nodes
 
@@ -133,14 +125,10 @@ joined_apart g p q c d f h all differ =
     let now : Place → Place = apart_place p q p in
     let left : List Entry = without g.nodes q in
     let is : (e : Place) → t (s (r e)) ≡ now e = at_once p q differ.apart in
-    ap₂ (λ (es : List Entry) (cs : List Place). let x : Graph = record {
-      nodes = es;
-      outputs = cs;
-      next = g.next;
-    } in x)
+    ap₂ (λ (es : List Entry) (cs : List Place). graph_of es cs g.next)
     (nodes_joined g.nodes p q c (Pdo c (named_by even f)) (Pdo (r d) (named_by odd h)) all r s t
-    differ.apart (out_far p even c (far c.node p differ.own))
-    (out_far q odd c (far c.node q differ.away))
+    differ.apart (out_far p even c (ne_eqb c.node p differ.own))
+    (out_far q odd c (ne_eqb c.node q differ.away))
     ∙ nodes_same (λ (e : Place). t (s (r e))) now is (set_node left p (Pdo c all))
     ∙ ap (λ (es : List Entry). map (reread_entry now) es)
     (sym (set_again left p (Pdo c Bare) (Pdo c all))))
@@ -157,8 +145,7 @@ joined_swapped g p q c d e f h all differ =
     let x : Place → Place = exchanged p q in
     let now : Place → Place = apart_place p q q in
     let left : List Entry = without g.nodes p in
-    let once : List Entry = set_node g.nodes p (Pdo d h) in
-    let both : List Entry = set_node once q (Pdo c f) in
+    let both : List Entry = set_node (set_node g.nodes p (Pdo d h)) q (Pdo c f) in
     let other : q ≡ p → ⊥ = λ i. differ.apart (sym i) in
     let three : Place → Place = λ k. t (s (r k)) in
     let is : (k : Place) → three (x k) ≡ now k = other_at_once p q differ.apart in
@@ -166,16 +153,12 @@ joined_swapped g p q c d e f h all differ =
     let gone : without (map (reread_entry x) both) p
     ≡ map (reread_entry x) (set_node left q (Pdo c f)) =
     without_map x both p
-    ∙ ap (λ (es : List Entry). map (reread_entry x) es) (without_other once q p (Pdo c f) other
-    ∙ ap (λ (es : List Entry). set_node es q (Pdo c f)) (without_same g.nodes p (Pdo d h))) in
-    ap₂ (λ (es : List Entry) (cs : List Place). let y : Graph = record {
-      nodes = es;
-      outputs = cs;
-      next = g.next;
-    } in y)
+    ∙ ap (λ (es : List Entry). map (reread_entry x) es)
+    (without_first g.nodes p q (Pdo d h) (Pdo c f) other) in
+    ap₂ (λ (es : List Entry) (cs : List Place). graph_of es cs g.next)
     (nodes_joined (map (reread_entry x) both) q p c (Pdo c (named_by even f))
     (Pdo (r e) (named_by odd h)) all r s t other
-    (out_far q even c (far c.node q differ.away)) (out_far p odd c (far c.node p differ.own))
+    (out_far q even c (ne_eqb c.node q differ.away)) (out_far p odd c (ne_eqb c.node p differ.own))
     ∙ ap (λ (es : List Entry). map (reread_entry three) (set_node es q (Pdo c all))) gone
     ∙ ap (λ (es : List Entry). map (reread_entry three) es)
     (set_over x left q (Pdo c f) c all (exchanged_far p q c differ.own differ.away))

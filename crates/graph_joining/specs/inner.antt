@@ -1,3 +1,5 @@
 pub mod Flags
 pub mod Refits
 pub mod Apart
+pub mod Joined
+pub mod Tests

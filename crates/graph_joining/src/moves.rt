@@ -1,7 +1,7 @@
 // Where what is read is read then.
 ghost use Rattle.std.specs.Prelude.{◌≡◌, IfOk};
 ghost use Rattle.exec_graph.specs.Meaning.{place};
-ghost use Rattle.graph_joining.specs.inner.Apart.{place_by};
+ghost use Rattle.graph_joining.specs.inner.Apart.{gone_by, place_by};
 ghost use Rattle.graph_walks.specs.Halves.{half_of};
 
 use exec_graph::Place;
@@ -13,6 +13,7 @@ use std::alloc::AllocError;
 pub(crate) struct Apart {
     pub(crate) keeper: u32,
     pub(crate) other: u32,
+    /// That of one of the two, which the one has that they become.
     pub(crate) number: u32,
 }
 
@@ -25,6 +26,17 @@ pub(crate) struct Placed {
 }
 
 impl Apart {
+    /// The number that is of no node then.
+    pub(crate) fn gone(&self) -> u32
+        ensures { result ≡ gone_by self.now }
+    {
+        if self.number == self.keeper {
+            self.other
+        } else {
+            self.keeper
+        }
+    }
+
     /// Where the collection is.
     #[inline(always)]
     pub(crate) fn place_of(&self, c: Place) -> Result<Place, AllocError>

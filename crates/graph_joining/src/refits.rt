@@ -2,63 +2,66 @@
 ghost use Rattle.std.specs.Prelude.{◌≡◌, ℕ, IfOk, slice_index_or, Some};
 ghost use Rattle.exec_graph.specs.Forests.{Bare, grown};
 ghost use Rattle.exec_graph.specs.Meaning.{node_at};
+ghost use Rattle.exec_graph.specs.Wellformed.{Ascends};
 ghost use Rattle.exec_graph.specs.declared.graph.Node.TheVariants as node;
-ghost use Rattle.graph_laws.specs.Joining.{set_node};
 ghost use Rattle.graph_laws.specs.Kids.{renewed};
-ghost use Rattle.graph_rewrites.specs.Rewrites.{forest_at, input_at};
+ghost use Rattle.graph_rewrites.specs.Rewrites.{forest_at};
 ghost use Rattle.graph_walks.specs.Outs.{place_of};
-ghost use Rattle.graph_joining.specs.inner.Apart.{place_by, rule_of};
-ghost use Rattle.graph_joining.specs.inner.Refits.{parted, refitted_by};
+ghost use Rattle.graph_joining.specs.inner.Apart.{gone_by, place_by, rule_of};
+ghost use Rattle.graph_joining.specs.inner.Joined.{IsOfOne};
+ghost use Rattle.graph_joining.specs.inner.Refits.{parted, refitted_by, with_pdo};
 
 use crate::flags::read_flags;
 use crate::moves::{Apart, Placed};
-use crate::nodes::{emptied, input_at, taken_out, with_node};
+use crate::nodes::{replaced, without_node};
 use exec_graph::{Graph, Node, Place, Roots, Step};
 use flume_value::Pile;
 use graph_walks::{number_table, renumber, reread_nodes, reread_places};
 use std::alloc::{AllocError, Global};
 
-/// A graph in which one Pdo is to stand for two, and the steps of both.
+/// A graph in which one Pdo without steps stands for two, and the steps of both.
 #[derive(Drop)]
 pub(crate) struct Parted {
     pub(crate) graph: Graph,
-    /// Those of the Pdo that is left.
-    pub(crate) stays: Vec<Step>,
-    /// Those of the Pdo that is gone.
-    pub(crate) goes: Vec<Step>,
+    /// Those of the keeper.
+    pub(crate) near: Vec<Step>,
+    /// Those of the other.
+    pub(crate) far: Vec<Step>,
 }
 
-/// What the Pdo of that number reads.
-pub(crate) fn input_in(graph: &Graph, number: u32) -> Place
-    ensures { result ≡ input_at graph.now number }
-{
-    input_at(graph.nodes.as_slice(), number)
-}
-
-/// The graph with a Pdo without steps that reads `input` in place of the one, and without the
-/// other.
-pub(crate) fn take_apart(alloc: Global, graph: Graph, stays: u32, goes: u32, input: Place) -> Parted
-    requires { stays ≡ goes → ⊥ }
-    ensures graph { result.graph ≡ parted graph stays goes input }
-    ensures stays { grown result.stays.items ≡ forest_at graph stays }
-    ensures goes { grown result.goes.items ≡ forest_at graph goes }
+/// The graph with a Pdo without steps that reads `input` in place of both.
+pub(crate) fn take_apart(alloc: Global, graph: Graph, by: Apart, input: Place) -> Parted
+    requires ascends { Ascends graph.nodes }
+    requires differ { by.keeper ≡ by.other → ⊥ }
+    requires number { IsOfOne by }
+    ensures graph { result.graph ≡ parted graph by.number (gone_by by) input }
+    ensures near { grown result.near.items ≡ forest_at graph by.keeper }
+    ensures far { grown result.far.items ≡ forest_at graph by.other }
 {
     let Graph {
         nodes,
         outputs,
         next,
     } = graph;
-    let gone = taken_out(alloc, nodes.into_vec(), goes);
-    let left = emptied(alloc, gone.nodes, stays, input);
+    let near = replaced(alloc, nodes.into_vec(), by.keeper, bare_pdo(alloc, input));
+    let far = replaced(alloc, near.nodes, by.other, bare_pdo(alloc, input));
+    let left = without_node(far.nodes, by.gone());
     Parted {
         graph: Graph {
-            nodes: Pile::from_vec(left.nodes),
+            nodes: Pile::from_vec(left),
             outputs,
             next,
         },
-        stays: left.steps,
-        goes: gone.steps,
+        near: near.steps,
+        far: far.steps,
     }
+}
+
+fn bare_pdo(alloc: Global, input: Place) -> Node
+    ensures { result ≡ node.Pdo input Bare }
+{
+    let roots = Roots::new(Vec::new(alloc));
+    Node::Pdo { input, roots }
 }
 
 /// The Pdo that is left has these steps. What is read of them is kept, and numbered from 0 on.
@@ -69,6 +72,7 @@ pub(crate) fn renewed(
     steps: Vec<Step>,
     by: Apart,
 ) -> Result<Graph, AllocError>
+    requires ascends { Ascends graph.nodes }
     requires here { node_at graph.nodes by.number ≡ Some (node.Pdo input Bare) }
     requires stays { place_by by input ≡ input }
     ensures { IfOk result (λ h. h ≡ renewed
@@ -106,6 +110,7 @@ fn refit(
     roots: Roots,
     by: &Placed,
 ) -> Result<Graph, AllocError>
+    requires { Ascends graph.nodes }
     ensures { IfOk result (λ h.
         h ≡ refitted_by (rule_of by.now) graph by.now.apart.number input roots) }
 {
@@ -113,7 +118,7 @@ fn refit(
         nodes,
         outputs,
         next,
-    } = with_pdo(graph, by.apart.number, input, roots);
+    } = with_pdo(alloc, graph, by.apart.number, input, roots);
     let moved = reread_nodes(alloc, nodes.into_vec(), by)?;
     let told = reread_places(outputs, by)?;
     Ok(Graph {
@@ -124,21 +129,19 @@ fn refit(
 }
 
 /// The graph with a Pdo of that number, and without changes for what was read.
-fn with_pdo(graph: Graph, number: u32, input: Place, roots: Roots) -> Graph
-    ensures { result ≡ record {
-      nodes = set_node graph.nodes number (node.Pdo input roots);
-      outputs = graph.outputs;
-      next = graph.next;
-    } }
+fn with_pdo(alloc: Global, graph: Graph, number: u32, input: Place, roots: Roots) -> Graph
+    requires { Ascends graph.nodes }
+    ensures { result ≡ with_pdo graph number input roots }
 {
     let Graph {
         nodes,
         outputs,
         next,
     } = graph;
-    let changed = with_node(nodes.into_vec(), number, Node::Pdo { input, roots });
+    let pdo = Node::Pdo { input, roots };
+    let changed = replaced(alloc, nodes.into_vec(), number, pdo);
     Graph {
-        nodes: Pile::from_vec(changed),
+        nodes: Pile::from_vec(changed.nodes),
         outputs,
         next,
     }

@@ -7,12 +7,11 @@ use Rattle.exec_graph.specs.Twigs.{twig}
 use Rattle.exec_graph.specs.declared.step.Output.{Output}
 use Rattle.exec_graph.proofs.Bools.{or_false}
 use Rattle.graph_laws.specs.Joining.{beside, grafted}
-use Rattle.graph_laws.specs.Kids.{kept_by, out_kept}
+use Rattle.graph_laws.specs.Kids.{kept_by}
 use Rattle.graph_states.specs.States.{all_but}
-use Rattle.graph_states.proofs.of_graph_names.SpotLemmas.{holds_outs}
 use Rattle.graph_walks.specs.Outs.{out_list, outs}
 use Rattle.graph_walks.specs.inner.Plants.{put_in}
-use Rattle.graph_walks.proofs.Places.{holds}
+use Rattle.graph_walks.proofs.Places.{holds, holds_outs}
 use Rattle.graph_walks.proofs.Relabeling.{step_of}
 use Rattle.graph_joins.specs.inner.Hangs.{Hangs}
 use Rattle.graph_joins.specs.inner.Splices.{spliced}

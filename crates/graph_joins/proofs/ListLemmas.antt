@@ -1,43 +1,26 @@
 -- What is told of the names that Pdos keep, once one took another in.
-use Rattle.std.proofs.Common.{◌≡◌, ◌<◌, ℕ, ◌+◌, suc, Bool, true, false, cond, eqb, ltb, ◌||◌, List, [], ◌∷◌, ◌++◌, take, drop, length, Option, Some, None, refl, sym, ap, ap₂, subst, ◌∙◌, arith}
-use Rattle.std.proofs.lemmas.Bool.{eqb-false, eqb-true, false≢true, ne_eqb}
+use Rattle.std.proofs.Common.{◌≡◌, ℕ, ◌+◌, suc, Bool, true, false, cond, eqb, ltb, ◌||◌, List, [], ◌∷◌, ◌++◌, take, drop, length, Option, Some, None, refl, sym, ap, ap₂, ◌∙◌, arith}
+use Rattle.std.proofs.lemmas.Bool.{eqb-false, eqb-true, false≢true}
 use Rattle.exec_graph.specs.Forests.{Forest}
 use Rattle.exec_graph.specs.Meaning.{has_out, node_at}
 use Rattle.exec_graph.specs.declared.graph.Entry.{Entry}
 use Rattle.exec_graph.specs.declared.graph.Node.{Node}
 use Rattle.exec_graph.specs.declared.graph.Node.TheVariants.{Pdo}
 use Rattle.exec_graph.specs.declared.graph.Place.{Place}
-use Rattle.exec_graph.proofs.Entries.{entry}
 use Rattle.flatten_sink.specs.of_sink_laws.Chain.{forest_of}
+use Rattle.graph_joining.proofs.Commuting.{node_set}
 use Rattle.graph_laws.specs.Joining.{set_node, without}
 use Rattle.graph_laws.specs.Kids.{number_in}
 use Rattle.graph_laws.proofs.Changes.{node_at-without_other}
 use Rattle.graph_laws.proofs.ObjectNodes.{node_without}
 use Rattle.graph_laws.proofs.Wellness.{node_at-set_same}
-use Rattle.graph_states.proofs.of_graph_names.SpotLemmas.{holds_outs}
 use Rattle.graph_walks.specs.Outs.{outs, place_of}
-use Rattle.graph_walks.proofs.Places.{holds, number_place}
+use Rattle.graph_walks.proofs.Places.{holds, holds_outs, number_place}
 use Rattle.graph_joins.specs.inner.Splices.{joined, known, spliced, spliced_at}
 
 -- what is told is so
 abbrev pub Tells : (ℕ → Option (List ℕ)) → List Entry → Type 0
 Tells t es = (p : ℕ) (ns : List ℕ) → t p ≡ Some ns → ns ≡ outs (forest_of (node_at es p))
-
-node_set : (es : List Entry) (p m : ℕ) (x : Node) → eqb m p ≡ false
-    → node_at (set_node es p x) m ≡ node_at es m
-node_set [] p m x far = refl
-node_set (d ∷ es) p m x far = by (eqb d.number p) refl (node_set es p m x far)
-  where
-    by : (b : Bool) → eqb d.number p ≡ b → node_at (set_node es p x) m ≡ node_at es m
-        → node_at (cond b (entry p x ∷ es) (d ∷ set_node es p x)) m
-        ≡ cond (eqb d.number m) (Some d.node) (node_at es m)
-    by true i h =
-        let e : d.number ≡ p = eqb-true d.number p i in
-        let a : eqb p m ≡ false = ne_eqb p m (λ j. eqb-false m p far (sym j)) in
-        ap (λ (b : Bool). cond b (Some x) (node_at es m)) a
-        ∙ ap (λ (b : Bool). cond b (Some d.node) (node_at es m))
-        (sym (subst (λ (n : ℕ). eqb n m ≡ false) (sym e) a))
-    by false i h = ap (λ (o : Option Node). cond (eqb d.number m) (Some d.node) o) h
 
 pub tells_taken : (t u : ℕ → Option (List ℕ)) (es : List Entry) (p q : ℕ) (c : Place)
     (f new : Forest) (o : Option (List ℕ)) → (p ≡ q → ⊥) → Tells t es
@@ -64,7 +47,7 @@ tells_taken t u es p q c f new o differ tells at told is n ns e =
     by false false i j h =
         tells n ns h
         ∙ ap (λ (x : Option Node). outs (forest_of x))
-        (sym (node_set (without es q) p n (Pdo c new) i
+        (sym (node_set (without es q) p n (Pdo c new) (eqb-false n p i)
         ∙ node_without es q n (eqb-false n q j)))
 
 pub tells_more : (t u : ℕ → Option (List ℕ)) (es : List Entry) (q : ℕ) (xs : List ℕ)

@@ -1,18 +1,21 @@
 -- Nodes of which some are taken out.
-use Rattle.std.proofs.Common.{◌≡◌, ℕ, ◌<◌, Bool, true, false, cond, eqb, ltb, List, [], ◌∷◌, length, map, suc, Option, Some, None, refl, sym, ap, subst, ◌∙◌, arith}
+use Rattle.std.proofs.Common.{◌≡◌, ℕ, ◌<◌, Bool, true, false, cond, eqb, ltb, ◌&&◌, List, [], ◌∷◌, length, map, suc, Option, Some, None, refl, sym, ap, ap₂, ◌∙◌, arith}
 use Rattle.std.proofs.lemmas.Bool.{eqb-true, false≢true, lt-ltb}
 use Rattle.std.specs.List.{AllByRecursion}
 use Rattle.exec_graph.specs.Forests.{Forest}
 use Rattle.exec_graph.specs.Meaning.{node_at}
+use Rattle.exec_graph.specs.Readers.{same_place}
 use Rattle.exec_graph.specs.Wellformed.{Ascends, IsNodeOk}
 use Rattle.exec_graph.specs.declared.graph.Entry.{Entry}
 use Rattle.exec_graph.specs.declared.graph.Graph.{Graph}
 use Rattle.exec_graph.specs.declared.graph.Node.{Node}
 use Rattle.exec_graph.specs.declared.graph.Node.TheVariants.{Source, Flatten, Pdo, Gbk, Barrier}
 use Rattle.exec_graph.specs.declared.graph.Place.{Place}
-use Rattle.exec_graph.proofs.Bools.{not_true}
 use Rattle.exec_graph.proofs.Entries.{all_found, entry}
 use Rattle.flatten_sink.specs.of_sink_laws.Chain.{forest_of}
+use Rattle.graph_joining.specs.inner.Refits.{graph_of, with_pdo}
+use Rattle.graph_joining.specs.inner.Tests.{can_sibling}
+use Rattle.graph_joining.proofs.Passes.{pdo_is}
 use Rattle.graph_laws.specs.Joining.{reread, set_node, without}
 use Rattle.graph_laws.proofs.Wellness.{node_at-set_other}
 use Rattle.graph_states.specs.of_graph_names.Names.{named_entry, named_place, with_names}
@@ -60,70 +63,45 @@ node_present (e ∷ es) n a =
 
 -- ---- Pdos stay as they are
 
-pdo_or : (b : Bool) (x : Node) → is_pdo (Some x) ≡ false
-    → is_pdo (cond b (Some x) None) ≡ is_pdo (Some x)
-pdo_or true x h = refl
-pdo_or false x h = sym h
+-- what is told of a node so that it is told of a Flatten as of none
+module _ {X : Type 0} (k : Option Node → X)
+    (same : (ins : List Place) → k None ≡ k (Some (Flatten ins))) where
+  alive_same : (o : Option Node) → k (alive o) ≡ k o
+  alive_same None = refl
+  alive_same (Some (Flatten ins)) = by (ltb 0 (length ins))
+    where
+      by : (b : Bool) → k (cond b (Some (Flatten ins)) None) ≡ k (Some (Flatten ins))
+      by true = refl
+      by false = same ins
+  alive_same (Some _) = refl
 
-alive_pdo : (o : Option Node) → is_pdo (alive o) ≡ is_pdo o
-alive_pdo None = refl
-alive_pdo (Some (Source r)) = refl
-alive_pdo (Some (Flatten ins)) = pdo_or (ltb 0 (length ins)) (Flatten ins) refl
-alive_pdo (Some (Pdo c f)) = refl
-alive_pdo (Some (Gbk c o l k)) = refl
-alive_pdo (Some (Barrier ins o l a)) = refl
-
-input_or : (b : Bool) (ins : List Place)
-    → input_of (cond b (Some (Flatten ins)) None) ≡ input_of (Some (Flatten ins))
-input_or true ins = refl
-input_or false ins = refl
-
-alive_input : (o : Option Node) → input_of (alive o) ≡ input_of o
-alive_input None = refl
-alive_input (Some (Source r)) = refl
-alive_input (Some (Flatten ins)) = input_or (ltb 0 (length ins)) ins
-alive_input (Some (Pdo c f)) = refl
-alive_input (Some (Gbk c o l k)) = refl
-alive_input (Some (Barrier ins o l a)) = refl
-
-forest_or : (b : Bool) (ins : List Place)
-    → forest_of (cond b (Some (Flatten ins)) None) ≡ forest_of (Some (Flatten ins))
-forest_or true ins = refl
-forest_or false ins = refl
-
-alive_forest : (o : Option Node) → forest_of (alive o) ≡ forest_of o
-alive_forest None = refl
-alive_forest (Some (Source r)) = refl
-alive_forest (Some (Flatten ins)) = forest_or (ltb 0 (length ins)) ins
-alive_forest (Some (Pdo c f)) = refl
-alive_forest (Some (Gbk c o l k)) = refl
-alive_forest (Some (Barrier ins o l a)) = refl
+  same_present : (es hs : List Entry) (n : ℕ) → Ascends es → present es ≡ hs
+      → k (node_at es n) ≡ k (node_at hs n)
+  same_present es hs n a e =
+      sym (alive_same (node_at es n)) ∙ ap k (sym (node_present es n a))
+      ∙ ap (λ (l : List Entry). k (node_at l n)) e
 
 pub pdo_present : (es hs : List Entry) (n : ℕ) → Ascends es → present es ≡ hs
     → is_pdo (node_at es n) ≡ is_pdo (node_at hs n)
-pdo_present es hs n a e =
-    sym (alive_pdo (node_at es n)) ∙ ap is_pdo (sym (node_present es n a))
-    ∙ ap (λ (l : List Entry). is_pdo (node_at l n)) e
+pdo_present = same_present is_pdo (λ ins. refl)
 
 pub input_present : (es hs : List Entry) (n : ℕ) → Ascends es → present es ≡ hs
     → input_of (node_at es n) ≡ input_of (node_at hs n)
-input_present es hs n a e =
-    sym (alive_input (node_at es n)) ∙ ap input_of (sym (node_present es n a))
-    ∙ ap (λ (l : List Entry). input_of (node_at l n)) e
+input_present = same_present input_of (λ ins. refl)
 
 pub forest_present : (es hs : List Entry) (n : ℕ) → Ascends es → present es ≡ hs
     → forest_of (node_at es n) ≡ forest_of (node_at hs n)
-forest_present es hs n a e =
-    sym (alive_forest (node_at es n)) ∙ ap forest_of (sym (node_present es n a))
-    ∙ ap (λ (l : List Entry). forest_of (node_at l n)) e
+forest_present = same_present forest_of (λ ins. refl)
 
-pdo_is : (o : Option Node) → is_pdo o ≡ true → o ≡ Some (Pdo (input_of o) (forest_of o))
-pdo_is None h = absurd (false≢true h)
-pdo_is (Some (Source r)) h = absurd (false≢true h)
-pdo_is (Some (Flatten ins)) h = absurd (false≢true h)
-pdo_is (Some (Pdo c f)) h = refl
-pdo_is (Some (Gbk c o l k)) h = absurd (false≢true h)
-pdo_is (Some (Barrier ins o l a)) h = absurd (false≢true h)
+pub sibling_present : (es hs : List Entry) (p q : ℕ) → Ascends es → present es ≡ hs
+    → can_sibling es p q ≡ can_sibling hs p q
+sibling_present es hs p q a e =
+    ap₂ (λ (x y : Bool). ltb p q
+    && (x && (y && same_place (input_of (node_at es p)) (input_of (node_at es q)))))
+    (pdo_present es hs p a e) (pdo_present es hs q a e)
+    ∙ ap₂ (λ (c d : Place). ltb p q
+    && (is_pdo (node_at hs p) && (is_pdo (node_at hs q) && same_place c d)))
+    (input_present es hs p a e) (input_present es hs q a e)
 
 -- ---- a Pdo is taken out, or another
 
@@ -199,7 +177,7 @@ taken_present es hs p q c f a e differ at bt =
     ∙ ap (λ (l : List Entry). without l q) e)
 
 abbrev pub shown : List Entry → List Place → ℕ → Graph
-shown es os n = record { nodes = present es; outputs = os; next = n }
+shown es os n = graph_of (present es) os n
 
 pub taken_shown : (g : Graph) (es js : List Entry) (os : List Place) (n p q : ℕ) (c : Place)
     (f : Forest) → shown es os n ≡ g → Ascends es → (p ≡ q → ⊥)
@@ -207,17 +185,20 @@ pub taken_shown : (g : Graph) (es js : List Entry) (os : List Place) (n p q : �
     → js ≡ taken_over es p q c f → shown js os n ≡ taken_in g p q c f
 taken_shown g es js os n p q c f e a differ at bt is =
     ap (λ (l : List Entry). shown l os n) is
-    ∙ ap (λ (l : List Entry). let x : Graph = record {
-      nodes = l;
-      outputs = os;
-      next = n;
-    } in x)
+    ∙ ap (λ (l : List Entry). graph_of l os n)
     (taken_present es g.nodes p q c f a (ap (λ (x : Graph). x.nodes) e) differ at bt)
-    ∙ ap (λ (x : Graph). let y : Graph = record {
-      nodes = set_node (without g.nodes q) p (Pdo c f);
-      outputs = x.outputs;
-      next = x.next;
-    } in y) e
+    ∙ ap (λ (x : Graph). graph_of (set_node (without g.nodes q) p (Pdo c f)) x.outputs x.next) e
+
+pub set_shown : (g : Graph) (es js : List Entry) (os : List Place) (n p : ℕ) (c : Place)
+    (f : Forest) → shown es os n ≡ g → Ascends es → is_pdo (node_at g.nodes p) ≡ true
+    → js ≡ set_node es p (Pdo c f) → shown js os n ≡ with_pdo g p c f
+set_shown g es js os n p c f e a at is =
+    let one = pdo_is (node_at es p)
+    (pdo_present es g.nodes p a (ap (λ (x : Graph). x.nodes) e) ∙ at) in
+    ap (λ (l : List Entry). shown l os n) is
+    ∙ ap (λ (l : List Entry). graph_of l os n)
+    (set_is es p c (input_of (node_at es p)) f (forest_of (node_at es p)) one)
+    ∙ ap (λ (x : Graph). with_pdo x p c f) e
 
 -- ---- nothing is taken out at the beginning
 

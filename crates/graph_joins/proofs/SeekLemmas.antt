@@ -7,12 +7,11 @@ use Rattle.exec_graph.specs.Meaning.{OutsDiffer, has_out, is_out}
 use Rattle.exec_graph.specs.Twigs.{twig}
 use Rattle.exec_graph.specs.declared.step.Output.{Output}
 use Rattle.graph_laws.specs.Kids.{number_in}
-use Rattle.graph_states.proofs.of_graph_names.SpotLemmas.{holds_outs}
 use Rattle.graph_walks.specs.Outs.{out_list, outs, place_of}
 use Rattle.graph_walks.specs.inner.Numbering.{branch_outs, branches_outs, twig_outs, twigs_outs}
 use Rattle.graph_walks.proofs.InPlace.{left_here}
 use Rattle.graph_walks.proofs.NumberLemmas.{outs_grown}
-use Rattle.graph_walks.proofs.Places.{holds, number_place}
+use Rattle.graph_walks.proofs.Places.{holds, holds_append, holds_outs, number_place}
 use Rattle.graph_joins.specs.inner.Seeks.{is_kth, is_name, seek}
 use Rattle.graph_joins.specs.declared.seeking.Sought.{Sought}
 use Rattle.graph_joins.specs.declared.seeking.Sought.TheVariants.{Found, Behind}
@@ -64,17 +63,26 @@ module _ (os : List Output) (i k : ℕ) where
   outputs_end past =
       ap (λ (ls : List Output). seek (twigs_outs (map twig ls)) k) (sym (drop_all i os past))
 
--- the number at a place
-pub kth_index : (ns : List ℕ) (k d : ℕ) → k < length ns → is_kth ns k (get_or ns k d) ≡ true
-kth_index [] k d lt = let bad : ⊥ = omega arith in absurd bad
-kth_index (n ∷ ns) zero d lt = eq-eqb n n refl
-kth_index (n ∷ ns) (suc k) d lt =
-    let m : ℕ = get_or ns k d in
+-- behind the first
+kth_next : (m : ℕ) (ns : List ℕ) (k n : ℕ) → is_kth (m ∷ ns) (suc k) n ≡ is_kth ns k n
+kth_next m ns k n =
     let z : eqb (suc k) 0 ≡ false =
     ne_eqb (suc k) 0 (λ e. let f : suc k ≡ 0 = e in omega arith) in
     let p : suc k - 1 ≡ k = omega arith in
-    ap (λ (b : Bool). is_name m (cond b (Found n) (seek ns (suc k - 1)))) z
-    ∙ ap (λ (i : ℕ). is_name m (seek ns i)) p ∙ kth_index ns k d (omega arith)
+    ap (λ (b : Bool). is_name n (cond b (Found m) (seek ns (suc k - 1)))) z
+    ∙ ap (λ (i : ℕ). is_name n (seek ns i)) p
+
+-- the number at a place, and none behind the end
+pub kth_told : (ns : List ℕ) (k d n : ℕ) → k < length ns
+    → is_kth ns k n ≡ eqb (get_or ns k d) n
+kth_told [] k d n lt = let bad : ⊥ = omega arith in absurd bad
+kth_told (m ∷ ns) zero d n lt = refl
+kth_told (m ∷ ns) (suc k) d n lt = kth_next m ns k n ∙ kth_told ns k d n (omega arith)
+
+pub kth_behind : (ns : List ℕ) (k n : ℕ) → length ns ≤ k → is_kth ns k n ≡ false
+kth_behind [] k n past = refl
+kth_behind (m ∷ ns) zero n past = let bad : ⊥ = omega arith in absurd bad
+kth_behind (m ∷ ns) (suc k) n past = kth_next m ns k n ∙ kth_behind ns k n (omega arith)
 
 -- an output behind which the walk goes on among the steps on it
 pub twig_sought : (out : Option ℕ) (kids : List Branch) (k m : ℕ) (s : Sought)
@@ -93,15 +101,6 @@ Apart (n ∷ ns) = (holds ns n ≡ false) × Apart ns
 or_true : (b : Bool) → (b || true) ≡ true
 or_true true = refl
 or_true false = refl
-
-holds_append : (xs ys : List ℕ) (j : ℕ) → holds (xs ++ ys) j ≡ (holds xs j || holds ys j)
-holds_append [] ys j = refl
-holds_append (x ∷ xs) ys j = by (eqb x j) (holds_append xs ys j)
-  where
-    by : (b : Bool) → holds (xs ++ ys) j ≡ (holds xs j || holds ys j)
-        → (b || holds (xs ++ ys) j) ≡ ((b || holds xs j) || holds ys j)
-    by true e = refl
-    by false e = e
 
 holds_out : (o : Option ℕ) (j : ℕ) → holds (out_list o) j ≡ true → is_out o j ≡ true
 holds_out None j h = h
@@ -177,3 +176,23 @@ kth_is f k n d h =
     let b : place_of (outs f) n ≡ k = there.place in
     let e : number_in 0 f n ≡ k = omega arith in
     (sym (holds_outs f n) ∙ there.among, e)
+
+-- and the other way round
+kth_placed : (ns : List ℕ) (n : ℕ) → holds ns n ≡ true → is_kth ns (place_of ns n) n ≡ true
+kth_placed [] n h = absurd (false≢true h)
+kth_placed (m ∷ ns) n h = by (eqb m n) refl h (kth_placed ns n)
+  where
+    by : (b : Bool) → eqb m n ≡ b → (b || holds ns n) ≡ true
+        → (holds ns n ≡ true → is_kth ns (place_of ns n) n ≡ true)
+        → is_kth (m ∷ ns) (cond b 0 (suc (place_of ns n))) n ≡ true
+    by true e r f = e
+    by false e r f = kth_next m ns (place_of ns n) n ∙ f r
+
+pub is_told_kth : (f : Forest) (k n : ℕ) → has_out n f ≡ true → number_in 0 f n ≡ k
+    → is_kth (outs f) k n ≡ true
+is_told_kth f k n has number =
+    let a = number_place 0 f n in
+    let b : number_in 0 f n ≡ k = number in
+    let e : place_of (outs f) n ≡ k = omega arith in
+    subst (λ (i : ℕ). is_kth (outs f) i n ≡ true) e
+    (kth_placed (outs f) n (holds_outs f n ∙ has))

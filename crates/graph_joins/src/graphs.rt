@@ -8,9 +8,9 @@ ghost use Rattle.graph_states.specs.of_graph_rewrites.Rewrites.{input_of};
 ghost use Rattle.graph_states.specs.of_pardo_fuse.Readers.{is_pdo};
 ghost use Rattle.graph_joins.specs.Present as spec;
 
-use crate::finding::{input_at, is_pdo_at, steps_at};
 use exec_graph::{Entry, Graph, Node, Place, Step};
 use flume_value::Pile;
+use graph_joining::{input_at, is_pdo_at, steps_at};
 use std::marker::Model;
 
 /// A graph under names. A node that is taken out leaves a Flatten of nothing in its place, so that

@@ -107,8 +107,15 @@ fn hang_output(
     ensures others { IfOk result (λ b. b ≡ false → others.new.items ≡ others.old.items) }
 {
     if rest == 0 {
-        let hung = hang_here(one, output, keep, others)?;
-        return Ok(hung);
+        if !is_out(one.number, output) {
+            return Ok(false);
+        }
+        if !one.kids.is_empty() {
+            return Ok(false);
+        }
+        one.number = kept_out(one.number, keep);
+        one.kids.append(others)?;
+        return Ok(true);
     }
     let next = rest - 1;
     if next >= way.len() {
@@ -129,29 +136,4 @@ fn hang_output(
         others,
     )?;
     Ok(hung)
-}
-
-/// Puts the others on the output, if it has that number and nothing is on it.
-fn hang_here(
-    one: &mut Output,
-    output: u32,
-    keep: bool,
-    others: &mut Vec<Step>,
-) -> Result<bool, AllocError>
-    ensures hangs { IfOk result (λ b. b ≡ true → (s : Branch) (n : ℕ) (f : Forest) →
-        Hangs output keep (grown others.old.items)
-        (Grow (label_at s n (twig one.old)) (twig one.old).kids f)
-        (Grow (label_at s n (twig one.new)) (twig one.new).kids f)) }
-    ensures one { IfOk result (λ b. b ≡ false → twig one.new ≡ twig one.old) }
-    ensures others { IfOk result (λ b. b ≡ false → others.new.items ≡ others.old.items) }
-{
-    if !is_out(one.number, output) {
-        return Ok(false);
-    }
-    if !one.kids.is_empty() {
-        return Ok(false);
-    }
-    one.number = kept_out(one.number, keep);
-    one.kids.append(others)?;
-    Ok(true)
 }

@@ -12,12 +12,10 @@
 #![tactic(auto)]
 
 mod counts;
-mod finding;
 mod graphs;
 mod hanging;
 mod lists;
 mod names;
-mod nodes;
 mod putting;
 mod seeking;
 mod session;

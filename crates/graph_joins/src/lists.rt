@@ -1,5 +1,5 @@
 // The names that Pdos keep, as far as they are told.
-ghost use Rattle.std.specs.Prelude.{◌≡◌, ◌≢◌, ◌++◌, ◌<◌, ◌==◌, ℕ, cond, IfOk, None, nat_eq, OnOk, Some, true};
+ghost use Rattle.std.specs.Prelude.{◌≡◌, ◌≢◌, ◌++◌, ◌<◌, ◌==◌, ℕ, cond, IfOk, None, nat_eq, OnOk, Some};
 ghost use Rattle.std.specs.HashMap.{get};
 ghost use Rattle.exec_graph.specs.Forests.{grown};
 ghost use Rattle.exec_graph.specs.Twigs.{twig};
@@ -12,12 +12,13 @@ ghost use Rattle.graph_joins.specs.inner.Splices as spec;
 use crate::graphs::NamedGraph;
 use crate::names::Names;
 use exec_graph::{Output, Step};
+use graph_joining::Kid;
 use std::alloc::{AllocError, Global};
 use std::collections::HashMap;
 
 /// Whether the name stands there, counted from 0 on.
 pub(crate) fn is_listed(names: &Names, number: u32, name: u32) -> bool
-    ensures { result ≡ true → is_kth names.now number name ≡ true }
+    ensures { result ≡ is_kth names.now number name }
 {
     match names.get(number as usize) {
         Some(other) => other == name,
@@ -85,25 +86,24 @@ pub(crate) fn unlist(keeper: u32, other: u32, lists: &mut HashMap<u32, Names>)
 /// Tells of the keeper what it keeps with the reader on that output, if both were told of and no
 /// steps were on it, and of the reader no more.
 pub(crate) fn relist(
-    keeper: u32,
-    output: u32,
+    kid: Kid,
     keep: bool,
-    reader: u32,
     is_bare: bool,
     lists: &mut HashMap<u32, Names>,
 ) -> Result<(), AllocError>
-    requires { keeper ≢ reader }
-    ensures { OnOk result ((n : ℕ) → get nat_eq lists.new n ≡ cond (n == keeper)
-        (spec.known is_bare (spec.joined output keep (get nat_eq lists.old keeper)
-        (get nat_eq lists.old reader))) (cond (n == reader) None (get nat_eq lists.old n))) }
+    requires { kid.keeper ≢ kid.reader }
+    ensures { OnOk result ((n : ℕ) → get nat_eq lists.new n ≡ cond (n == kid.keeper)
+        (spec.known is_bare (spec.joined kid.output keep (get nat_eq lists.old kid.keeper)
+        (get nat_eq lists.old kid.reader)))
+        (cond (n == kid.reader) None (get nat_eq lists.old n))) }
 {
-    let more = lists.remove(&reader);
-    let own = lists.remove(&keeper);
+    let more = lists.remove(&kid.reader);
+    let own = lists.remove(&kid.keeper);
     if !is_bare {
         return Ok(());
     }
-    if let Some(names) = joined(own, output, keep, more)? {
-        lists.insert(keeper, names)?;
+    if let Some(names) = joined(own, kid.output, keep, more)? {
+        lists.insert(kid.keeper, names)?;
     }
     Ok(())
 }

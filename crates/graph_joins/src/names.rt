@@ -1,5 +1,5 @@
 // Names in order, in blocks: some come between two others without a move of all behind.
-ghost use Rattle.std.specs.Prelude.{◌≡◌, ◌<◌, ◌≤◌, ◌+◌, ◌++◌, length, take, slice_index_or, IfOk, IfSome, None, OnOk, OnSome, Some};
+ghost use Rattle.std.specs.Prelude.{◌≡◌, ◌<◌, ◌≤◌, ◌+◌, ◌++◌, length, take, slice_index_or, IfNone, IfOk, IfSome, None, OnOk, OnSome, Some};
 ghost use Rattle.graph_joins.specs.Blocks.{names_in};
 ghost use Rattle.graph_joins.specs.declared.names.Block.{Block as GhostBlock};
 ghost use Rattle.graph_joins.specs.inner.Splices as spec;
@@ -64,6 +64,7 @@ impl Names {
     pub(crate) fn get(&self, at: usize) -> Option<u32>
         ensures within { OnSome result (at < length self.now) }
         ensures value { IfSome result (λ n. n ≡ slice_index_or self.now at n) }
+        ensures none { IfNone result (length self.now ≤ at) }
     {
         name_at(self.blocks.as_slice(), at)
     }
@@ -118,6 +119,7 @@ fn place_behind(names: &[u32], name: u32, before: usize) -> Option<u32> {
 fn name_at(blocks: &[Block], at: usize) -> Option<u32>
     ensures within { OnSome result (at < length (names_in blocks.now)) }
     ensures value { IfSome result (λ n. n ≡ slice_index_or (names_in blocks.now) at n) }
+    ensures none { IfNone result (length (names_in blocks.now) ≤ at) }
 {
     match spot_of(blocks, at) {
         Some(spot) => Some(blocks[spot.block].names[spot.behind]),

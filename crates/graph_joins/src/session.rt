@@ -1,5 +1,5 @@
 // Pdos become one under names, one after another.
-ghost use Rattle.std.specs.Prelude.{◌≡◌, IfOk, IfSome, true};
+ghost use Rattle.std.specs.Prelude.{◌≡◌, ◌↔◌, ℕ, IfNone, IfOk, IfSome, IsTrue};
 ghost use Rattle.exec_graph.specs.Meaning.{node_at};
 ghost use Rattle.exec_graph.specs.Wellformed.{IsGraphOk};
 ghost use Rattle.graph_states.specs.of_graph_names.Names.{unnamed};
@@ -22,6 +22,7 @@ use crate::seeking::is_output;
 use crate::taking::{hung, paired};
 use crate::ways::{Ways, note_kid, note_sibling, ways_of};
 use exec_graph::{Graph, Place};
+use graph_joining::{Kid, can_sibling};
 use graph_states::graph_names::{named, unnamed};
 use std::alloc::{AllocError, Global};
 use std::collections::HashMap;
@@ -83,9 +84,9 @@ pub fn end(alloc: Global, joins: Joins) -> Result<Graph, AllocError>
 /// Whether both are Pdos that read one collection, and the other has the greater number.
 pub fn is_pair(joins: &Joins, keeper: u32, other: u32) -> bool
     requires { spec.IsSession joins.now }
-    ensures { result ≡ true → spec.ArePair joins.now.graph keeper other }
+    ensures { IsTrue result ↔ spec.ArePair joins.now.graph keeper other }
 {
-    pairs(&joins.graph, keeper, other)
+    can_sibling(joins.graph.entries(), keeper, other)
 }
 
 /// The roots of the Pdo `other` follow those of `keeper`, which reads the same.
@@ -120,17 +121,26 @@ pub fn with_sibling(
     })
 }
 
-/// The name of that output of `keeper`, if `reader` is a Pdo of greater number that reads it.
-pub fn read_name(joins: &Joins, keeper: u32, output: u32, reader: u32) -> Option<u32>
+/// The name of the keeper's output, if the reader is a Pdo of greater number that reads it.
+pub fn read_name(joins: &Joins, kid: Kid) -> Option<u32>
     requires { spec.IsSession joins.now }
-    ensures { IfSome result (λ n. spec.IsReader joins.now.graph keeper output reader n) }
+    ensures some { IfSome result (λ n.
+        spec.IsReader joins.now.graph kid.keeper kid.output kid.reader n) }
+    ensures none { IfNone result ((n : ℕ) →
+        spec.IsReader joins.now.graph kid.keeper kid.output kid.reader n → ⊥) }
 {
     let graph = &joins.graph;
-    let read = graph.input(reader);
-    if !reads(graph, keeper, reader, read) {
+    let read = graph.input(kid.reader);
+    if !reads(graph, kid.keeper, kid.reader, read) {
         return None;
     }
-    if is_told(&joins.tables.lists, graph, keeper, output, read.node) {
+    if is_told(
+        &joins.tables.lists,
+        graph,
+        kid.keeper,
+        kid.output,
+        read.node,
+    ) {
         Some(read.node)
     } else {
         None
@@ -146,8 +156,8 @@ fn is_told(
     name: u32,
 ) -> bool
     requires { HasLists lists.now graph.now.nodes }
-    ensures { result ≡ true
-        → is_kth (outs (forest_of (node_at graph.now.nodes keeper))) output name ≡ true }
+    ensures { result
+        ≡ is_kth (outs (forest_of (node_at graph.now.nodes keeper))) output name }
 {
     match lists.get(&keeper) {
         Some(names) => is_listed(names, output, name),
@@ -155,67 +165,36 @@ fn is_told(
     }
 }
 
-/// The roots of the Pdo `reader` become the last kids of that output of `keeper`, which it reads.
-pub fn with_kid(
-    alloc: Global,
-    joins: Joins,
-    keeper: u32,
-    output: u32,
-    reader: u32,
-    name: u32,
-) -> Result<Joins, AllocError>
+/// The roots of the reader become the last kids of that output of the keeper, which has that name.
+pub fn with_kid(alloc: Global, joins: Joins, kid: Kid, name: u32) -> Result<Joins, AllocError>
     requires session { spec.IsSession joins }
-    requires reads { spec.IsReader joins.graph keeper output reader name }
+    requires reads { spec.IsReader joins.graph kid.keeper kid.output kid.reader name }
     ensures session { IfOk result (λ j. spec.IsSession j) }
     ensures can { IfOk result (λ j.
-        rewrites.CanBeKid (unnamed joins.graph) keeper output reader) }
+        rewrites.CanBeKid (unnamed joins.graph) kid.keeper kid.output kid.reader) }
     ensures made { IfOk result (λ j. unnamed j.graph
-        ≡ rewrites.after_kid (unnamed joins.graph) keeper output reader) }
+        ≡ rewrites.after_kid (unnamed joins.graph) kid.keeper kid.output kid.reader) }
 {
     let Joins { graph, mut tables } = joins;
     let read = Place { node: name, out: 0 };
     count_off(read, &mut tables.counts)?;
     let keep = 0 < count_at(&tables.counts, read);
-    list_both(alloc, &graph, keeper, reader, &mut tables.lists)?;
-    let taken = hung(alloc, graph, keeper, reader, name, keep, &tables.ways)?;
-    note_kid(reader, name, &mut tables.ways)?;
-    relist(
-        keeper,
-        output,
+    list_both(alloc, &graph, kid.keeper, kid.reader, &mut tables.lists)?;
+    let taken = hung(
+        alloc,
+        graph,
+        kid.keeper,
+        kid.reader,
+        name,
         keep,
-        reader,
-        taken.is_bare,
-        &mut tables.lists,
+        &tables.ways,
     )?;
+    note_kid(kid.reader, name, &mut tables.ways)?;
+    relist(kid, keep, taken.is_bare, &mut tables.lists)?;
     Ok(Joins {
         graph: taken.graph,
         tables,
     })
-}
-
-// ---- tests
-
-fn pairs(graph: &NamedGraph, keeper: u32, other: u32) -> bool
-    ensures { result ≡ tests.pairs graph.now.nodes keeper other }
-{
-    if keeper >= other {
-        return false;
-    }
-    if !graph.is_pdo(keeper) {
-        return false;
-    }
-    calls_at(graph, other, graph.input(keeper))
-}
-
-/// Whether the node of that number is a Pdo that reads the collection.
-fn calls_at(graph: &NamedGraph, number: u32, c: Place) -> bool
-    ensures { result ≡ tests.calls_at c (node_at graph.now.nodes number) }
-{
-    if !graph.is_pdo(number) {
-        return false;
-    }
-    let input = graph.input(number);
-    c.node == input.node && c.out == input.out
 }
 
 /// Whether both are Pdos, and the reader has the greater number and reads a name.

@@ -1,11 +1,11 @@
 -- A Pdo whose unread outputs are dropped, and whose others are numbered anew, makes a graph
 -- well-formed that was so but for its forest.
-use Rattle.std.proofs.Common.{◌≡◌, ℕ, Bool, true, false, eqb, Some, None, inl, refl, sym, ap, ◌∙◌, subst}
+use Rattle.std.proofs.Common.{◌≡◌, ℕ, Bool, true, false, eqb, Some, inl, refl, sym, ap, ◌∙◌, subst}
 use Rattle.std.proofs.lemmas.Bool.{eqb-true, eq-eqb, false≢true}
 use Rattle.combine_table.proofs.of_flume_value.EachLemmas.{Each-both}
 use Rattle.exec_graph.specs.declared.graph.Place.{Place}
 use Rattle.exec_graph.specs.declared.graph.Node.{Node}
-use Rattle.exec_graph.specs.declared.graph.Node.TheVariants.{Source, Flatten, Pdo, Gbk, Barrier}
+use Rattle.exec_graph.specs.declared.graph.Node.TheVariants.{Flatten, Pdo, Gbk}
 use Rattle.exec_graph.specs.declared.graph.Entry.{Entry}
 use Rattle.exec_graph.specs.declared.graph.Graph.{Graph}
 use Rattle.exec_graph.specs.Forests.{Forest, numbered}
@@ -20,7 +20,6 @@ use Rattle.graph_laws.proofs.Roots.{numbered_twice, root_kept, root_numbered, st
 node_formed : (g : Graph) (p : ℕ) (c : Place) (f : Forest) (n : ℕ) (x : Node)
     → node_at g.nodes p ≡ Some (Pdo c f) → IsForestOk g p f → NearNode p p g n x
     → node_at g.nodes n ≡ Some x → IsNodeOk g n x
-node_formed g p c f n (Source r) at ok a e = tt
 node_formed g p c f n (Flatten ins) at ok a e = a
 node_formed g p c f n (Pdo d h) at ok a e = by (eqb n p) refl
   where
@@ -33,9 +32,8 @@ node_formed g p c f n (Pdo d h) at ok a e = by (eqb n p) refl
         subst (λ (m : ℕ). IsForestOk g m h) (sym is) (subst (IsForestOk g p) same ok)
     by false q =
         let apart : n ≡ p → ⊥ = λ i. false≢true (sym q ∙ eq-eqb n p i) in a (apart, apart)
-node_formed g p c f n (Gbk d o l None) at ok a e = tt
 node_formed g p c f n (Gbk d o l (Some k)) at ok a e = a
-node_formed g p c f n (Barrier ins o l i) at ok a e = tt
+node_formed g p c f n _ at ok a e = tt
 
 pub formed : (g : Graph) (p : ℕ) (c : Place) (f : Forest) → IsSound g
     → node_at g.nodes p ≡ Some (Pdo c f) → IsForestOk g p f → IsNear p p g → IsGraphOk g

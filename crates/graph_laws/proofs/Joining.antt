@@ -14,7 +14,7 @@ use Rattle.exec_graph.specs.of_flume_collection.declared.trap.Trap.{Trap}
 use Rattle.exec_graph.specs.of_flume_collection.Traps.{trap_le}
 use Rattle.exec_graph.proofs.of_flume_collection.Bagging.{Swaps, gather-append, gather-gather}
 use Rattle.exec_graph.proofs.of_flume_collection.Orders.{bags, sets, one_bag}
-use Rattle.exec_graph.specs.Forests.{Label, Forest, Bare, Grow}
+use Rattle.exec_graph.specs.Forests.{Label, Forest, Bare, Grow, with_out}
 use Rattle.graph_laws.specs.Joining.{beside, grafted, HasOne, set_node, without, moved, reread, reread_entry, joined_into, CanJoin, as_kid, as_sibling}
 use Rattle.exec_graph.proofs.Entries.{entry, all_map, all_found, flat_map_alike}
 use Rattle.graph_laws.proofs.Changes.{all_set, all_without, all_set_others, differ_without, node_at-without_other, sum_set, sum_at}
@@ -27,6 +27,33 @@ use Rattle.exec_graph.proofs.Bools.{or_left, or_right, or_false, not_true}
 use Rattle.exec_graph.proofs.Solving.{kept_value}
 use Rattle.combine_table.proofs.of_flume_value.EachLemmas.{Each-both, Each-weaker}
 
+-- the outputs of a forest are changed one by one
+pub record Relabels (out : Option ℕ → Option ℕ) (new : Forest → Forest) : Type 0 where
+  pub bare : new Bare ≡ Bare
+  pub grow : (l : Label) (kids rest : Forest)
+      → new (Grow l kids rest) ≡ Grow (with_out (out l.out) l) (new kids) (new rest)
+
+-- where it fits at one output, it fits at all
+pub fits_relabelled : (w : World) (m k : Place → Collection) (n i : ℕ) (r : ℕ → ℕ)
+    (out : Option ℕ → Option ℕ) (new : Forest → Forest) → Relabels out new
+    → ((o : Option ℕ) (u : Collection)
+    → ((j : ℕ) → is_out o j ≡ true → k (place i (r j)) ≡ m (place n j)) → IsKept m n o u
+    → IsKept k i (out o) u) → (v : Collection) (f : Forest)
+    → ((j : ℕ) → has_out j f ≡ true → k (place i (r j)) ≡ m (place n j)) → FitsForest w m n v f
+    → FitsForest w k i v (new f)
+fits_relabelled w m k n i r out new is one v Bare h a =
+    subst (FitsForest w k i v) (sym is.bare) tt
+fits_relabelled w m k n i r out new is one v (Grow l kids rest) h a =
+    subst (FitsForest w k i v) (sym (is.grow l kids rest)) (
+      one l.out (through w l v) (λ j p. h j
+          (or_left (is_out l.out j) (has_out j kids || has_out j rest) p)) a.0,
+      fits_relabelled w m k n i r out new is one (through w l v) kids (λ j p. h j
+          (or_right (is_out l.out j) (has_out j kids || has_out j rest)
+          (or_left (has_out j kids) (has_out j rest) p))) a.1,
+      fits_relabelled w m k n i r out new is one v rest (λ j p. h j (or_right (is_out l.out j)
+          (has_out j kids || has_out j rest) (or_right (has_out j kids) (has_out j rest) p))) a.2,
+    )
+
 kept_moved : (m k : Place → Collection) (n i : ℕ) (o : Option ℕ) (u : Collection)
     → ((j : ℕ) → is_out o j ≡ true → k (place i j) ≡ m (place n j)) → IsKept m n o u
     → IsKept k i o u
@@ -37,16 +64,9 @@ kept_moved m k n i (Some j) u h a = h j (eq-eqb j j refl) ∙ a
 pub fits_moved : (w : World) (m k : Place → Collection) (n i : ℕ) (v : Collection) (f : Forest)
     → ((j : ℕ) → has_out j f ≡ true → k (place i j) ≡ m (place n j)) → FitsForest w m n v f
     → FitsForest w k i v f
-fits_moved w m k n i v Bare h a = tt
-fits_moved w m k n i v (Grow l kids rest) h a = (
-  kept_moved m k n i l.out (through w l v) (λ j p. h j
-      (or_left (is_out l.out j) (has_out j kids || has_out j rest) p)) a.0,
-  fits_moved w m k n i (through w l v) kids (λ j p. h j
-      (or_right (is_out l.out j) (has_out j kids || has_out j rest)
-      (or_left (has_out j kids) (has_out j rest) p))) a.1,
-  fits_moved w m k n i v rest (λ j p. h j (or_right (is_out l.out j)
-      (has_out j kids || has_out j rest) (or_right (has_out j kids) (has_out j rest) p))) a.2,
-)
+fits_moved w m k n i =
+    fits_relabelled w m k n i (λ j. j) (λ o. o) (λ f. f)
+    (record { bare = refl; grow = λ l kids rest. refl }) (kept_moved m k n i)
 
 fits_beside : (w : World) (m : Place → Collection) (n : ℕ) (v : Collection) (f g : Forest)
     → FitsForest w m n v f → FitsForest w m n v g → FitsForest w m n v (beside f g)

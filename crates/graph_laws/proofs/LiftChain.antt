@@ -9,7 +9,7 @@ use Rattle.exec_graph.specs.Meaning.{AllDiffer, HasOuts, IsSound, IsThere, SameM
 use Rattle.exec_graph.specs.Readers.{among, any_node, calls_on, collects, readers}
 use Rattle.exec_graph.specs.declared.graph.Place.{Place}
 use Rattle.exec_graph.specs.declared.graph.Node.{Node}
-use Rattle.exec_graph.specs.declared.graph.Node.TheVariants.{Source, Flatten, Pdo, Gbk, Barrier}
+use Rattle.exec_graph.specs.declared.graph.Node.TheVariants.{Source, Gbk}
 use Rattle.exec_graph.specs.declared.graph.Entry.{Entry}
 use Rattle.exec_graph.specs.declared.graph.Graph.{Graph}
 use Rattle.exec_graph.proofs.Bools.{or_right}
@@ -35,10 +35,7 @@ differ-marked s (e ∷ es) a = (
 
 outs-marked : (h : Option Comb → Option Comb) (x : Node) → HasOuts x → HasOuts (marked h x)
 outs-marked h (Source r) a = a
-outs-marked h (Flatten ins) a = a
-outs-marked h (Pdo c f) a = a
-outs-marked h (Gbk c o l k) a = a
-outs-marked h (Barrier ins o l i) a = a
+outs-marked h _ a = a
 
 pub IsSound-remarked : (s : Marks) (g : Graph) → IsSound g → IsSound (remarked s g)
 IsSound-remarked s g ok =
@@ -98,10 +95,7 @@ lift_marked s g n =
 marked_twice : (h i : Option Comb → Option Comb) (x : Node)
     → marked h (marked i x) ≡ marked (λ k. h (i k)) x
 marked_twice h i (Source r) = refl
-marked_twice h i (Flatten ins) = refl
-marked_twice h i (Pdo c f) = refl
-marked_twice h i (Gbk c o l k) = refl
-marked_twice h i (Barrier ins o l a) = refl
+marked_twice h i _ = refl
 
 abbrev entry_of : ℕ → Node → Entry
 entry_of n x = record { number = n; node = x }
@@ -121,12 +115,9 @@ remarked_twice : (s t : Marks) (g : Graph)
     → remarked s (remarked t g) ≡ remarked (λ m k. s m (t m k)) g
 remarked_twice s t g = ap (graph_with g) (nodes_twice s t g.nodes)
 
-marked_none : (x : Node) → marked (λ k. k) x ≡ x
+pub marked_none : (x : Node) → marked (λ k. k) x ≡ x
 marked_none (Source r) = refl
-marked_none (Flatten ins) = refl
-marked_none (Pdo c f) = refl
-marked_none (Gbk c o l k) = refl
-marked_none (Barrier ins o l a) = refl
+marked_none _ = refl
 
 nodes_none : (es : List Entry) → map (marked_entry (λ m k. k)) es ≡ es
 nodes_none [] = refl
@@ -193,11 +184,8 @@ lead_by g h (n ∷ ns) same a =
 -- ---- all that may be lifted
 
 abbrev pub is_group : Node → Bool
-is_group (Source r) = false
-is_group (Flatten ins) = false
-is_group (Pdo c f) = false
 is_group (Gbk c o l k) = true
-is_group (Barrier ins o l a) = false
+is_group _ = false
 
 abbrev pub may_lift : Graph → Entry → Bool
 may_lift g e = is_group e.node && is_some (lift_of g e.number)
@@ -208,16 +196,13 @@ all_lifts g (e ∷ es) = cond (may_lift g e) (e.number ∷ all_lifts g es) (all_
 
 may_by : (g : Graph) (n : ℕ) (x : Node) (o : Option Comb) → lift_of g n ≡ o
     → node_at g.nodes n ≡ Some x → (is_group x && is_some o) ≡ true → MayLift g g n
-may_by g n (Source r) o e h t = absurd (false≢true t)
-may_by g n (Flatten ins) o e h t = absurd (false≢true t)
-may_by g n (Pdo c f) o e h t = absurd (false≢true t)
 may_by g n (Gbk c i l k) None e h t = absurd (false≢true t)
 may_by g n (Gbk c i l k) (Some q) e h t = record {
   group = record { input = c; origin = i; last = l; mark = k; gbk = h };
   comb = q;
   may = e;
 }
-may_by g n (Barrier ins i l a) o e h t = absurd (false≢true t)
+may_by g n _ o e h t = absurd (false≢true t)
 
 each_may_by : (g : Graph) (n : ℕ) (ns : List ℕ) (b : Bool) → (b ≡ true → MayLift g g n)
     → AllByRecursion (MayLift g g) ns → AllByRecursion (MayLift g g) (cond b (n ∷ ns) ns)
@@ -303,12 +288,9 @@ group_lifted g n c i l k (Some q) ns e ok f = is_listed g ns n k (f refl)
 node_lifted : (g : Graph) (n : ℕ) (x : Node) (ns : List ℕ) → IsNodeOk g n x
     → ((is_group x && is_some (lift_of g n)) ≡ true → listed n ns ≡ true)
     → marked (by_list g ns n) x ≡ marked (λ k. lift_of g n) x
-node_lifted g n (Source r) ns ok f = refl
-node_lifted g n (Flatten ins) ns ok f = refl
-node_lifted g n (Pdo c h) ns ok f = refl
 node_lifted g n (Gbk c i l k) ns ok f =
     ap (Gbk c i l) (group_lifted g n c i l k (lift_of g n) ns refl ok f)
-node_lifted g n (Barrier ins i l a) ns ok f = refl
+node_lifted g n _ ns ok f = refl
 
 nodes_lifted : (g : Graph) (ns : List ℕ) (es : List Entry)
     → AllByRecursion (λ e. marked (by_list g ns e.number) e.node

@@ -30,80 +30,50 @@ use Rattle.combine_table.proofs.of_flume_value.EachLemmas.{Each-weaker}
 -- ---- what does not see a mark
 pub reads-marked : (h : Option Comb → Option Comb) (x : Node) → reads (marked h x) ≡ reads x
 reads-marked h (Source r) = refl
-reads-marked h (Flatten ins) = refl
-reads-marked h (Pdo c f) = refl
-reads-marked h (Gbk c o l k) = refl
-reads-marked h (Barrier ins o l a) = refl
+reads-marked h _ = refl
 
 own-marked : (w : World) (m : Place → Collection) (i : ℕ) (h : Option Comb → Option Comb) (x : Node)
     → own w m i (marked h x) ≡ own w m i x
 own-marked w m i h (Source r) = refl
-own-marked w m i h (Flatten ins) = refl
-own-marked w m i h (Pdo c f) = refl
-own-marked w m i h (Gbk c o l k) = refl
-own-marked w m i h (Barrier ins o l a) = refl
+own-marked w m i h _ = refl
 
 traps-marked : (w : World) (m : Place → Collection) (h : Option Comb → Option Comb) (x : Node)
     → traps w m (marked h x) ≡ traps w m x
 traps-marked w m h (Source r) = refl
-traps-marked w m h (Flatten ins) = refl
-traps-marked w m h (Pdo c f) = refl
-traps-marked w m h (Gbk c o l k) = refl
-traps-marked w m h (Barrier ins o l a) = refl
+traps-marked w m h _ = refl
 
 holds-marked : (w : World) (m : Place → Collection) (n : ℕ) (h : Option Comb → Option Comb)
     (x : Node) → Holds w m n x → Holds w m n (marked h x)
 holds-marked w m n h (Source r) a = a
-holds-marked w m n h (Flatten ins) a = a
-holds-marked w m n h (Pdo c f) a = a
-holds-marked w m n h (Gbk c o l k) a = a
-holds-marked w m n h (Barrier ins o l i) a = a
+holds-marked w m n h _ a = a
 
 gives-marked : (h : Option Comb → Option Comb) (x : Node) (j : ℕ) → gives (marked h x) j ≡ gives x j
 gives-marked h (Source r) j = refl
-gives-marked h (Flatten ins) j = refl
-gives-marked h (Pdo c f) j = refl
-gives-marked h (Gbk c o l k) j = refl
-gives-marked h (Barrier ins o l a) j = refl
+gives-marked h _ j = refl
 
 size-marked : (h : Option Comb → Option Comb) (x : Node) → size (marked h x) ≡ size x
 size-marked h (Source r) = refl
-size-marked h (Flatten ins) = refl
-size-marked h (Pdo c f) = refl
-size-marked h (Gbk c o l k) = refl
-size-marked h (Barrier ins o l a) = refl
+size-marked h _ = refl
 
 pub calls-marked : (c : Place) (h : Option Comb → Option Comb) (x : Node)
     → calls_on c (marked h x) ≡ calls_on c x
 calls-marked c h (Source r) = refl
-calls-marked c h (Flatten ins) = refl
-calls-marked c h (Pdo d f) = refl
-calls-marked c h (Gbk d o l k) = refl
-calls-marked c h (Barrier ins o l a) = refl
+calls-marked c h _ = refl
 
 pub collects-marked : (c : Place) (h : Option Comb → Option Comb) (x : Node)
     → collects c (marked h x) ≡ collects c x
 collects-marked c h (Source r) = refl
-collects-marked c h (Flatten ins) = refl
-collects-marked c h (Pdo d f) = refl
-collects-marked c h (Gbk d o l k) = refl
-collects-marked c h (Barrier ins o l a) = refl
+collects-marked c h _ = refl
 
 root-marked : (h : Option Comb → Option Comb) (x : Node)
     → comb_at (Some (marked h x)) ≡ comb_at (Some x)
 root-marked h (Source r) = refl
-root-marked h (Flatten ins) = refl
-root-marked h (Pdo d f) = refl
-root-marked h (Gbk d o l i) = refl
-root-marked h (Barrier ins o l a) = refl
+root-marked h _ = refl
 
 object-marked : (h : Option Comb → Option Comb) (x : Node)
     → is_object (Some (marked h x)) ≡ is_object (Some x)
 object-marked h (Source r) = refl
-object-marked h (Flatten ins) = refl
-object-marked h (Pdo d f) = refl
-object-marked h (Gbk d o l i) = refl
-object-marked h (Barrier ins o l a) = refl
+object-marked h _ = refl
 
 -- ---- lists of nodes
 abbrev pub marked_at : (Option Comb → Option Comb) → Option Node → Option Node
@@ -246,15 +216,12 @@ object_at-marked h (Some x) = object-marked h x
 objects-marked : (s : ℕ → Option Comb → Option Comb) (es : List Entry) (h : Option Comb
     → Option Comb) (x : Node) → has_objects es x ≡ true
     → has_objects (map (marked_entry s) es) (marked h x) ≡ true
-objects-marked s es h (Source r) a = a
-objects-marked s es h (Flatten ins) a = a
-objects-marked s es h (Pdo c f) a = a
-objects-marked s es h (Gbk c o l k) a = a
 objects-marked s es h (Barrier ins o l i) a =
     ap (takes_such i) (map_same (is_object_at (map (marked_entry s) es)) (is_object_at es)
     (λ c. ap is_object (node_at-marked s es c.node)
     ∙ object_at-marked (s c.node) (node_at es c.node)) ins)
     ∙ a
+objects-marked s es h _ a = a
 
 HaveObjects-remarked : (s : ℕ → Option Comb → Option Comb) (g : Graph) → HaveObjects g.nodes
     → HaveObjects (map (marked_entry s) g.nodes)
@@ -305,10 +272,7 @@ IsGraphOk-remarked s g h ok =
 typed_marked : (s : Signatures) (types : Place → Ty) (n : ℕ) (h : Option Comb → Option Comb)
     (x : Node) → NodeTyped s types n x → NodeTyped s types n (marked h x)
 typed_marked s types n h (Source r) a = a
-typed_marked s types n h (Flatten ins) a = a
-typed_marked s types n h (Pdo c f) a = a
-typed_marked s types n h (Gbk c o l k) a = a
-typed_marked s types n h (Barrier ins o l i) a = a
+typed_marked s types n h _ a = a
 
 pub KeepsTypes-remarked : (marks : ℕ → Option Comb → Option Comb) (g : Graph)
     → KeepsTypes g (remarked marks g)

@@ -21,6 +21,7 @@ use Rattle.graph_laws.proofs.Changes.{all_set, all_set_others, all_without, diff
 use Rattle.graph_laws.proofs.Nearly.{IsFar, IsNear, NearNode, Spares, among_spared, calls_spared, collects_spared, comb_mapped, comb_set, near_reread, uses_spared}
 use Rattle.graph_laws.proofs.Reading.{any_here, any_map, any_set, any_without, ascends_map, ascends_set, ascends_without, size_map, size_set, size_without, those_has, those_map, those_not, those_set, those_without}
 use Rattle.graph_laws.proofs.ObjectNodes.{node_without, objects_joined}
+use Rattle.graph_laws.proofs.Setting.{node_set}
 use Rattle.graph_laws.proofs.Wellness.{node_at-map, node_at-set_same}
 
 far_from : (n : ℕ) (x : Place) → (x.node ≡ n → ⊥) → eqb x.node n ≡ false
@@ -40,21 +41,6 @@ moved_spares p q x far d = by (eqb d.node q) refl
     by false e = refl
 
 -- ---- one node
-node_set : (es : List Entry) (p m : ℕ) (x : Node) → (m ≡ p → ⊥)
-    → node_at (set_node es p x) m ≡ node_at es m
-node_set [] p m x far = refl
-node_set (d ∷ es) p m x far = by (eqb d.number p) refl (node_set es p m x far)
-  where
-    by : (b : Bool) → eqb d.number p ≡ b → node_at (set_node es p x) m ≡ node_at es m
-        → node_at (cond b (entry p x ∷ es) (d ∷ set_node es p x)) m
-        ≡ cond (eqb d.number m) (Some d.node) (node_at es m)
-    by true e i =
-        ap (λ b. cond b (Some x) (node_at es m)) (not_true (eqb p m) (λ j. far (sym
-        (eqb-true p m j))))
-        ∙ sym (ap (λ b. cond b (Some d.node) (node_at es m)) (not_true (eqb d.number m)
-        (λ j. far (sym (eqb-true d.number m j) ∙ eqb-true d.number p e))))
-    by false e i = ap (cond (eqb d.number m) (Some d.node)) i
-
 pub without_lacks : (es : List Entry) (q : ℕ) (y : Node) → AllDiffer es → node_at es q ≡ Some y
     → Each (λ e. e.number ≡ q → ⊥) (without es q)
 without_lacks [] q y d h = tt
@@ -139,6 +125,25 @@ module _ (g : Graph) (p q : ℕ) (c d : Place) (f h new : Forest) (can : CanJoin
       ∙ comb_mapped r (node_at (set_node left p z) m)
       ∙ ap comb_at (node_set left p m z apart ∙ node_without g.nodes q m gone)
 
+-- a group may still be lifted, where the Pdo that goes does not read it
+lift_still : (g : Graph) (p q : ℕ) (c d : Place) (f h new : Forest) → AllDiffer g.nodes
+    → CanJoin g p q c d f h → (m : ℕ) (k : Comb) → IsFar p q m
+    → same_place (place m 0) d ≡ false → (a : IsLiftedOk g m k)
+    → ((a.reader ≡ q → ⊥) → comb_at (node_at (joined_into g p q c new).nodes a.reader)
+    ≡ comb_at (node_at g.nodes a.reader)) → IsLiftedOk (joined_into g p q c new) m k
+lift_still g p q c d f h new differ can m k far none a root =
+    let x : Place = place m 0 in
+    let gone : a.reader ≡ q → ⊥ =
+    (subst (Each (λ n. n ≡ q → ⊥)) a.alone
+    (those_not (calls_on x) g.nodes q (Pdo d h) differ can.other none)).0 in
+    record {
+      untold = outputs_same g p q c d f h new can x far ∙ a.untold;
+      uncollected = collects_same g p q c d f h new can x far ∙ a.uncollected;
+      reader = a.reader;
+      alone = readers_same g p q c d f h new can x far none ∙ a.alone;
+      root = root gone ∙ a.root;
+    }
+
 -- ---- a kid
 pub kid_keeps : (g : Graph) (p q : ℕ) (c d : Place) (f h new : Forest) → AllDiffer g.nodes
     → CanJoin g p q c d f h → d.node ≡ p → root_comb new ≡ root_comb f
@@ -148,18 +153,8 @@ kid_keeps g p q c d f h new differ can reads_p root = record {
       (λ j. uses_same g p q c d f h new can x far (no_d x far) j
       || outputs_same g p q c d f h new can x far j) ∙ i;
   lift = λ m k far a.
-      let x : Place = place m 0 in
-      let none : same_place x d ≡ false = no_d x far in
-      let gone : a.reader ≡ q → ⊥ =
-      (subst (Each (λ n. n ≡ q → ⊥)) a.alone
-      (those_not (calls_on x) g.nodes q (Pdo d h) differ can.other none)).0 in
-      record {
-        untold = outputs_same g p q c d f h new can x far ∙ a.untold;
-        uncollected = collects_same g p q c d f h new can x far ∙ a.uncollected;
-        reader = a.reader;
-        alone = readers_same g p q c d f h new can x far none ∙ a.alone;
-        root = root_same g p q c d f h new can x far a.reader gone root ∙ a.root;
-      };
+      lift_still g p q c d f h new differ can m k far (no_d (place m 0) far) a
+      (λ gone. root_same g p q c d f h new can (place m 0) far a.reader gone root);
 }
   where
     no_d : (x : Place) → IsFar p q x.node → same_place x d ≡ false
@@ -177,19 +172,11 @@ sibling_keeps g p q c f h new differ can = record {
       let none : same_place x c ≡ false = not_true (same_place x c) (λ e.
       can.apart (those_has one (calls_on x) g.nodes p (Pdo c f) can.keeper e all
       ∙ sym (those_has one (calls_on x) g.nodes q (Pdo c h) can.other e all))) in
-      let gone : a.reader ≡ q → ⊥ =
-      (subst (Each (λ n. n ≡ q → ⊥)) a.alone
-      (those_not (calls_on x) g.nodes q (Pdo c h) differ can.other none)).0 in
       let apart : a.reader ≡ p → ⊥ =
       (subst (Each (λ n. n ≡ p → ⊥)) a.alone
       (those_not (calls_on x) g.nodes p (Pdo c f) differ can.keeper none)).0 in
-      record {
-        untold = outputs_same g p q c c f h new can x far ∙ a.untold;
-        uncollected = collects_same g p q c c f h new can x far ∙ a.uncollected;
-        reader = a.reader;
-        alone = readers_same g p q c c f h new can x far none ∙ a.alone;
-        root = root_other g p q c c f h new can x far a.reader gone apart ∙ a.root;
-      };
+      lift_still g p q c c f h new differ can m k far none a
+      (λ gone. root_other g p q c c f h new can x far a.reader gone apart);
 }
   where
     still : (x : Place) → IsFar p q x.node → (b : Bool) → same_place x c ≡ b

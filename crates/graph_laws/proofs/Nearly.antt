@@ -1,5 +1,5 @@
 -- Graphs that are well-formed but for the forests of two Pdos, and rewrites that keep them so.
-use Rattle.std.proofs.Common.{◌≡◌, ℕ, ◌+◌, ◌<◌, ◌≤◌, Bool, true, false, cond, eqb, ◌&&◌, ◌||◌, List, [], ◌∷◌, length, map, Option, Some, None, inl, inr, ◌⊎◌, refl, sym, ap, ◌∙◌, subst, arith}
+use Rattle.std.proofs.Common.{◌≡◌, ℕ, ◌+◌, ◌<◌, ◌≤◌, Bool, true, false, cond, eqb, ◌&&◌, ◌||◌, List, [], ◌∷◌, length, map, Option, Some, inl, inr, ◌⊎◌, refl, sym, ap, ◌∙◌, subst, arith}
 use Rattle.std.specs.List.{AllByRecursion as Each}
 use Rattle.std.proofs.lemmas.List.{length-map}
 use Rattle.std.proofs.lemmas.Bool.{eqb-true, eq-eqb, false≢true}
@@ -31,12 +31,10 @@ IsFar p q n = (n ≡ p → ⊥) × (n ≡ q → ⊥)
 
 -- a node is ok, but for the forest of a Pdo of one of two numbers
 abbrev pub NearNode : ℕ → ℕ → Graph → ℕ → Node → Type 0
-NearNode p q g n (Source r) = Unit {0}
 NearNode p q g n (Flatten ins) = (0 < length ins) × (length ins ≤ most_nodes)
 NearNode p q g n (Pdo c f) = IsFar p q n → IsForestOk g n f
-NearNode p q g n (Gbk c o l None) = Unit {0}
 NearNode p q g n (Gbk c o l (Some k)) = IsLiftedOk g n k
-NearNode p q g n (Barrier ins o l a) = Unit {0}
+NearNode p q g n _ = Unit {0}
 
 pub record IsNear (p q : ℕ) (g : Graph) : Type 0 where
   pub ascends : Ascends g.nodes
@@ -46,12 +44,10 @@ pub record IsNear (p q : ℕ) (g : Graph) : Type 0 where
   pub nodes : Each (λ e. NearNode p q g e.number e.node) g.nodes
 
 node_near : (p q : ℕ) (g : Graph) (n : ℕ) (x : Node) → IsNodeOk g n x → NearNode p q g n x
-node_near p q g n (Source r) a = tt
 node_near p q g n (Flatten ins) a = a
 node_near p q g n (Pdo c f) a = λ far. a
-node_near p q g n (Gbk c o l None) a = tt
 node_near p q g n (Gbk c o l (Some k)) a = a
-node_near p q g n (Barrier ins o l i) a = tt
+node_near p q g n _ a = tt
 
 pub near_from : (p q : ℕ) (g : Graph) → IsGraphOk g → IsNear p q g
 near_from p q g ok = record {
@@ -76,11 +72,8 @@ among_spared r x h (d ∷ ds) = let i = among_spared r x h ds in let j = h d in 
 
 pub calls_spared : (r : Place → Place) (x : Place) → Spares r x → (y : Node)
     → calls_on x (reread r y) ≡ calls_on x y
-calls_spared r x h (Source s) = refl
-calls_spared r x h (Flatten ins) = refl
 calls_spared r x h (Pdo c f) = h c
-calls_spared r x h (Gbk c o l k) = refl
-calls_spared r x h (Barrier ins o l a) = refl
+calls_spared r x h _ = refl
 
 pub collects_spared : (r : Place → Place) (x : Place) → Spares r x → (y : Node)
     → collects x (reread r y) ≡ collects x y
@@ -95,12 +88,8 @@ pub uses_spared : (r : Place → Place) (x : Place) → Spares r x → (y : Node
 uses_spared r x h y = λ i. calls_spared r x h y i || collects_spared r x h y i
 
 pub comb_mapped : (r : Place → Place) (o : Option Node) → comb_at (mapped r o) ≡ comb_at o
-comb_mapped r None = refl
 comb_mapped r (Some (Source s)) = refl
-comb_mapped r (Some (Flatten ins)) = refl
-comb_mapped r (Some (Pdo c f)) = refl
-comb_mapped r (Some (Gbk c o l k)) = refl
-comb_mapped r (Some (Barrier ins o l a)) = refl
+comb_mapped r _ = refl
 
 pub comb_set : (es : List Entry) (n m : ℕ) (x y : Node) → node_at es n ≡ Some y
     → comb_at (Some x) ≡ comb_at (Some y)
@@ -163,13 +152,11 @@ pub near_reread : (p q p2 q2 : ℕ) (g h : Graph) (r : Place → Place) (n : ℕ
     → ((f : Forest) → (IsFar p q n → IsForestOk g n f) → IsFar p2 q2 n → IsForestOk h n f)
     → ((k : Comb) → IsLiftedOk g n k → IsLiftedOk h n k) → NearNode p q g n x
     → NearNode p2 q2 h n (reread r x)
-near_reread p q p2 q2 g h r n (Source s) a b i = tt
 near_reread p q p2 q2 g h r n (Flatten ins) a b i =
     subst (λ (k : ℕ). (0 < k) × (k ≤ most_nodes)) (sym (length-map ins r)) i
 near_reread p q p2 q2 g h r n (Pdo c f) a b i = a f i
-near_reread p q p2 q2 g h r n (Gbk c o l None) a b i = tt
 near_reread p q p2 q2 g h r n (Gbk c o l (Some k)) a b i = b k i
-near_reread p q p2 q2 g h r n (Barrier ins o l d) a b i = tt
+near_reread p q p2 q2 g h r n _ a b i = tt
 
 abbrev pub IsEither : ℕ → ℕ → ℕ → Type 0
 IsEither p q n = (n ≡ p) ⊎ (n ≡ q)

@@ -1,10 +1,10 @@
 -- What reads objects reads objects after a rewrite of Pdos.
-use Rattle.std.proofs.Common.{◌≡◌, ℕ, Bool, true, false, cond, eqb, List, [], ◌∷◌, map, Option, Some, None, refl, sym, ap, ◌∙◌}
+use Rattle.std.proofs.Common.{◌≡◌, ℕ, Bool, true, false, cond, eqb, List, [], ◌∷◌, map, Option, Some, refl, sym, ap, ◌∙◌}
 use Rattle.std.specs.List.{AllByRecursion as Each}
 use Rattle.std.proofs.lemmas.Bool.{eqb-true, eq-eqb, false≢true}
 use Rattle.exec_graph.specs.declared.graph.Place.{Place}
 use Rattle.exec_graph.specs.declared.graph.Node.{Node}
-use Rattle.exec_graph.specs.declared.graph.Node.TheVariants.{Source, Flatten, Pdo, Gbk, Barrier}
+use Rattle.exec_graph.specs.declared.graph.Node.TheVariants.{Source, Pdo, Barrier}
 use Rattle.exec_graph.specs.declared.graph.Entry.{Entry}
 use Rattle.exec_graph.specs.declared.graph.Graph.{Graph}
 use Rattle.exec_graph.specs.Forests.{Forest}
@@ -61,12 +61,8 @@ node_without (d ∷ es) q m far = by (eqb d.number q) refl (node_without es q m 
     by false e i = ap (cond (eqb d.number m) (Some d.node)) i
 
 pub object_mapped : (r : Place → Place) (o : Option Node) → is_object (mapped r o) ≡ is_object o
-object_mapped r None = refl
 object_mapped r (Some (Source s)) = refl
-object_mapped r (Some (Flatten ins)) = refl
-object_mapped r (Some (Pdo c f)) = refl
-object_mapped r (Some (Gbk c o l k)) = refl
-object_mapped r (Some (Barrier ins o l a)) = refl
+object_mapped r _ = refl
 
 object_reread : (r : Place → Place) (es : List Entry) (n : ℕ)
     → is_object (node_at (map (reread_entry r) es) n) ≡ is_object (node_at es n)
@@ -82,12 +78,9 @@ flags_reread new old r (c ∷ cs) a =
 node_reread : (old new : List Entry) (r : Place → Place) (x : Node)
     → Each (λ c. is_object_at new (r c) ≡ is_object_at old c) (reads x)
     → has_objects old x ≡ true → has_objects new (reread r x) ≡ true
-node_reread old new r (Source s) h a = a
-node_reread old new r (Flatten ins) h a = a
-node_reread old new r (Pdo c f) h a = a
-node_reread old new r (Gbk c o l k) h a = a
 node_reread old new r (Barrier ins o l d) h a =
     ap (takes_such d) (flags_reread (is_object_at new) (is_object_at old) r ins h) ∙ a
+node_reread old new r _ h a = a
 
 pub objects_reread_there : (old new : List Entry) (r : Place → Place) (es : List Entry)
     → Each (λ e. Each (λ c. is_object_at new (r c) ≡ is_object_at old c) (reads e.node)) es

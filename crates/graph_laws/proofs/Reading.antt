@@ -4,7 +4,7 @@ use Rattle.std.specs.List.{AllByRecursion as Each}
 use Rattle.std.proofs.lemmas.Bool.{eqb-true, eq-eqb, false≢true}
 use Rattle.exec_graph.specs.declared.graph.Place.{Place}
 use Rattle.exec_graph.specs.declared.graph.Node.{Node}
-use Rattle.exec_graph.specs.declared.graph.Node.TheVariants.{Source, Flatten, Pdo, Gbk, Barrier}
+use Rattle.exec_graph.specs.declared.graph.Node.TheVariants.{Source}
 use Rattle.exec_graph.specs.declared.graph.Entry.{Entry}
 use Rattle.exec_graph.specs.Meaning.{AllDiffer, node_at}
 use Rattle.exec_graph.specs.Readers.{any_node, those}
@@ -145,10 +145,7 @@ those_not t (x ∷ es) n y d h e =
 -- ---- how many
 pub size_reread : (r : Place → Place) (x : Node) → size (reread r x) ≡ size x
 size_reread r (Source s) = refl
-size_reread r (Flatten ins) = refl
-size_reread r (Pdo c f) = refl
-size_reread r (Gbk c o l k) = refl
-size_reread r (Barrier ins o l a) = refl
+size_reread r _ = refl
 
 pub size_map : (r : Place → Place) (es : List Entry)
     → total_size (map (reread_entry r) es) ≡ total_size es

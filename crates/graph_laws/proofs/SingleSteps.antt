@@ -4,7 +4,7 @@ use Rattle.combine_table.specs.declared.comb.Comb.{Comb}
 use Rattle.exec_graph.specs.Forests.{Forest}
 use Rattle.exec_graph.specs.declared.graph.Entry.{Entry}
 use Rattle.exec_graph.specs.declared.graph.Node.{Node}
-use Rattle.exec_graph.specs.declared.graph.Node.TheVariants.{Source, Flatten, Pdo, Gbk, Barrier}
+use Rattle.exec_graph.specs.declared.graph.Node.TheVariants.{Source}
 use Rattle.exec_graph.specs.declared.graph.Graph.{Graph}
 use Rattle.exec_graph.proofs.Entries.{all_map}
 use Rattle.graph_laws.specs.Lifting.{marked, marked_entry, remarked}
@@ -14,10 +14,7 @@ module _ (P : Forest → Type 0) where
   steps-marked : (h : Option Comb → Option Comb) (x : Node) → HasSteps P x
       → HasSteps P (marked h x)
   steps-marked h (Source r) a = a
-  steps-marked h (Flatten ins) a = a
-  steps-marked h (Pdo c f) a = a
-  steps-marked h (Gbk c o l k) a = a
-  steps-marked h (Barrier ins o l i) a = a
+  steps-marked h _ a = a
 
   pub AllSteps-remarked : (s : ℕ → Option Comb → Option Comb) (g : Graph) → AllSteps P g
       → AllSteps P (remarked s g)

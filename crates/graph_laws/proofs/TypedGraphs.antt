@@ -5,7 +5,7 @@ use Rattle.exec_graph.specs.of_flume_types.declared.types.Ty.{Ty}
 use Rattle.combine_table.proofs.of_flume_value.EachLemmas.{Each-both, Each-weaker}
 use Rattle.exec_graph.specs.Forests.{Forest}
 use Rattle.exec_graph.specs.Meaning.{place, node_at, reads, IsThere, IsSound}
-use Rattle.exec_graph.specs.Typing.{ActTyped, Signatures, ForestTyped, IsGrouped, KeepsTypes, NodeTyped}
+use Rattle.exec_graph.specs.Typing.{ActTyped, Signatures, ForestTyped, KeepsTypes, NodeTyped}
 use Rattle.exec_graph.specs.declared.graph.Place.{Place}
 use Rattle.exec_graph.specs.declared.graph.Node.{Node}
 use Rattle.exec_graph.specs.declared.graph.Node.TheVariants.{Source, Flatten, Pdo, Gbk, Barrier}
@@ -32,24 +32,24 @@ types_reread new types r [] a = refl
 types_reread new types r (c ∷ cs) a =
     let i = types_reread new types r cs a.1 in let j : new (r c) ≡ types c = a.0 in cc
 
-grouped_typed : (t u v w : Ty) → v ≡ t → w ≡ u → IsGrouped t u → IsGrouped v w
-grouped_typed t u v w e f a =
-    record { key = a.key; value = a.value; takes = e ∙ a.takes; gives = f ∙ a.gives }
-
--- a node that reads elsewhere collections of the same types
-typed_reread : (s : Signatures) (types new : Place → Ty) (r : Place → Place) (n : ℕ) (x : Node)
+-- a node of another number that reads elsewhere collections of the same types
+pub typed_at : (s : Signatures) (types new : Place → Ty) (r : Place → Place) (n i : ℕ) (x : Node)
     → AllByRecursion (λ c. new (r c) ≡ types c) (reads x)
-    → ((j : ℕ) → new (place n j) ≡ types (place n j)) → NodeTyped s types n x
-    → NodeTyped s new n (reread r x)
-typed_reread s types new r n (Source i) a o h = o 0 ∙ h
-typed_reread s types new r n (Flatten ins) a o h =
-    flat_typed types new r (types (place n 0)) (new (place n 0)) ins (o 0) a h
-typed_reread s types new r n (Pdo c f) a o h =
-    subst (λ (t : Ty). ForestTyped s new n t f) (sym a.0)
-    (typed_moved s types new n n (types c) f (λ j _. o j) h)
-typed_reread s types new r n (Gbk c i l k) a o h =
-    grouped_typed (types c) (types (place n 0)) (new (r c)) (new (place n 0)) a.0 (o 0) h
-typed_reread s types new r n (Barrier ins i l d) a o h =
+    → ((j : ℕ) → new (place i j) ≡ types (place n j)) → NodeTyped s types n x
+    → NodeTyped s new i (reread r x)
+typed_at s types new r n i (Source z) a o h = o 0 ∙ h
+typed_at s types new r n i (Flatten ins) a o h =
+    flat_typed types new r (types (place n 0)) (new (place i 0)) ins (o 0) a h
+typed_at s types new r n i (Pdo c f) a o h =
+    subst (λ (t : Ty). ForestTyped s new i t f) (sym a.0)
+    (typed_moved s types new n i (types c) f (λ j _. o j) h)
+typed_at s types new r n i (Gbk c z l k) a o h = record {
+  key = h.key;
+  value = h.value;
+  takes = a.0 ∙ h.takes;
+  gives = o 0 ∙ h.gives;
+}
+typed_at s types new r n i (Barrier ins z l d) a o h =
     subst (ActTyped s d (map new (map r ins))) (sym (o 0))
     (subst (λ (ts : List Ty). ActTyped s d ts (types (place n 0)))
     (sym (types_reread new types r ins a)) h)
@@ -74,7 +74,7 @@ KeepsTypes-refitted g n c f new r ok at refit s (types, fits) =
     let others : AllByRecursion (λ e. (e.number ≡ n → ⊥) → H e) g.nodes =
     Each-both (λ (e : Entry). NodeTyped s types e.number e.node) R
     (λ e. (e.number ≡ n → ⊥) → H e)
-    (λ e a b apart. typed_reread s types k mv e.number e.node b
+    (λ e a b apart. typed_at s types k mv e.number e.number e.node b
     (λ i. beyond types n refit.back (place e.number i) (eqb e.number n) refl apart) a) g.nodes fits
     reads_all in
     let here : H (entry n z) = subst (λ (t : Ty). ForestTyped s k n t new) (sym reads_n.0)
@@ -118,7 +118,7 @@ KeepsTypes-joined g p q c d f h new ok can joins s (types, fits) =
     let H : Entry → Type 0 = λ e. NodeTyped s k e.number (reread r e.node) in
     let others : AllByRecursion (λ e. (e.number ≡ p → ⊥) → H e) (without g.nodes q) =
     Each-both N R (λ e. (e.number ≡ p → ⊥) → H e)
-    (λ e a b apart. typed_reread s types k r e.number e.node b
+    (λ e a b apart. typed_at s types k r e.number e.number e.node b
     (λ i. elsewhere types p q h (place e.number i) (eqb e.number p) refl
     (λ i. absurd (apart i))) a)
     (without g.nodes q) (all_without N g.nodes q fits) reads_left in

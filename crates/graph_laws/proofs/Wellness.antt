@@ -36,10 +36,7 @@ node_at-map r (e ∷ es) n = ap (cond (eqb e.number n) (Some (reread r e.node)))
 
 gives-reread : (r : Place → Place) (x : Node) (j : ℕ) → gives (reread r x) j ≡ gives x j
 gives-reread r (Source s) j = refl
-gives-reread r (Flatten ins) j = refl
-gives-reread r (Pdo c f) j = refl
-gives-reread r (Gbk c o l k) j = refl
-gives-reread r (Barrier ins o l a) j = refl
+gives-reread r _ j = refl
 
 gives_at-mapped : (r : Place → Place) (o : Option Node) (j : ℕ)
     → gives_at (mapped r o) j ≡ gives_at o j
@@ -130,10 +127,7 @@ reads_reread P Q r h (Barrier ins o l i) a = all_map r P Q h ins a
 
 pub outs_reread : (r : Place → Place) (x : Node) → HasOuts x → HasOuts (reread r x)
 outs_reread r (Source s) h = h
-outs_reread r (Flatten ins) h = h
-outs_reread r (Pdo c f) h = h
-outs_reread r (Gbk c o l k) h = h
-outs_reread r (Barrier ins o l a) h = h
+outs_reread r _ h = h
 
 differs_set : (k : ℕ) (es : List Entry) (p : ℕ) (x y : Node) → node_at es p ≡ Some y
     → AllByRecursion (λ e. e.number ≡ k → ⊥) es

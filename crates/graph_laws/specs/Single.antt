@@ -5,16 +5,13 @@ use Rattle.std.proofs.Common.{suc}
 use Rattle.std.specs.List.{AllByRecursion}
 use Rattle.exec_graph.specs.Forests.{Forest, Label, Bare, Grow, Branch, limb}
 use Rattle.exec_graph.specs.declared.graph.Node.{Node}
-use Rattle.exec_graph.specs.declared.graph.Node.TheVariants.{Source, Flatten, Pdo, Gbk, Barrier}
+use Rattle.exec_graph.specs.declared.graph.Node.TheVariants.{Pdo}
 use Rattle.exec_graph.specs.declared.graph.Graph.{Graph}
 
 -- P holds of the node's steps, where it has any
 abbrev pub HasSteps : (Forest → Type 0) → Node → Type 0
-HasSteps P (Source r) = Unit {0}
-HasSteps P (Flatten ins) = Unit {0}
 HasSteps P (Pdo c f) = P f
-HasSteps P (Gbk c o l k) = Unit {0}
-HasSteps P (Barrier ins o l a) = Unit {0}
+HasSteps P _ = Unit {0}
 
 -- P holds of the steps of each Pdo
 abbrev pub AllSteps : (Forest → Type 0) → Graph → Type 0

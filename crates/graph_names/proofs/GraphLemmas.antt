@@ -1,30 +1,15 @@
 -- What is read is told by a rule, and by another that gives the same.
-use Rattle.std.proofs.Common.{◌≡◌, ℕ, List, [], ◌∷◌, map, refl, ap, ap₂, ◌∙◌}
+use Rattle.std.proofs.Common.{◌≡◌, ℕ, List, [], ◌∷◌, map, refl, ap₂}
 use Rattle.exec_graph.specs.declared.graph.Entry.{Entry}
 use Rattle.exec_graph.specs.declared.graph.Graph.{Graph}
 use Rattle.exec_graph.specs.declared.graph.Node.{Node}
-use Rattle.exec_graph.specs.declared.graph.Node.TheVariants.{Source, Flatten, Pdo, Gbk, Barrier}
 use Rattle.exec_graph.specs.declared.graph.Place.{Place}
 use Rattle.exec_graph.proofs.Entries.{entry}
-use Rattle.graph_laws.specs.Joining.{reread, reread_entry}
+use Rattle.graph_laws.specs.Joining.{reread_entry}
+use Rattle.graph_walks.proofs.Rereads.{places_same, reread_same}
 use Rattle.pardo_fuse.specs.SingleFusing.{new_place}
 use Rattle.graph_names.specs.Names.{named, named_place, unnamed}
 use Rattle.graph_names.specs.inner.Nodes.{moved_by, under_names, under_numbers}
-
-places_same : (r s : Place → Place) → ((c : Place) → r c ≡ s c) → (cs : List Place)
-    → map r cs ≡ map s cs
-places_same r s e [] = refl
-places_same r s e (c ∷ cs) =
-    ap₂ (λ (d : Place) (ds : List Place). d ∷ ds) (e c) (places_same r s e cs)
-
-reread_same : (r s : Place → Place) → ((c : Place) → r c ≡ s c) → (x : Node)
-    → reread r x ≡ reread s x
-reread_same r s e (Source i) = refl
-reread_same r s e (Flatten ins) = ap (λ (ds : List Place). Flatten ds) (places_same r s e ins)
-reread_same r s e (Pdo c f) = ap (λ (d : Place). Pdo d f) (e c)
-reread_same r s e (Gbk c o l k) = ap (λ (d : Place). Gbk d o l k) (e c)
-reread_same r s e (Barrier ins o l a) =
-    ap (λ (ds : List Place). Barrier ds o l a) (places_same r s e ins)
 
 -- nodes that are changed before they are told by the rule
 nodes_moved : (r s : Place → Place) → ((c : Place) → r c ≡ s c) → (k : Entry → Entry)

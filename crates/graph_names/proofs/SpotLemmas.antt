@@ -1,24 +1,14 @@
 -- A name is where its output has its place among those of the forest.
-use Rattle.std.proofs.Common.{◌≡◌, ℕ, suc, ◌+◌, Bool, true, false, cond, eqb, ◌||◌, List, [], ◌∷◌, ◌++◌, Some, None, refl, sym, ap, ap₂, ◌∙◌, arith}
-use Rattle.std.specs.List.{list_any}
-use Rattle.exec_graph.specs.Forests.{Forest, Bare, Grow}
-use Rattle.exec_graph.specs.Meaning.{has_out, is_out, place}
+use Rattle.std.proofs.Common.{◌≡◌, ℕ, suc, ◌+◌, Bool, true, false, cond, eqb, ◌||◌, List, [], ◌∷◌, Some, None, refl, sym, ap, ap₂, ◌∙◌, arith}
+use Rattle.exec_graph.specs.Forests.{Forest}
+use Rattle.exec_graph.specs.Meaning.{has_out, place}
 use Rattle.exec_graph.specs.declared.graph.Node.{Node}
 use Rattle.exec_graph.specs.declared.graph.Node.TheVariants.{Pdo}
 use Rattle.exec_graph.specs.declared.graph.Place.{Place}
 use Rattle.graph_laws.specs.Kids.{number_in}
-use Rattle.graph_walks.specs.Outs.{out_list, outs, place_of}
-use Rattle.graph_walks.proofs.Places.{holds, number_place, holds_append, holds_out}
+use Rattle.graph_walks.specs.Outs.{outs, place_of}
+use Rattle.graph_walks.proofs.Places.{holds, holds_outs, number_place}
 use Rattle.graph_names.specs.inner.Spots.{spot_from, spot_in}
-
-pub holds_outs : (f : Forest) (j : ℕ) → holds (outs f) j ≡ has_out j f
-holds_outs Bare j = refl
-holds_outs (Grow l kids rest) j =
-    holds_append (out_list l.out) (outs kids ++ outs rest) j
-    ∙ ap (λ b. b || holds (outs kids ++ outs rest) j) (holds_out l.out j)
-    ∙ ap (λ b. is_out l.out j || b) (holds_append (outs kids) (outs rest) j
-    ∙ ap (λ b. b || holds (outs rest) j) (holds_outs kids j)
-    ∙ ap (λ b. has_out j kids || b) (holds_outs rest j))
 
 spot_place : (k s : ℕ) (xs : List ℕ) (n : ℕ)
     → spot_from k s xs n ≡ cond (holds xs n) (Some (place k (s + place_of xs n))) None

@@ -8,8 +8,8 @@ ghost use Rattle.graph_build.specs.of_script_program.Needed.{made_of};
 ghost use Rattle.graph_print.specs.Steps.{act_text};
 
 use crate::names::{node_name, push_number};
-use crate::steps::{push_act, push_step};
-use exec_graph::{Act, Entry, Graph, Node, Place, Roots};
+use crate::steps::push_step;
+use exec_graph::{Act, Does, Entry, Graph, Node, Place, Roots};
 use graph_build::origins;
 use printing::push_quoted;
 use script_program::{Made, Program};
@@ -90,7 +90,11 @@ fn push_node(
         Node::Pdo {
             input,
             roots: steps,
-        } => push_do(text, program, *input, steps),
+        } => {
+            text.extend_from_slice(b"do ")?;
+            push_input(text, *input)?;
+            push_root(text, program, steps)
+        }
         Node::Gbk {
             input,
             origin: group,
@@ -159,21 +163,6 @@ fn push_inputs(text: &mut Vec<u8>, inputs: &[Place]) -> Result<(), AllocError>
     Ok(())
 }
 
-fn push_do(
-    text: &mut Vec<u8>,
-    program: &Program,
-    input: Place,
-    steps: &Roots,
-) -> Result<(), AllocError>
-    ensures { OnOk result (text.new.items ≡ text.old.items
-        ++ (codes "do "
-        ++ (spec.input_text input ++ spec.root_text program.now.script steps.now))) }
-{
-    text.extend_from_slice(b"do ")?;
-    push_input(text, input)?;
-    push_root(text, program, steps)
-}
-
 fn push_root(text: &mut Vec<u8>, program: &Program, steps: &Roots) -> Result<(), AllocError>
     ensures { OnOk result (text.new.items ≡ text.old.items
         ++ spec.root_text program.now.script steps.now) }
@@ -211,7 +200,15 @@ fn push_barrier(
         ++ (spec.taken_text act inputs.now ++ act_text program.now.script origin act)) }
 {
     push_taken(text, act, inputs)?;
-    push_act(text, program, origin, act)
+    match act {
+        Act::SideInput(function) | Act::Operate(function) => {
+            push_step(text, program, origin, Does::Call(function))
+        }
+        Act::Singleton(_) => {
+            text.extend_from_slice(node_name(program, origin as usize))?;
+            text.extend_from_slice(b":%one")
+        }
+    }
 }
 
 /// Adds what an act takes.

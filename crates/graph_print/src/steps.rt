@@ -4,7 +4,7 @@ ghost use Rattle.graph_print.specs.Steps as spec;
 
 use crate::names::{function_name, node_name, push_number};
 use combine_table::Comb;
-use exec_graph::{Act, Does};
+use exec_graph::Does;
 use graph_build::script_program::Program;
 use std::alloc::AllocError;
 
@@ -61,25 +61,4 @@ pub fn push_step(
     text.extend_from_slice(node_name(program, origin as usize))?;
     text.extend_from_slice(b":")?;
     push_does(text, program, does)
-}
-
-/// Adds what a collection is made by, where it is made of collections that are taken whole.
-pub(crate) fn push_act(
-    text: &mut Vec<u8>,
-    program: &Program,
-    origin: u32,
-    act: Act,
-) -> Result<(), AllocError>
-    ensures { OnOk result (text.new.items
-        ≡ text.old.items ++ spec.act_text program.now.script origin act) }
-{
-    match act {
-        Act::SideInput(function) | Act::Operate(function) => {
-            push_step(text, program, origin, Does::Call(function))
-        }
-        Act::Singleton(_) => {
-            text.extend_from_slice(node_name(program, origin as usize))?;
-            text.extend_from_slice(b":%one")
-        }
-    }
 }

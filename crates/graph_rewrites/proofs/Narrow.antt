@@ -1,12 +1,12 @@
 -- The conditions on single nodes that rewrites keep.
-use Rattle.std.proofs.Common.{◌≡◌, ℕ, ◌+◌, ◌<◌, ◌⊎◌, Bool, true, false, cond, Option, Some, None, inl, inr}
+use Rattle.std.proofs.Common.{◌≡◌, ℕ, ◌+◌, ◌<◌, ◌⊎◌, Bool, true, false, cond, Option, inl, inr}
 use Rattle.combine_table.specs.declared.comb.Comb.{Comb}
 use Rattle.graph_bounds.specs.of_exec_graph.Forests.{Forest, Bare, Grow}
 use Rattle.graph_bounds.specs.of_exec_graph.Meaning.{is_out}
 use Rattle.graph_bounds.specs.of_exec_graph.declared.graph.Act.{Act}
 use Rattle.graph_bounds.specs.of_exec_graph.declared.graph.Input.{Input}
 use Rattle.graph_bounds.specs.of_exec_graph.declared.graph.Node.{Node}
-use Rattle.graph_bounds.specs.of_exec_graph.declared.graph.Node.TheVariants.{Source, Flatten, Pdo, Gbk, Barrier}
+use Rattle.graph_bounds.specs.of_exec_graph.declared.graph.Node.TheVariants.{Source, Pdo, Barrier}
 use Rattle.graph_bounds.specs.of_exec_graph.declared.graph.Place.{Place}
 use Rattle.graph_bounds.proofs.Bounding.{numbered_few}
 use Rattle.graph_bounds.specs.Sources.{BringsSuch}
@@ -36,17 +36,13 @@ steady_such P = record {
   where
     read : (r : Place → Place) (x : Node) → BringsSuch P x → BringsSuch P (reread r x)
     read r (Source s) i = i
-    read r (Flatten ins) i = tt
-    read r (Pdo c f) i = tt
-    read r (Gbk c o l k) i = tt
     read r (Barrier ins o l a) i = i
+    read r _ i = tt
 
     mark : (h : Option Comb → Option Comb) (x : Node) → BringsSuch P x → BringsSuch P (marked h x)
     mark h (Source s) i = i
-    mark h (Flatten ins) i = tt
-    mark h (Pdo c f) i = tt
-    mark h (Gbk c o l k) i = tt
     mark h (Barrier ins o l a) i = i
+    mark h _ i = tt
 
 -- ---- few outputs
 
@@ -99,15 +95,9 @@ steady_narrow = record {
 }
   where
     read : (r : Place → Place) (x : Node) → IsNarrow x → IsNarrow (reread r x)
-    read r (Source s) i = tt
-    read r (Flatten ins) i = tt
     read r (Pdo c f) i = i
-    read r (Gbk c o l k) i = tt
-    read r (Barrier ins o l a) i = tt
+    read r _ i = tt
 
     mark : (h : Option Comb → Option Comb) (x : Node) → IsNarrow x → IsNarrow (marked h x)
-    mark h (Source s) i = tt
-    mark h (Flatten ins) i = tt
     mark h (Pdo c f) i = i
-    mark h (Gbk c o l k) i = tt
-    mark h (Barrier ins o l a) i = tt
+    mark h _ i = tt

@@ -1,5 +1,5 @@
 -- What a list of rewrites leads to, and where it stops.
-use Rattle.std.proofs.Common.{◌≡◌, ℕ, ◌+◌, ◌<◌, ◌≤◌, ◌^◌, ◌⊎◌, inl, inr, false, List, [], ◌∷◌, ◌++◌, length, refl, sym, ap, ◌∙◌, subst, arith}
+use Rattle.std.proofs.Common.{◌≡◌, ℕ, ◌+◌, ◌<◌, ◌≤◌, ◌^◌, inl, inr, false, List, [], ◌∷◌, ◌++◌, length, refl, sym, ap, ◌∙◌, subst, arith}
 use Rattle.std.specs.List.{AllByRecursion}
 use Rattle.graph_bounds.specs.of_exec_graph.Meaning.{IsThere, SameMeaning, node_at, place}
 use Rattle.graph_bounds.specs.of_exec_graph.ObjectFree.{IsObjectFree}
@@ -16,10 +16,10 @@ use Rattle.graph_bounds.specs.Sources.{AreOfKinds, OfSource}
 use Rattle.graph_bounds.proofs.Bounding.{IsFree, below_such, free_such, kinds_agree, such_below, such_free}
 use Rattle.graph_bounds.specs.of_plan_rules.Fitting.{HasFewOutputs, HasSourcesBelow, IsInBounds, IsNarrow}
 use Rattle.graph_rewrites.specs.Replays.{CanFollow, HasNarrowForests, Leads, StopsAt, group_of}
-use Rattle.graph_rewrites.specs.Rewrites.{CanApply, applied, rewritten}
+use Rattle.graph_rewrites.specs.Rewrites.{applied, rewritten}
 use Rattle.graph_rewrites.specs.declared.rewrite.Rewrite.{Rewrite}
 use Rattle.graph_rewrites.specs.declared.rewrite.Rewrite.TheVariants.{Merge, Sink, Lift, Kid, Sibling, Mark}
-use Rattle.graph_rewrites.proofs.Keeping.{IsAsGood, apply_good, as_good, good_then}
+use Rattle.graph_rewrites.proofs.Keeping.{IsAsGood, apply_good, as_self, as_then}
 use Rattle.graph_rewrites.proofs.Narrow.{Free, steady_narrow, steady_such}
 use Rattle.graph_rewrites.proofs.Steady.{IsSteady, all_rewritten}
 
@@ -47,33 +47,13 @@ unmarked_stands : (g : Graph) (group : ℕ) (b : Blocked) (h : Graph) (next : �
 unmarked_stands g group b h next s le few a =
     let none : b.marks ≡ [] = s.clear (omega arith) in
     record {
-      good = good_then g b.graph h s.good a;
+      good = as_then IsGraphOk g b.graph h s.good a;
       marks = subst (AreMarks h) (sym none) (tt, tt);
       clear = λ _. none;
     }
 
 stands : (g : Graph) (group : ℕ) (b : Blocked) (r : Rewrite) → Stands g group b
     → CanFollow group b r → Stands g (group_of r) (applied b r)
-stands g group b (Merge outer inner) s f =
-    let r : Rewrite = Merge outer inner in
-    unmarked_stands g group b (rewritten b.graph r) 0 s f.0 (omega arith)
-    (apply_good b r s.good.ok f.1)
-stands g group b (Sink flatten pdo) s f =
-    let r : Rewrite = Sink flatten pdo in
-    unmarked_stands g group b (rewritten b.graph r) 0 s f.0 (omega arith)
-    (apply_good b r s.good.ok f.1)
-stands g group b (Lift n) s f =
-    let r : Rewrite = Lift n in
-    unmarked_stands g group b (rewritten b.graph r) 1 s f.0 (omega arith)
-    (apply_good b r s.good.ok f.1)
-stands g group b (Kid keeper output reader) s f =
-    let r : Rewrite = Kid keeper output reader in
-    unmarked_stands g group b (rewritten b.graph r) 2 s f.0 (omega arith)
-    (apply_good b r s.good.ok f.1)
-stands g group b (Sibling keeper other) s f =
-    let r : Rewrite = Sibling keeper other in
-    unmarked_stands g group b (rewritten b.graph r) 2 s f.0 (omega arith)
-    (apply_good b r s.good.ok f.1)
 stands g group b (Mark node output) s f =
     let a : IsBlockedOk (applied b (Mark node output)) =
     mark_ok b (place node output) (blocked_ok g group b s) f.1 in
@@ -82,6 +62,9 @@ stands g group b (Mark node output) s f =
       marks = (a.marked, a.unlifted);
       clear = λ few. let no : ⊥ = omega arith in absurd no;
     }
+stands g group b r s f =
+    unmarked_stands g group b (rewritten b.graph r) (group_of r) s f.0 (omega arith)
+    (apply_good b r s.good.ok f.1)
 
 leads_stand : (g : Graph) (group : ℕ) (rs : List Rewrite) (a b : Blocked) → Stands g group a
     → Leads group rs a b → (last : ℕ) × Stands g last b
@@ -91,7 +74,7 @@ leads_stand g group (r ∷ rs) a b s l =
     leads_stand g (group_of r) rs (applied a r) b (stands g group a r s l.0) l.1
 
 begun : (g : Graph) → IsGraphOk g → Stands g 0 (unmarked g)
-begun g ok = record { good = as_good g ok; marks = (tt, tt); clear = λ _. refl }
+begun g ok = record { good = as_self IsGraphOk g ok; marks = (tt, tt); clear = λ _. refl }
 
 pub leads_ok : (rs : List Rewrite) (g : Graph) (b : Blocked) → IsGraphOk g
     → Leads 0 rs (unmarked g) b → IsBlockedOk b

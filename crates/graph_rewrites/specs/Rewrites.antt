@@ -1,11 +1,11 @@
 -- When a rewrite may be made, and what it makes of a graph with its marks.
-use Rattle.std.specs.Prelude.{◌≡◌, ℕ, ◌<◌, ◌≤◌, nat_lt, cond, List, [], ◌∷◌, ◌++◌, Option, Some, None}
+use Rattle.std.specs.Prelude.{ℕ, ◌<◌, ◌≤◌, nat_lt, cond, List, [], ◌∷◌, ◌++◌, Option, Some}
 use Rattle.graph_bounds.specs.of_exec_graph.Forests.{Forest}
 use Rattle.graph_bounds.specs.of_exec_graph.Meaning.{place, node_at}
 use Rattle.graph_bounds.specs.of_exec_graph.Wellformed.{most_nodes, total_size}
 use Rattle.graph_bounds.specs.of_exec_graph.declared.graph.Place.{Place}
 use Rattle.graph_bounds.specs.of_exec_graph.declared.graph.Node.{Node}
-use Rattle.graph_bounds.specs.of_exec_graph.declared.graph.Node.TheVariants.{Source, Flatten, Pdo, Gbk, Barrier}
+use Rattle.graph_bounds.specs.of_exec_graph.declared.graph.Node.TheVariants.{Pdo}
 use Rattle.graph_bounds.specs.of_exec_graph.declared.graph.Graph.{Graph}
 use Rattle.graph_bounds.specs.of_exec_graph.declared.graph.Blocked.{Blocked}
 use Rattle.fusion_blocks.specs.Blocks.{CanMark}
@@ -24,12 +24,8 @@ pair flatten other = record { flatten = flatten; other = other }
 
 -- what a Pdo reads
 abbrev pub input_of : Option Node → Place
-input_of None = place 0 0
-input_of (Some (Source r)) = place 0 0
-input_of (Some (Flatten ins)) = place 0 0
 input_of (Some (Pdo c f)) = c
-input_of (Some (Gbk c o l k)) = place 0 0
-input_of (Some (Barrier ins o l a)) = place 0 0
+input_of _ = place 0 0
 
 abbrev pub input_at : Graph → ℕ → Place
 input_at g n = input_of (node_at g.nodes n)

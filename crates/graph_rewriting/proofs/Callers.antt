@@ -11,8 +11,8 @@ use Rattle.exec_graph.specs.declared.graph.Node.{Node}
 use Rattle.exec_graph.specs.declared.graph.Node.TheVariants.{Source, Flatten, Pdo, Gbk, Barrier}
 use Rattle.exec_graph.specs.declared.graph.Place.{Place}
 use Rattle.exec_graph.proofs.Entries.{entry}
-use Rattle.graph_laws.specs.Lifting.{CanLift, lift_of, lifted_at, marked, marked_entry, only_comb, remarked}
-use Rattle.graph_rewriting.specs.inner.Tests.{comb_of_only, found_list, is_gbk, only}
+use Rattle.graph_laws.specs.Lifting.{CanLift, lift_of, lifted_at, marked, marked_entry, remarked}
+use Rattle.graph_rewriting.specs.inner.Tests.{found_list, is_gbk, only}
 
 -- ---- readers one after another
 
@@ -94,13 +94,9 @@ pub record IsGbk (o : Option Node) : Type 0 where
   pub is : o ≡ Some (Gbk input origin last mark)
 
 gbk_is : (o : Option Node) → is_gbk o ≡ true → IsGbk o
-gbk_is None h = absurd (false≢true h)
-gbk_is (Some (Source r)) h = absurd (false≢true h)
-gbk_is (Some (Flatten ins)) h = absurd (false≢true h)
-gbk_is (Some (Pdo c f)) h = absurd (false≢true h)
 gbk_is (Some (Gbk c o l k)) h =
     record { input = c; origin = o; last = l; mark = k; is = refl }
-gbk_is (Some (Barrier ins o l a)) h = absurd (false≢true h)
+gbk_is _ h = absurd (false≢true h)
 
 pub can_lift : (g : Graph) (n : ℕ) (comb : Comb) → is_gbk (node_at g.nodes n) ≡ true
     → lift_of g n ≡ Some comb → CanLift g n

@@ -1,38 +1,56 @@
--- What is told of merges, steps and lifts, as of rewrites.
-use Rattle.std.proofs.Common.{ℕ, ◌<◌, ◌≤◌, List, Some, None, ap, arith}
+-- What is told of merges and steps, as of rewrites; and of a graph, beside its marks.
+use Rattle.std.specs.Prelude.{IfOk}
+use Rattle.std.proofs.Common.{◌≡◌, ℕ, ◌<◌, ◌≤◌, List, Option, Some, None, Result, Ok, Err, ap₂, sym, subst, arith}
 use Rattle.exec_graph.specs.declared.graph.Blocked.{Blocked}
 use Rattle.exec_graph.specs.declared.graph.Graph.{Graph}
 use Rattle.exec_graph.specs.declared.graph.Place.{Place}
 use Rattle.exec_graph.specs.Wellformed.{most_nodes, total_size}
 use Rattle.flatten_sink.specs.Pairs.{IsMergedAt, IsSunkAt}
-use Rattle.graph_rewrites.specs.Rewrites.{pair}
-use Rattle.graph_rewrites.specs.declared.rewrite.Rewrite.TheVariants.{Lift, Merge, Sink}
+use Rattle.graph_rewrites.specs.Rewrites.{CanApply, marks_with, pair}
+use Rattle.graph_rewrites.specs.declared.rewrite.Rewrite.{Rewrite}
+use Rattle.graph_rewrites.specs.declared.rewrite.Rewrite.TheVariants.{Merge, Sink}
 use Rattle.sink_laws.specs.Chain.{after_call}
-use Rattle.graph_rewriting.specs.Applied.{IsApplied, IsLiftedAt}
+use Rattle.graph_rewriting.specs.Applied.{IsApplied}
+use Rattle.graph_rewriting.specs.inner.Made.{IsMade, unmarked}
 
--- the same marks beside another graph
-abbrev pub beside_marks : List Place → Graph → Blocked
-beside_marks marks g = record { graph = g; marks = marks }
+pub merge_made : (g : Graph) (f e : ℕ) (o : Option Graph) → IsMergedAt g (pair f e) o
+    → IsMade g (Merge f e) o
+merge_made g f e None h = h
+merge_made g f e (Some x) h = h
 
-pub no_merge : (b : Blocked) (f e : ℕ) → IsMergedAt b.graph (pair f e) None
-    → IsApplied b (Merge f e) None
-no_merge b f e h = h
-
-pub merge_made : (b : Blocked) (f e : ℕ) (g : Graph) → IsMergedAt b.graph (pair f e) (Some g)
-    → IsApplied b (Merge f e) (Some (beside_marks b.marks g))
-merge_made b f e g h = (h.0, ap (beside_marks b.marks) h.1)
-
-pub no_sink : (b : Blocked) (f p : ℕ) → IsSunkAt b.graph (pair f p) None
-    → IsApplied b (Sink f p) None
-no_sink b f p h = λ can.
-    let over : most_nodes < total_size (after_call b.graph (pair f p)).nodes = h can.0 in
-    let room : total_size (after_call b.graph (pair f p)).nodes ≤ most_nodes = can.1 in
+pub sink_made : (g : Graph) (f p : ℕ) (o : Option Graph) → IsSunkAt g (pair f p) o
+    → IsMade g (Sink f p) o
+sink_made g f p None h = λ can.
+    let over : most_nodes < total_size (after_call g (pair f p)).nodes = h can.0 in
+    let room : total_size (after_call g (pair f p)).nodes ≤ most_nodes = can.1 in
     omega arith
+sink_made g f p (Some x) h = ((h.0, h.1), h.2)
 
-pub sink_made : (b : Blocked) (f p : ℕ) (g : Graph) → IsSunkAt b.graph (pair f p) (Some g)
-    → IsApplied b (Sink f p) (Some (beside_marks b.marks g))
-sink_made b f p g h = ((h.0, h.1), ap (beside_marks b.marks) h.2)
+-- of what was made under a name of the rewrite
+pub made_as : {E : Type 0} (g : Graph) (r s : Rewrite) (made : Result (Option Graph) E) → r ≡ s
+    → (P : Option Graph → Type 0) → ((o : Option Graph) → P o → IsMade g s o) → IfOk made P
+    → IfOk made (λ o. IsMade g r o)
+made_as g r s (Ok o) e P h is = subst (λ (x : Rewrite). IsMade g x o) (sym e) (h o is)
+made_as g r s (Err x) e P h is = tt
 
-pub lift_made : (b : Blocked) (n : ℕ) (g : Graph) → IsLiftedAt b.graph n (Some g)
-    → IsApplied b (Lift n) (Some (beside_marks b.marks g))
-lift_made b n g h = (h.0, ap (beside_marks b.marks) h.1)
+-- ---- marks say nothing of what may be made
+
+can_marked : (b : Blocked) (r : Rewrite) → CanApply (unmarked b.graph) r → CanApply b r
+can_marked b (Merge f e) can = can
+can_marked b _ can = can
+
+can_unmarked : (b : Blocked) (r : Rewrite) → CanApply b r → CanApply (unmarked b.graph) r
+can_unmarked b (Merge f e) can = can
+can_unmarked b _ can = can
+
+pub not_applied : (b : Blocked) (r : Rewrite) → IsMade b.graph r None → IsApplied b r None
+not_applied b r h = λ can. h (can_unmarked b r can)
+
+pub is_applied : (b : Blocked) (r : Rewrite) (g : Graph) (marks : List Place)
+    → IsMade b.graph r (Some g) → marks ≡ marks_with b.marks r
+    → IsApplied b r (Some (record { graph = g; marks = marks }))
+is_applied b r g marks h e = (
+  can_marked b r h.0,
+  ap₂ (λ (x : Graph) (ms : List Place). let y : Blocked = record { graph = x; marks = ms } in y)
+      h.1 e,
+)

@@ -1,8 +1,6 @@
 -- What is told of a rewrite.
-use Rattle.std.specs.Prelude.{◌≡◌, ℕ, Option, Some, None}
+use Rattle.std.specs.Prelude.{◌≡◌, Option, Some, None}
 use Rattle.exec_graph.specs.declared.graph.Blocked.{Blocked}
-use Rattle.exec_graph.specs.declared.graph.Graph.{Graph}
-use Rattle.graph_laws.specs.Lifting.{CanLift, lifted_at}
 use Rattle.graph_rewrites.specs.Rewrites.{CanApply, applied}
 use Rattle.graph_rewrites.specs.declared.rewrite.Rewrite.{Rewrite}
 
@@ -10,8 +8,3 @@ use Rattle.graph_rewrites.specs.declared.rewrite.Rewrite.{Rewrite}
 abbrev pub IsApplied : Blocked → Rewrite → Option Blocked → Type 0
 IsApplied b r None = CanApply b r → ⊥
 IsApplied b r (Some d) = CanApply b r × (d ≡ applied b r)
-
--- the graph with the group lifted, or none where it may not be
-abbrev pub IsLiftedAt : Graph → ℕ → Option Graph → Type 0
-IsLiftedAt g n None = CanLift g n → ⊥
-IsLiftedAt g n (Some h) = CanLift g n × (h ≡ lifted_at n g)

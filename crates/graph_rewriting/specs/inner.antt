@@ -1,2 +1,3 @@
+pub mod Made
 pub mod Standings
 pub mod Tests

@@ -1,14 +1,17 @@
 // Whether a rewrite may be made, and what it makes.
-ghost use Rattle.std.specs.Prelude.{IfOk};
+ghost use Rattle.std.specs.Prelude.{◌≡◌, IfOk, OnOk};
 ghost use Rattle.exec_graph.specs.Wellformed.{IsGraphOk};
-ghost use Rattle.graph_rewrites.specs.declared.rewrite.Rewrite.TheVariants as rewrite;
+ghost use Rattle.graph_rewrites.specs.Rewrites.{marks_with};
 ghost use Rattle.graph_rewriting.specs.Applied.{IsApplied};
+ghost use Rattle.graph_rewriting.specs.inner.Made.{IsMade};
 
 use crate::joins::{kid, sibling};
 use crate::lifting::lift_at;
-use crate::marking::mark;
-use exec_graph::Blocked;
+use crate::marking::markable;
+use exec_graph::{Blocked, Graph, Place};
 use flatten_sink::{merge_pair, sink_pair};
+use flume_value::Pile;
+use graph_joining::Kid;
 use graph_rewrites::Rewrite;
 use sink_laws::Pair;
 use std::alloc::{AllocError, Global};
@@ -22,72 +25,61 @@ pub fn apply(
     requires { IsGraphOk blocked.graph }
     ensures { IfOk result (λ made. IsApplied blocked rewrite made) }
 {
+    let Blocked { graph, mut marks } = blocked;
+    match rewritten(alloc, graph, rewrite)? {
+        Some(made) => {
+            note_mark(rewrite, &mut marks)?;
+            Ok(Some(Blocked { graph: made, marks }))
+        }
+        None => Ok(None),
+    }
+}
+
+/// The graph after the rewrite, or none where it may not be made.
+fn rewritten(alloc: Global, graph: Graph, rewrite: Rewrite) -> Result<Option<Graph>, AllocError>
+    requires { IsGraphOk graph }
+    ensures { IfOk result (λ made. IsMade graph rewrite made) }
+{
     match rewrite {
-        Rewrite::Merge { outer, inner } => merge(alloc, blocked, outer, inner),
-        Rewrite::Sink { flatten, pdo } => sink(alloc, blocked, flatten, pdo),
-        Rewrite::Lift { group } => Ok(lift(blocked, group)),
+        Rewrite::Merge { outer, inner } => merge_pair(alloc, graph, pair_of(outer, inner)),
+        Rewrite::Sink { flatten, pdo } => sink_pair(alloc, graph, pair_of(flatten, pdo)),
+        Rewrite::Lift { group } => Ok(lift_at(graph, group)),
         Rewrite::Kid {
             keeper,
             output,
             reader,
-        } => kid(alloc, blocked, keeper, output, reader),
-        Rewrite::Sibling { keeper, other } => sibling(alloc, blocked, keeper, other),
-        Rewrite::Mark { node, output } => mark(blocked, node, output),
+        } => {
+            let own = Kid {
+                keeper,
+                output,
+                reader,
+            };
+            kid(alloc, graph, own)
+        }
+        Rewrite::Sibling { keeper, other } => sibling(alloc, graph, keeper, other),
+        Rewrite::Mark { node, output } => Ok(markable(graph, node, output)),
     }
 }
 
-fn merge(
-    alloc: Global,
-    blocked: Blocked,
-    outer: u32,
-    inner: u32,
-) -> Result<Option<Blocked>, AllocError>
-    requires { IsGraphOk blocked.graph }
-    ensures { IfOk result (λ made. IsApplied blocked (rewrite.Merge outer inner) made) }
+fn pair_of(flatten: u32, other: u32) -> Pair
+    ensures { result ≡ record { flatten = flatten; other = other } }
 {
-    let Blocked { graph, marks } = blocked;
-    let pair = Pair {
-        flatten: outer,
-        other: inner,
-    };
-    match merge_pair(alloc, graph, pair)? {
-        Some(merged) => Ok(Some(Blocked {
-            graph: merged,
-            marks,
-        })),
-        None => Ok(None),
-    }
+    Pair { flatten, other }
 }
 
-fn sink(
-    alloc: Global,
-    blocked: Blocked,
-    flatten: u32,
-    pdo: u32,
-) -> Result<Option<Blocked>, AllocError>
-    requires { IsGraphOk blocked.graph }
-    ensures { IfOk result (λ made. IsApplied blocked (rewrite.Sink flatten pdo) made) }
+/// Adds the mark that the rewrite is, if it is one.
+fn note_mark(rewrite: Rewrite, marks: &mut Pile<Place>) -> Result<(), AllocError>
+    ensures { OnOk result (marks.new ≡ marks_with marks.old rewrite) }
 {
-    let Blocked { graph, marks } = blocked;
-    let pair = Pair {
-        flatten,
-        other: pdo,
-    };
-    match sink_pair(alloc, graph, pair)? {
-        Some(sunk) => Ok(Some(Blocked { graph: sunk, marks })),
-        None => Ok(None),
-    }
-}
-
-fn lift(blocked: Blocked, group: u32) -> Option<Blocked>
-    ensures { IsApplied blocked (rewrite.Lift group) result }
-{
-    let Blocked { graph, marks } = blocked;
-    match lift_at(graph, group) {
-        Some(lifted) => Some(Blocked {
-            graph: lifted,
-            marks,
-        }),
-        None => None,
+    match rewrite {
+        Rewrite::Mark { node, output } => {
+            marks.push(Place { node, out: output })?;
+            Ok(())
+        }
+        Rewrite::Merge { .. }
+        | Rewrite::Sink { .. }
+        | Rewrite::Lift { .. }
+        | Rewrite::Kid { .. }
+        | Rewrite::Sibling { .. } => Ok(()),
     }
 }

@@ -2,19 +2,21 @@
 ghost use Rattle.std.specs.Prelude.{◌≡◌, Some, map, cond, ◌==◌};
 ghost use Rattle.exec_graph.specs.Meaning.{node_at, place};
 ghost use Rattle.exec_graph.specs.Readers.{among, any_node, calls_on, collects, readers, same_place};
-ghost use Rattle.exec_graph.specs.Wellformed.{comb_at};
+ghost use Rattle.exec_graph.specs.Wellformed.{Ascends, comb_at};
 ghost use Rattle.graph_laws.specs.Lifting as lifting;
-ghost use Rattle.graph_rewriting.specs.Applied.{IsLiftedAt};
+ghost use Rattle.graph_rewrites.specs.declared.rewrite.Rewrite.TheVariants as rewrite;
+ghost use Rattle.graph_rewriting.specs.inner.Made.{IsMade};
 ghost use Rattle.graph_rewriting.specs.inner.Tests as tests;
 
 use combine_table::Comb;
 use exec_graph::{Entry, Graph, Node, Place, root_comb};
+use flatten_sink::find_node;
 use flume_value::Pile;
-use graph_joining::find_node;
 
 /// The graph with the group lifted, or none where it may not be.
 pub(crate) fn lift_at(graph: Graph, group: u32) -> Option<Graph>
-    ensures { IsLiftedAt graph group result }
+    requires { Ascends graph.nodes }
+    ensures { IsMade graph (rewrite.Lift group) result }
 {
     if !is_group_at(graph.nodes.as_slice(), group) {
         return None;
@@ -26,6 +28,7 @@ pub(crate) fn lift_at(graph: Graph, group: u32) -> Option<Graph>
 }
 
 fn is_group_at(nodes: &[Entry], number: u32) -> bool
+    requires { Ascends nodes.now }
     ensures { result ≡ tests.is_gbk (node_at nodes.now number) }
 {
     match find_node(nodes, number) {
@@ -36,6 +39,7 @@ fn is_group_at(nodes: &[Entry], number: u32) -> bool
 
 /// What the group may be lifted with: the combiner of the one Pdo that reads it.
 fn lift_of(graph: &Graph, group: u32) -> Option<Comb>
+    requires { Ascends graph.now.nodes }
     ensures { result ≡ lifting.lift_of graph.now group }
 {
     let nodes = graph.nodes.as_slice();
@@ -111,6 +115,7 @@ fn calls_first(node: u32, reader: &Node) -> bool
 
 /// The combiner of the only root of the Pdo of that number.
 fn comb_at(nodes: &[Entry], number: u32) -> Option<Comb>
+    requires { Ascends nodes.now }
     ensures { result ≡ comb_at (node_at nodes.now number) }
 {
     match find_node(nodes, number) {

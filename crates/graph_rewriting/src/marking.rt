@@ -1,30 +1,29 @@
 // An output is marked.
-ghost use Rattle.std.specs.Prelude.{◌≡◌, IfOk, Some};
+ghost use Rattle.std.specs.Prelude.{◌≡◌, Some};
 ghost use Rattle.exec_graph.specs.Meaning.{has_out, node_at};
-ghost use Rattle.exec_graph.specs.Wellformed.{IsGraphOk};
+ghost use Rattle.exec_graph.specs.Wellformed.{Ascends};
 ghost use Rattle.graph_rewrites.specs.declared.rewrite.Rewrite.TheVariants as rewrite;
-ghost use Rattle.graph_rewriting.specs.Applied.{IsApplied};
+ghost use Rattle.graph_rewriting.specs.inner.Made.{IsMade};
 ghost use Rattle.graph_rewriting.specs.inner.Tests as tests;
 
-use exec_graph::{Blocked, Entry, Node, Place, Roots};
-use graph_joining::find_node;
+use exec_graph::{Entry, Graph, Node, Roots};
+use flatten_sink::find_node;
 use graph_walks::has_output;
-use std::alloc::AllocError;
 
-/// The output is marked, if it is one of a Pdo or of a group that is not lifted.
-pub(crate) fn mark(blocked: Blocked, node: u32, output: u32) -> Result<Option<Blocked>, AllocError>
-    requires { IsGraphOk blocked.graph }
-    ensures { IfOk result (λ made. IsApplied blocked (rewrite.Mark node output) made) }
+/// The graph, if the output is one of a Pdo or of a group that is not lifted.
+pub(crate) fn markable(graph: Graph, node: u32, output: u32) -> Option<Graph>
+    requires { Ascends graph.nodes }
+    ensures { IsMade graph (rewrite.Mark node output) result }
 {
-    if !can_mark(blocked.graph.nodes.as_slice(), node, output) {
-        return Ok(None);
+    if can_mark(graph.nodes.as_slice(), node, output) {
+        Some(graph)
+    } else {
+        None
     }
-    let Blocked { graph, mut marks } = blocked;
-    marks.push(Place { node, out: output })?;
-    Ok(Some(Blocked { graph, marks }))
 }
 
 fn can_mark(nodes: &[Entry], node: u32, output: u32) -> bool
+    requires { Ascends nodes.now }
     ensures { result ≡ tests.can_mark (node_at nodes.now node) output }
 {
     match find_node(nodes, node) {

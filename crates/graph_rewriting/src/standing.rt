@@ -10,6 +10,7 @@ ghost use Rattle.graph_rewriting.specs.inner.Standings as spec;
 use crate::applying::apply;
 use exec_graph::{Blocked, Place};
 use flume_value::Pile;
+use graph_joining::Kid;
 use graph_joins::{Joins, begin, end, is_pair, read_name, with_kid, with_sibling};
 use graph_rewrites::Rewrite;
 use std::alloc::{AllocError, Global};
@@ -76,7 +77,14 @@ pub(crate) fn applied(
             keeper,
             output,
             reader,
-        } => kid(alloc, now, keeper, output, reader),
+        } => {
+            let own = Kid {
+                keeper,
+                output,
+                reader,
+            };
+            kid(alloc, now, own)
+        }
         Rewrite::Sibling { keeper, other } => sibling(alloc, now, keeper, other),
         _ => plainly(alloc, now, rewrite),
     }
@@ -117,36 +125,32 @@ fn sibling(
     Ok(Some(Standing::Joined(next, marks)))
 }
 
-fn kid(
-    alloc: Global,
-    now: Standing,
-    keeper: u32,
-    output: u32,
-    reader: u32,
-) -> Result<Option<Standing>, AllocError>
+fn kid(alloc: Global, now: Standing, kid: Kid) -> Result<Option<Standing>, AllocError>
     requires ok { IsGraphOk (spec.blocked_of now).graph }
     requires standing { spec.IsStanding now }
-    ensures applied { IfOk result (λ made.
-        IsApplied (spec.blocked_of now) (rewrite.Kid keeper output reader) (spec.shown made)) }
+    ensures applied { IfOk result (λ made. IsApplied (spec.blocked_of now)
+        (rewrite.Kid kid.keeper kid.output kid.reader) (spec.shown made)) }
     ensures standing { IfOk result (λ made. IfSome made (λ s. spec.IsStanding s)) }
 {
     let Begun { joins, marks } = under_names(alloc, now)?;
-    match read_name(&joins, keeper, output, reader) {
+    match read_name(&joins, kid) {
         Some(name) => {
-            let next = with_kid(alloc, joins, keeper, output, reader, name)?;
+            let next = with_kid(alloc, joins, kid, name)?;
             Ok(Some(Standing::Joined(next, marks)))
         }
         None => {
             let under = Standing::Joined(joins, marks);
-            plainly(
-                alloc,
-                under,
-                Rewrite::Kid {
-                    keeper,
-                    output,
-                    reader,
-                },
-            )
+            let Kid {
+                keeper,
+                output,
+                reader,
+            } = kid;
+            let own = Rewrite::Kid {
+                keeper,
+                output,
+                reader,
+            };
+            plainly(alloc, under, own)
         }
     }
 }

@@ -1,52 +1,52 @@
 -- A sibling and a kid, as graph_rewrites tells them.
-use Rattle.std.proofs.Common.{◌≡◌, ℕ, ◌<◌, Bool, true, cond, Some, sym, ap, ap₂, ◌∙◌, arith}
+use Rattle.std.proofs.Common.{◌≡◌, ℕ, ◌<◌, Bool, true, cond, Option, Some, sym, ap, ap₂, ◌∙◌, arith}
 use Rattle.std.proofs.lemmas.Bool.{le-ltb}
 use Rattle.exec_graph.specs.Forests.{Forest}
 use Rattle.exec_graph.specs.Meaning.{IsSound, has_out, node_at, place}
 use Rattle.exec_graph.specs.declared.graph.Graph.{Graph}
+use Rattle.exec_graph.specs.declared.graph.Node.{Node}
 use Rattle.exec_graph.specs.declared.graph.Node.TheVariants.{Pdo}
 use Rattle.exec_graph.specs.declared.graph.Place.{Place}
 use Rattle.fuse_chain.specs.Rewrites.{IsKid, IsSibling}
 use Rattle.graph_rewrites.specs.of_graph_bounds.of_sink_laws.Chain.{forest_of}
 use Rattle.graph_laws.specs.Joining.{beside, grafted}
 use Rattle.graph_laws.specs.Kids.{kept_by, number_in, with_kid, with_sibling}
-use Rattle.graph_rewrites.specs.Rewrites.{CanBeKid, CanBeSibling, after_kid, after_sibling, forest_at, input_at, input_of, kid_under, kid_under_other}
+use Rattle.graph_rewrites.specs.Rewrites.{CanBeKid, CanBeSibling, after_kid, after_sibling, input_of, kid_under, kid_under_other}
 use Rattle.graph_names.specs.Names.{unnamed}
 use Rattle.graph_states.specs.States.{Stands, all_but, still_read, taken_in}
 use Rattle.graph_states.proofs.Kids.{kept_is, kid_is}
 use Rattle.graph_states.proofs.Siblings.{sibling_is}
 
+-- a Pdo, by what is read off it
+told : (o : Option Node) (c : Place) (f : Forest) → o ≡ Some (Pdo c f)
+    → o ≡ Some (Pdo (input_of o) (forest_of o))
+told o c f e = e ∙ ap (λ (x : Option Node). Some (Pdo (input_of x) (forest_of x))) (sym e)
+
 pub sibling_made : (g h : Graph) (p q : ℕ) → IsSibling g p q h
     → CanBeSibling g p q × (after_sibling g p q ≡ h)
-sibling_made g h p q s =
-    let c : input_at g p ≡ s.source = ap input_of s.can.keeper in
-    let f : forest_at g p ≡ s.near = ap forest_of s.can.keeper in
-    let i : forest_at g q ≡ s.far = ap forest_of s.can.other in (
-      record {
-        keeper = s.can.keeper
-            ∙ ap₂ (λ (d : Place) (x : Forest). Some (Pdo d x)) (sym c) (sym f);
-        other = s.can.other
-            ∙ ap₂ (λ (d : Place) (x : Forest). Some (Pdo d x)) (sym c) (sym i);
-        differ = s.can.differ;
-      },
-      ap₂ (λ (d : Place) (x : Forest). with_sibling g p q d x (forest_at g q)) c f
-          ∙ ap (λ (x : Forest). with_sibling g p q s.source s.near x) i ∙ s.is,
-    )
+sibling_made g h p q s = (
+  record {
+    keeper = told (node_at g.nodes p) s.source s.near s.can.keeper;
+    other = s.can.other
+        ∙ ap₂ (λ (o u : Option Node). Some (Pdo (input_of o) (forest_of u))) (sym s.can.keeper)
+        (sym s.can.other);
+    differ = s.can.differ;
+  },
+  ap₂ (λ (o u : Option Node). with_sibling g p q (input_of o) (forest_of o) (forest_of u))
+      s.can.keeper s.can.other ∙ s.is,
+)
 
 pub kid_made : (g h : Graph) (p k q : ℕ) → IsKid g p k q h
     → CanBeKid g p k q × (kid_under g p k q ≡ h)
-kid_made g h p k q s =
-    let c : input_at g p ≡ s.source = ap input_of s.can.keeper in
-    let f : forest_at g p ≡ s.near = ap forest_of s.can.keeper in
-    let i : forest_at g q ≡ s.far = ap forest_of s.can.other in (
-      record {
-        keeper = s.can.keeper
-            ∙ ap₂ (λ (d : Place) (x : Forest). Some (Pdo d x)) (sym c) (sym f);
-        other = s.can.other ∙ ap (λ (x : Forest). Some (Pdo (place p k) x)) (sym i);
-      },
-      ap₂ (λ (d : Place) (x : Forest). with_kid g p k q d x (forest_at g q)) c f
-          ∙ ap (λ (x : Forest). with_kid g p k q s.source s.near x) i ∙ s.is,
-    )
+kid_made g h p k q s = (
+  record {
+    keeper = told (node_at g.nodes p) s.source s.near s.can.keeper;
+    other = s.can.other
+        ∙ ap (λ (u : Option Node). Some (Pdo (place p k) (forest_of u))) (sym s.can.other);
+  },
+  ap₂ (λ (o u : Option Node). with_kid g p k q (input_of o) (forest_of o) (forest_of u))
+      s.can.keeper s.can.other ∙ s.is,
+)
 
 -- ---- under names
 

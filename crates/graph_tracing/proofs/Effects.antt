@@ -1,5 +1,5 @@
 -- What a kid or a sibling does to the Pdos that stay, and to the one that goes.
-use Rattle.std.proofs.Common.{◌≡◌, ℕ, Bool, true, false, cond, eqb, List, [], ◌∷◌, Some, None, refl, sym, ap, ◌∙◌, subst}
+use Rattle.std.proofs.Common.{◌≡◌, ℕ, Bool, true, false, cond, eqb, List, [], ◌∷◌, map, Some, None, refl, sym, ap, ◌∙◌, subst}
 use Rattle.std.proofs.lemmas.Bool.{eqb-true, eq-eqb, false≢true, ne_eqb}
 use Rattle.std.specs.List.{AllByRecursion as Each}
 use Rattle.exec_graph.specs.Forests.{Forest, numbered}
@@ -10,13 +10,51 @@ use Rattle.exec_graph.specs.declared.graph.Graph.{Graph}
 use Rattle.exec_graph.specs.declared.graph.Node.TheVariants.{Pdo}
 use Rattle.exec_graph.specs.declared.graph.Place.{Place}
 use Rattle.pass_rewrites.proofs.of_fuse_chain.NextStates.{set_other, without_other}
-use Rattle.graph_laws.specs.Joining.{joined_into, moved, set_node, without}
+use Rattle.graph_laws.specs.Joining.{joined_into, moved, reread_entry, set_node, without}
 use Rattle.graph_laws.specs.Kids.{apart, even, kept_by, moved_out, named_by, number_in, odd, refitted, renewed, same_number}
 use Rattle.graph_laws.proofs.Wellness.{differ_map, differ_set, mapped, node_at-map, node_at-set_same}
 
 -- the Pdo of that number reads c
 abbrev pub Calls : Graph → ℕ → Place → Type 0
 Calls g n c = (f : Forest) × (node_at g.nodes n ≡ Some (Pdo c f))
+
+-- ---- a Pdo with other steps, and all by a rule
+
+module _ (es : List Entry) (n : ℕ) (c : Place) (f : Forest) (r : Place → Place)
+    (here : (i : Forest) × (node_at es n ≡ Some (Pdo c i))) where
+  abbrev with_it : List Entry
+  with_it = set_node es n (Pdo c f)
+
+  set_calls : (m : ℕ) (d : Place) (i : Forest) → node_at es m ≡ Some (Pdo d i)
+      → (j : Forest) × (node_at (map (reread_entry r) with_it) m ≡ Some (Pdo (r d) j))
+  set_calls m d i h = by (eqb m n) refl
+    where
+      by : (b : Bool) → eqb m n ≡ b
+          → (j : Forest) × (node_at (map (reread_entry r) with_it) m ≡ Some (Pdo (r d) j))
+      by true k =
+          let same : m ≡ n = eqb-true m n k in
+          let both : Some (Pdo d i) ≡ Some (Pdo c here.0) =
+          sym h ∙ ap (node_at es) same ∙ here.1 in
+          let is : c ≡ d = cc in (
+            f,
+            node_at-map r with_it m
+                ∙ ap (mapped r) (ap (node_at with_it) same
+                ∙ node_at-set_same es n (Pdo c f) (Pdo c here.0) here.1)
+                ∙ ap (λ (x : Place). Some (Pdo (r x) f)) is,
+          )
+      by false k = (
+        i,
+        node_at-map r with_it m
+            ∙ ap (mapped r)
+            (set_other es n m (Pdo c f) (λ e. false≢true (sym k ∙ eq-eqb m n e)) ∙ h),
+      )
+
+  set_absent : (m : ℕ) → node_at es m ≡ None → node_at (map (reread_entry r) with_it) m ≡ None
+  set_absent m h =
+      node_at-map r with_it m
+      ∙ ap (mapped r) (set_other es n m (Pdo c f) (λ e.
+      let both : None ≡ Some (Pdo c here.0) = sym h ∙ ap (node_at es) e ∙ here.1 in
+      let bad : ⊥ = cc in bad) ∙ h)
 
 -- ---- other numbers of outputs
 
@@ -26,35 +64,11 @@ module _ (g : Graph) (n : ℕ) (c : Place) (f : Forest) (r : ℕ → ℕ) (here 
 
   pub refit_calls : (m : ℕ) (d : Place) → Calls g m d
       → Calls (refitted g n c f r) m (moved_out n r d)
-  refit_calls m d h = by (eqb m n) refl
-    where
-      by : (b : Bool) → eqb m n ≡ b → Calls (refitted g n c f r) m (moved_out n r d)
-      by true i =
-          let same : m ≡ n = eqb-true m n i in
-          let both : Some (Pdo d h.0) ≡ Some (Pdo c here.0) =
-          sym h.1 ∙ ap (node_at g.nodes) same ∙ here.1 in
-          let is : c ≡ d = cc in (
-            f,
-            node_at-map (moved_out n r) set m
-                ∙ ap (mapped (moved_out n r)) (ap (node_at set) same
-                ∙ node_at-set_same g.nodes n (Pdo c f) (Pdo c here.0) here.1)
-                ∙ ap (λ (x : Place). Some (Pdo (moved_out n r x) f)) is,
-          )
-      by false i = (
-        h.0,
-        node_at-map (moved_out n r) set m
-            ∙ ap (mapped (moved_out n r))
-            (set_other g.nodes n m (Pdo c f) (λ e. false≢true (sym i ∙ eq-eqb m n e)) ∙ h.1),
-      )
+  refit_calls m d h = set_calls g.nodes n c f (moved_out n r) here m d h.0 h.1
 
   pub refit_absent : (m : ℕ) → node_at g.nodes m ≡ None
       → node_at (refitted g n c f r).nodes m ≡ None
-  refit_absent m h =
-      node_at-map (moved_out n r) set m
-      ∙ ap (mapped (moved_out n r)) (set_other g.nodes n m (Pdo c f) (λ e.
-      let both : None ≡ Some (Pdo c here.0) =
-      sym h ∙ ap (node_at g.nodes) e ∙ here.1 in
-      let bad : ⊥ = cc in bad) ∙ h)
+  refit_absent m h = set_absent g.nodes n c f (moved_out n r) here m h
 
   pub refit_differ : AllDiffer g.nodes → AllDiffer (refitted g n c f r).nodes
   refit_differ a =
@@ -91,36 +105,15 @@ module _ (g : Graph) (p q : ℕ) (c : Place) (f : Forest) (here : Calls g p c)
 
   pub join_calls : (m : ℕ) (d : Place) → Calls g m d → (m ≡ q → ⊥)
       → Calls (joined_into g p q c f) m (moved p q d)
-  join_calls m d h other = by (eqb m p) refl
-    where
-      by : (b : Bool) → eqb m p ≡ b → Calls (joined_into g p q c f) m (moved p q d)
-      by true i =
-          let same : m ≡ p = eqb-true m p i in
-          let both : Some (Pdo d h.0) ≡ Some (Pdo c here.0) =
-          sym h.1 ∙ ap (node_at g.nodes) same ∙ here.1 in
-          let is : c ≡ d = cc in (
-            f,
-            node_at-map (moved p q) kept m
-                ∙ ap (mapped (moved p q)) (ap (node_at kept) same
-                ∙ node_at-set_same left p (Pdo c f) (Pdo c here.0) here_left)
-                ∙ ap (λ (x : Place). Some (Pdo (moved p q x) f)) is,
-          )
-      by false i = (
-        h.0,
-        node_at-map (moved p q) kept m
-            ∙ ap (mapped (moved p q))
-            (set_other left p m (Pdo c f) (λ e. false≢true (sym i ∙ eq-eqb m p e))
-            ∙ without_other g.nodes q m other ∙ h.1),
-      )
+  join_calls m d h other =
+      set_calls left p c f (moved p q) (here.0, here_left) m d h.0
+      (without_other g.nodes q m other ∙ h.1)
 
   pub join_absent : (m : ℕ) → (m ≡ q → ⊥) → node_at g.nodes m ≡ None
       → node_at (joined_into g p q c f).nodes m ≡ None
   join_absent m other h =
-      node_at-map (moved p q) kept m
-      ∙ ap (mapped (moved p q)) (set_other left p m (Pdo c f) (λ e.
-      let both : None ≡ Some (Pdo c here.0) =
-      sym h ∙ ap (node_at g.nodes) e ∙ here.1 in
-      let bad : ⊥ = cc in bad) ∙ without_other g.nodes q m other ∙ h)
+      set_absent left p c f (moved p q) (here.0, here_left) m
+      (without_other g.nodes q m other ∙ h)
 
   pub join_gone : AllDiffer g.nodes → node_at (joined_into g p q c f).nodes q ≡ None
   join_gone a =

@@ -17,7 +17,7 @@ use Rattle.pardo_fuse.specs.Readers.{is_pdo}
 use Rattle.pardo_fuse.proofs.Places.{same_is, same_self}
 use Rattle.graph_tracing.specs.inner.Callers.{below, first_caller, keeper_by, keeper_in, read_by, read_in}
 use Rattle.graph_tracing.proofs.Effects.{Calls}
-use Rattle.graph_joins.proofs.Tests.{pdo_is as pdo_self}
+use Rattle.graph_joining.proofs.Passes.{pdo_is as pdo_self}
 
 -- ---- Pdos
 

@@ -4,6 +4,7 @@ use Rattle.std.proofs.lemmas.Bool.{eqb-true}
 use Rattle.std.proofs.lemmas.List.{append-nil}
 use Rattle.std.specs.List.{AllByRecursion as Each}
 use Rattle.flume_value.proofs.EachLemmas.{Each-weaker}
+use Rattle.exec_graph.specs.Forests.{Forest}
 use Rattle.exec_graph.specs.Meaning.{AllDiffer, IsSound, node_at, place}
 use Rattle.exec_graph.specs.Readers.{those}
 use Rattle.exec_graph.specs.Wellformed.{Ascends}
@@ -14,8 +15,8 @@ use Rattle.exec_graph.specs.declared.graph.Node.TheVariants.{Pdo}
 use Rattle.exec_graph.specs.declared.graph.Place.{Place}
 use Rattle.pass_rewrites.specs.of_fuse_chain.Numbers.{after_kids}
 use Rattle.pass_rewrites.specs.of_fuse_chain.Rewrites.{InOrder, IsKid, IsSibling, Kid, Sibling, LeadsTo, Makes, Rewrite as Fusion, other_of}
-use Rattle.graph_laws.specs.Joining.{beside, grafted}
-use Rattle.graph_laws.specs.Kids.{even, named_by, odd}
+use Rattle.graph_laws.specs.Joining.{beside, grafted, joined_into}
+use Rattle.graph_laws.specs.Kids.{apart, even, named_by, odd, renewed}
 use Rattle.graph_rewrites.specs.declared.rewrite.Rewrite.{Rewrite}
 use Rattle.pass_rewrites.specs.Passes.{as_rewrite, present}
 use Rattle.graph_laws.proofs.Kids.{kid_sound, sibling_sound}
@@ -76,33 +77,27 @@ pub record Effect (g h : Graph) (q : ℕ) : Type 0 where
   pub read : Place
   pub there : Calls g q read
 
+effect_of : (g : Graph) (p q : ℕ) (c d : Place) (near far new : Forest) → Takes g p q c d
+    → Effect g (renewed (joined_into (apart g p q c d near far) p q c new) p c new) q
+effect_of g p q c d near far new t = record {
+  shift = shift g p q c d near far new t;
+  calls = taken_calls g p q c d near far new t;
+  absent = taken_absent g p q c d near far new t;
+  gone = taken_gone g p q c d near far new t;
+  read = d;
+  there = t.other;
+}
+
 pub effect : (r : Fusion) (g h : Graph) → Makes r g h → IsSound g
     → Effect g h (other_of r)
 effect (Kid p k q) g h m low =
-    let c : Place = m.source in
-    let d : Place = place p k in
-    let new = grafted (even k) (named_by odd m.far) (named_by even m.near) in
-    let t : Takes g p q c d = kid_takes g p k q h low m in
-    subst (λ (x : Graph). Effect g x q) m.is (record {
-      shift = shift g p q c d m.near m.far new t;
-      calls = taken_calls g p q c d m.near m.far new t;
-      absent = taken_absent g p q c d m.near m.far new t;
-      gone = taken_gone g p q c d m.near m.far new t;
-      read = d;
-      there = (m.far, m.can.other);
-    })
+    subst (λ (x : Graph). Effect g x q) m.is
+    (effect_of g p q m.source (place p k) m.near m.far
+    (grafted (even k) (named_by odd m.far) (named_by even m.near)) (kid_takes g p k q h low m))
 effect (Sibling p q) g h m low =
-    let c : Place = m.source in
-    let new = beside (named_by even m.near) (named_by odd m.far) in
-    let t : Takes g p q c c = sibling_takes g p q h low m in
-    subst (λ (x : Graph). Effect g x q) m.is (record {
-      shift = shift g p q c c m.near m.far new t;
-      calls = taken_calls g p q c c m.near m.far new t;
-      absent = taken_absent g p q c c m.near m.far new t;
-      gone = taken_gone g p q c c m.near m.far new t;
-      read = c;
-      there = (m.far, m.can.other);
-    })
+    subst (λ (x : Graph). Effect g x q) m.is
+    (effect_of g p q m.source m.source m.near m.far
+    (beside (named_by even m.near) (named_by odd m.far)) (sibling_takes g p q h low m))
 
 -- ---- all of them
 

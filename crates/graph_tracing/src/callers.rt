@@ -11,6 +11,7 @@ ghost use Rattle.graph_tracing.specs.inner.Callers as callers;
 
 use exec_graph::{Entry, Node, Place, code_of};
 use flatten_sink::find_node;
+use graph_joining::is_pdo_at;
 use graph_joins::NamedGraph;
 use std::alloc::{AllocError, Global};
 use std::collections::HashMap;
@@ -116,15 +117,5 @@ pub(crate) fn read_of(nodes: &[Entry], number: u32) -> Option<Place>
             }
         }
         _ => None,
-    }
-}
-
-pub(crate) fn is_pdo_at(nodes: &[Entry], number: u32) -> bool
-    requires { Ascends nodes.now }
-    ensures { result ≡ is_pdo (node_at nodes.now number) }
-{
-    match find_node(nodes, number) {
-        Some(Node::Pdo { .. }) => true,
-        _ => false,
     }
 }

@@ -11,11 +11,9 @@ ghost use Rattle.graph_tracing.specs.inner.Numbers.{KeepsAll, number_in};
 ghost use Rattle.graph_tracing.specs.inner.Waiting.{IsLeaving};
 
 use crate::callers::read_of;
-use crate::numbers::{number_of, take_lesser};
+use crate::numbers::note_kid;
 use crate::trace::Trace;
-use exec_graph::Place;
-use graph_joining::kid_under;
-use graph_rewrites::Rewrite;
+use graph_joining::{Kid, kid_under};
 use std::alloc::{AllocError, Global};
 use std::collections::HashMap;
 
@@ -42,42 +40,37 @@ pub(crate) fn with_kid(alloc: Global, kids: KidTrace, number: u32) -> Result<Kid
 {
     match read_of(kids.trace.graph.nodes.as_slice(), number) {
         Some(read) => {
-            let next = after_kid(alloc, kids, read, number)?;
+            let kid = Kid {
+                keeper: read.node,
+                output: read.out,
+                reader: number,
+            };
+            let next = after_kid(alloc, kids, kid)?;
             Ok(next)
         }
         None => Ok(kids),
     }
 }
 
-fn after_kid(
-    alloc: Global,
-    kids: KidTrace,
-    read: Place,
-    reader: u32,
-) -> Result<KidTrace, AllocError>
+fn after_kid(alloc: Global, kids: KidTrace, kid: Kid) -> Result<KidTrace, AllocError>
     requires ok { IsGraphOk kids.trace.graph }
     requires keeps { KeepsAll (number_in kids.numbers) }
-    requires can { rewrites.CanBeKid kids.trace.graph read.node read.out reader }
-    ensures graph { IfOk result (λ t.
-        t.trace.graph ≡ rewrites.kid_under kids.trace.graph read.node read.out reader) }
+    requires can { rewrites.CanBeKid kids.trace.graph kid.keeper kid.output kid.reader }
+    ensures graph { IfOk result (λ t. t.trace.graph
+        ≡ rewrites.kid_under kids.trace.graph kid.keeper kid.output kid.reader) }
     ensures rewrites { IfOk result (λ t. t.trace.rewrites ≡ kids.trace.rewrites
-        ++ rewrite.Kid (number_in kids.numbers read.node) read.out
-        (number_in kids.numbers reader) ∷ []) }
+        ++ rewrite.Kid (number_in kids.numbers kid.keeper) kid.output
+        (number_in kids.numbers kid.reader) ∷ []) }
     ensures numbers { IfOk result (λ t. (n : ℕ) → number_in t.numbers n
-        ≡ after.after_kid (number_in kids.numbers) read.node reader n) }
+        ≡ after.after_kid (number_in kids.numbers) kid.keeper kid.reader n) }
 {
     let KidTrace { trace, mut numbers } = kids;
     let Trace {
         graph,
         mut rewrites,
     } = trace;
-    rewrites.push(Rewrite::Kid {
-        keeper: number_of(read.node, &numbers),
-        output: read.out,
-        reader: number_of(reader, &numbers),
-    })?;
-    take_lesser(read.node, reader, &mut numbers)?;
-    let graph = kid_under(alloc, graph, read.node, read.out, reader)?;
+    note_kid(kid, &mut numbers, &mut rewrites)?;
+    let graph = kid_under(alloc, graph, kid)?;
     Ok(KidTrace {
         trace: Trace { graph, rewrites },
         numbers,

@@ -8,13 +8,13 @@ ghost use Rattle.pardo_fuse.specs.Wellformed.{IsFusible};
 ghost use Rattle.graph_tracing.specs.Fusions.{IsFusion};
 ghost use Rattle.graph_tracing.specs.inner.Callers as callers;
 
-use crate::callers::is_pdo_at;
 use crate::fusing::KidTrace;
 use crate::hanging::with_kids;
 use crate::pairing::with_siblings;
 use crate::trace::Trace;
 use exec_graph::{Entry, Graph, Node, Place, add_place, code_of};
 use flume_value::Pile;
+use graph_joining::is_pdo_at;
 use graph_rewrites::Rewrite;
 use std::alloc::{AllocError, Global};
 use std::collections::{HashMap, HashSet};

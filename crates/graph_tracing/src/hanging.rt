@@ -13,12 +13,11 @@ ghost use Rattle.graph_tracing.specs.inner.Numbers.{KeepsAll, number_in};
 ghost use Rattle.graph_tracing.specs.inner.Waiting.{IsLeaving};
 
 use crate::fusing::{KidTrace, with_kid};
-use crate::likely::likely_output;
+use crate::likely::likely_kid;
 use crate::named::{NamedTrace, named_trace, unnamed_trace};
-use crate::numbers::{number_of, take_lesser};
-use exec_graph::Place;
+use crate::numbers::note_kid;
+use graph_joining::Kid;
 use graph_joins::{read_name, with_kid as with_named_kid};
-use graph_rewrites::Rewrite;
 use std::alloc::{AllocError, Global};
 use std::collections::HashMap;
 
@@ -84,6 +83,8 @@ fn all_kids(alloc: Global, kids: NamedKids, numbers: &[u32]) -> Result<NamedKids
     Ok(kids)
 }
 
+/// The Pdo of that number becomes a kid, if it is still there: under names where it reads what it
+/// likely reads and has the greater number, and else as the graph is.
 fn next_kid(alloc: Global, kids: NamedKids, number: u32) -> Result<NamedKids, AllocError>
     requires session { IsSession kids.trace.joins }
     requires keeps { KeepsAll (number_in kids.numbers) }
@@ -99,32 +100,16 @@ fn next_kid(alloc: Global, kids: NamedKids, number: u32) -> Result<NamedKids, Al
     if !kids.trace.joins.graph.is_pdo(number) {
         return Ok(kids);
     }
-    let next = kid_of(alloc, kids, number)?;
-    Ok(next)
-}
-
-/// The Pdo of that number becomes a kid, under names where it reads what it likely reads and has
-/// the greater number, and else as the graph is.
-fn kid_of(alloc: Global, kids: NamedKids, number: u32) -> Result<NamedKids, AllocError>
-    requires session { IsSession kids.trace.joins }
-    requires keeps { KeepsAll (number_in kids.numbers) }
-    ensures session { IfOk result (λ t. IsSession t.trace.joins) }
-    ensures keeps { IfOk result (λ t. KeepsAll (number_in t.numbers)) }
-    ensures traced { IfOk result (λ t. GoesUnder (number_in kids.numbers) (number_in t.numbers)
-        (trace_of kids.trace) (trace_of t.trace)) }
-    ensures whole { IfOk result (λ t. (m : GhostGraph) (f : ℕ → ℕ) (ns : List ℕ)
-        (all : List GhostRewrite) →
-        IsLeaving (number_in kids.numbers) f (trace_of kids.trace) m (number ∷ ns) all →
-        IsLeaving (number_in t.numbers) f (trace_of t.trace) m ns all) }
-{
-    let read = likely_output(&kids.trace.joins, number, &kids.keepers);
-    match read_name(&kids.trace.joins, read.node, read.out, number) {
+    let kid = likely_kid(&kids.trace.joins, number, &kids.keepers);
+    match read_name(&kids.trace.joins, kid) {
         Some(name) => {
-            let next = after_named_kid(alloc, kids, read, number, name)?;
+            let next = after_named_kid(alloc, kids, kid, name)?;
             Ok(next)
         }
         None => {
-            let next = kid_as_it_is(alloc, kids, number)?;
+            let plain = unnamed_kids(alloc, kids)?;
+            let joined = with_kid(alloc, plain, number)?;
+            let next = named_kids(alloc, joined)?;
             Ok(next)
         }
     }
@@ -133,23 +118,22 @@ fn kid_of(alloc: Global, kids: NamedKids, number: u32) -> Result<NamedKids, Allo
 fn after_named_kid(
     alloc: Global,
     kids: NamedKids,
-    read: Place,
-    reader: u32,
+    kid: Kid,
     name: u32,
 ) -> Result<NamedKids, AllocError>
     requires session { IsSession kids.trace.joins }
     requires keeps { KeepsAll (number_in kids.numbers) }
-    requires reads { IsReader kids.trace.joins.graph read.node read.out reader name }
+    requires reads { IsReader kids.trace.joins.graph kid.keeper kid.output kid.reader name }
     ensures session { IfOk result (λ t. IsSession t.trace.joins) }
     ensures can { IfOk result (λ t.
-        rewrites.CanBeKid (trace_of kids.trace).graph read.node read.out reader) }
+        rewrites.CanBeKid (trace_of kids.trace).graph kid.keeper kid.output kid.reader) }
     ensures graph { IfOk result (λ t. (trace_of t.trace).graph
-        ≡ rewrites.kid_under (trace_of kids.trace).graph read.node read.out reader) }
+        ≡ rewrites.kid_under (trace_of kids.trace).graph kid.keeper kid.output kid.reader) }
     ensures rewrites { IfOk result (λ t. t.trace.rewrites ≡ kids.trace.rewrites
-        ++ rewrite.Kid (number_in kids.numbers read.node) read.out
-        (number_in kids.numbers reader) ∷ []) }
+        ++ rewrite.Kid (number_in kids.numbers kid.keeper) kid.output
+        (number_in kids.numbers kid.reader) ∷ []) }
     ensures numbers { IfOk result (λ t. (n : ℕ) → number_in t.numbers n
-        ≡ after.after_kid (number_in kids.numbers) read.node reader n) }
+        ≡ after.after_kid (number_in kids.numbers) kid.keeper kid.reader n) }
 {
     let NamedKids {
         trace,
@@ -160,38 +144,14 @@ fn after_named_kid(
         joins,
         mut rewrites,
     } = trace;
-    rewrites.push(Rewrite::Kid {
-        keeper: number_of(read.node, &numbers),
-        output: read.out,
-        reader: number_of(reader, &numbers),
-    })?;
-    take_lesser(read.node, reader, &mut numbers)?;
-    keepers.insert(reader, read.node)?;
-    let joins = with_named_kid(alloc, joins, read.node, read.out, reader, name)?;
+    note_kid(kid, &mut numbers, &mut rewrites)?;
+    keepers.insert(kid.reader, kid.keeper)?;
+    let joins = with_named_kid(alloc, joins, kid, name)?;
     Ok(NamedKids {
         trace: NamedTrace { joins, rewrites },
         numbers,
         keepers,
     })
-}
-
-/// The Pdo becomes a kid without names, and what comes of it is told under names again.
-fn kid_as_it_is(alloc: Global, kids: NamedKids, number: u32) -> Result<NamedKids, AllocError>
-    requires session { IsSession kids.trace.joins }
-    requires keeps { KeepsAll (number_in kids.numbers) }
-    ensures session { IfOk result (λ t. IsSession t.trace.joins) }
-    ensures keeps { IfOk result (λ t. KeepsAll (number_in t.numbers)) }
-    ensures traced { IfOk result (λ t. GoesUnder (number_in kids.numbers) (number_in t.numbers)
-        (trace_of kids.trace) (trace_of t.trace)) }
-    ensures whole { IfOk result (λ t. (m : GhostGraph) (f : ℕ → ℕ) (ns : List ℕ)
-        (all : List GhostRewrite) →
-        IsLeaving (number_in kids.numbers) f (trace_of kids.trace) m (number ∷ ns) all →
-        IsLeaving (number_in t.numbers) f (trace_of t.trace) m ns all) }
-{
-    let plain = unnamed_kids(alloc, kids)?;
-    let joined = with_kid(alloc, plain, number)?;
-    let next = named_kids(alloc, joined)?;
-    Ok(next)
 }
 
 fn unnamed_kids(alloc: Global, kids: NamedKids) -> Result<KidTrace, AllocError>

@@ -1,23 +1,32 @@
 // Which output a Pdo reads, most likely: a guess that others test.
-use exec_graph::{Output, Place, Step};
+ghost use Rattle.std.specs.Prelude.{◌≡◌};
+
+use exec_graph::{Output, Step};
+use graph_joining::Kid;
 use graph_joins::Joins;
 use std::collections::HashMap;
 
-/// The output that the Pdo of that number likely reads, of a graph under names. The name is of the
-/// Pdo that had it when names were given, or of that which took this one in.
-pub(crate) fn likely_output(joins: &Joins, reader: u32, keepers: &HashMap<u32, u32>) -> Place {
+/// The kid that the Pdo of that number likely is, in a graph under names. The name that it reads is
+/// of the Pdo that had it when names were given, or of that which took this one in.
+pub(crate) fn likely_kid(joins: &Joins, reader: u32, keepers: &HashMap<u32, u32>) -> Kid
+    ensures { result.reader ≡ reader }
+{
     let graph = &joins.graph;
     let name = graph.input(reader).node;
     let first = name.checked_rem(graph.next()).unwrap_or(0);
-    let node = match keepers.get(&first) {
+    let keeper = match keepers.get(&first) {
         Some(keeper) => *keeper,
         None => first,
     };
-    let out = match joins.tables.lists.get(&node) {
+    let output = match joins.tables.lists.get(&keeper) {
         Some(names) => names.likely_place(name).unwrap_or(0),
-        None => outs_before(graph.steps(node), name),
+        None => outs_before(graph.steps(keeper), name),
     };
-    Place { node, out }
+    Kid {
+        keeper,
+        output,
+        reader,
+    }
 }
 
 /// How many outputs stand before that of the name among those that the steps keep.

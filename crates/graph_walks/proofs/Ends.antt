@@ -6,7 +6,7 @@ use Rattle.graph_laws.specs.of_exec_graph.Twigs.{twig}
 use Rattle.graph_laws.specs.of_exec_graph.declared.step.Output.{Output}
 use Rattle.graph_walks.specs.Outs.{out_list, outs}
 use Rattle.graph_walks.specs.inner.Numbering.{after_twig, branches_outs, numbered_branches, numbered_twig, numbered_twigs, twig_outs, twigs_outs}
-use Rattle.graph_walks.proofs.NumberLemmas.{grown_numbered, out_count, outs_grown, twig_count}
+use Rattle.graph_walks.proofs.NumberLemmas.{grown_numbered, out_count, outs_grown, outs_more, twig_count}
 use Rattle.graph_walks.proofs.Relabeling.{twig_of}
 
 -- ---- at the end of a list
@@ -73,4 +73,4 @@ pub outs_behind : (before first last : List ℕ) (t : Twig) (ts : List Twig)
     → first ≡ before ++ twig_outs t → last ≡ first ++ twigs_outs ts
     → last ≡ before ++ (twig_outs t ++ twigs_outs ts)
 outs_behind before first last t ts f l =
-    l ∙ ap (λ ns. ns ++ twigs_outs ts) f ∙ append_assoc before (twig_outs t) (twigs_outs ts)
+    l ∙ outs_more twig_outs before first t ts f

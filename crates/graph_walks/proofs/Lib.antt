@@ -7,3 +7,4 @@ pub mod Turns
 pub mod Ends
 pub mod Places
 pub mod TableTurns
+pub mod Rereads

@@ -1,8 +1,9 @@
 -- Outputs numbered one behind the other, as the steps are held.
 use Rattle.std.proofs.Common.{◌≡◌, ℕ, suc, ◌+◌, List, [], ◌∷◌, ◌++◌, length, Option, Some, None, refl, sym, ap, ap₂, ◌∙◌, arith, append_assoc, length-append}
+use Rattle.std.specs.List.{flat_map}
 use Rattle.graph_laws.specs.of_exec_graph.Forests.{Branch, Forest, Bare, Grow, Twig, after, after_out, grown, label_at, limb, new_label, numbered, twigs}
 use Rattle.graph_walks.specs.Outs.{out_list, outs}
-use Rattle.graph_walks.specs.inner.Numbering.{after_branch, after_twig, after_twigs, branch_outs, branches_outs, numbered_branch, numbered_branches, numbered_twig, numbered_twigs, twig_outs, twigs_outs}
+use Rattle.graph_walks.specs.inner.Numbering.{after_branch, after_twig, after_twigs, branch_outs, branches_outs, numbered_all, numbered_branch, numbered_branches, numbered_twigs, twig_outs, twigs_outs}
 
 -- ---- the forest
 
@@ -69,43 +70,27 @@ twigs_count n (t ∷ ts) =
     let c = length-append (twig_outs t) (twigs_outs ts) in
     omega arith
 
-branch_count : (n : ℕ) (b : Branch) → after_branch n b ≡ n + length (branch_outs b)
+pub branch_count : (n : ℕ) (b : Branch) → after_branch n b ≡ n + length (branch_outs b)
 branch_count n b = twigs_count n (b.first ∷ b.more)
 
 -- ---- one more
 
--- a step behind those that have their numbers
-pub branch_more : (done new : List Branch) (before after : List ℕ) (b : Branch)
-    (bs : List Branch) → new ≡ done ++ numbered_branch (length before) b ∷ []
-    → after ≡ before ++ branch_outs b
-    → new ++ numbered_branches (length after) bs
-    ≡ done ++ numbered_branches (length before) (b ∷ bs)
-branch_more done new before after b bs e f =
-    let count : length after ≡ after_branch (length before) b =
-    ap length f ∙ length-append before (branch_outs b) ∙ sym (branch_count (length before) b) in
-    ap₂ (λ (ds : List Branch) (n : ℕ). ds ++ numbered_branches n bs) e count
-    ∙ append_assoc done (numbered_branch (length before) b ∷ [])
-    (numbered_branches (after_branch (length before) b) bs)
+pub numbered_more : {X : Type 0} (one : ℕ → X → X) (behind : ℕ → X → ℕ) (outs_of : X → List ℕ)
+    → ((n : ℕ) (x : X) → behind n x ≡ n + length (outs_of x))
+    → (done new : List X) (before after : List ℕ) (x : X) (xs : List X)
+    → new ≡ done ++ one (length before) x ∷ [] → after ≡ before ++ outs_of x
+    → new ++ numbered_all one behind (length after) xs
+    ≡ done ++ numbered_all one behind (length before) (x ∷ xs)
+numbered_more {X} one behind outs_of counts done new before after x xs e f =
+    let count : length after ≡ behind (length before) x =
+    ap length f ∙ length-append before (outs_of x) ∙ sym (counts (length before) x) in
+    ap₂ (λ (ds : List X) (n : ℕ). ds ++ numbered_all one behind n xs) e count
+    ∙ append_assoc done (one (length before) x ∷ [])
+    (numbered_all one behind (behind (length before) x) xs)
 
-pub outs_more : (before after : List ℕ) (b : Branch) (bs : List Branch)
-    → after ≡ before ++ branch_outs b
-    → after ++ branches_outs bs ≡ before ++ branches_outs (b ∷ bs)
-outs_more before after b bs f =
-    ap (λ ns. ns ++ branches_outs bs) f ∙ append_assoc before (branch_outs b) (branches_outs bs)
-
--- an output behind those that have their numbers
-pub twig_more : (done new : List Twig) (before after : List ℕ) (t : Twig) (ts : List Twig)
-    → new ≡ done ++ numbered_twig (length before) t ∷ [] → after ≡ before ++ twig_outs t
-    → new ++ numbered_twigs (length after) ts ≡ done ++ numbered_twigs (length before) (t ∷ ts)
-twig_more done new before after t ts e f =
-    let count : length after ≡ after_twig (length before) t =
-    ap length f ∙ length-append before (twig_outs t) ∙ sym (twig_count (length before) t) in
-    ap₂ (λ (ds : List Twig) (n : ℕ). ds ++ numbered_twigs n ts) e count
-    ∙ append_assoc done (numbered_twig (length before) t ∷ [])
-    (numbered_twigs (after_twig (length before) t) ts)
-
-pub twig_outs_more : (before after : List ℕ) (t : Twig) (ts : List Twig)
-    → after ≡ before ++ twig_outs t
-    → after ++ twigs_outs ts ≡ before ++ twigs_outs (t ∷ ts)
-twig_outs_more before after t ts f =
-    ap (λ ns. ns ++ twigs_outs ts) f ∙ append_assoc before (twig_outs t) (twigs_outs ts)
+pub outs_more : {X : Type 0} (outs_of : X → List ℕ) (before after : List ℕ) (x : X) (xs : List X)
+    → after ≡ before ++ outs_of x
+    → after ++ flat_map outs_of xs ≡ before ++ flat_map outs_of (x ∷ xs)
+outs_more outs_of before after x xs f =
+    ap (λ ns. ns ++ flat_map outs_of xs) f
+    ∙ append_assoc before (outs_of x) (flat_map outs_of xs)

@@ -43,7 +43,7 @@ holds_out (Some i) j = by (eqb i j)
     by true = refl
     by false = refl
 
-holds_outs : (f : Forest) (j : ℕ) → holds (outs f) j ≡ has_out j f
+pub holds_outs : (f : Forest) (j : ℕ) → holds (outs f) j ≡ has_out j f
 holds_outs Bare j = refl
 holds_outs (Grow l kids rest) j =
     holds_append (out_list l.out) (outs kids ++ outs rest) j

@@ -1,6 +1,8 @@
 -- Forests under other numbers, as the steps are held.
 use Rattle.std.proofs.Common.{◌≡◌, ℕ, suc, Bool, List, [], ◌∷◌, ◌++◌, map, Option, refl, sym, ap, ap₂, ◌∙◌}
-use Rattle.graph_laws.specs.of_exec_graph.Forests.{Branch, Forest, Bare, Grow, Twig, grown, label_at, limb, twigs, with_out}
+use Rattle.graph_laws.specs.of_exec_graph.Forests.{Branch, Forest, Bare, Grow, Label, Twig, grown, label_at, limb, twigs, with_out}
+use Rattle.graph_laws.specs.of_exec_graph.Twigs.{twig}
+use Rattle.graph_laws.specs.of_exec_graph.declared.step.Step.TheInside.{Inside}
 use Rattle.graph_laws.specs.Joining.{beside}
 use Rattle.graph_laws.specs.Kids.{kept_by, named_by, out_kept, out_named}
 use Rattle.graph_walks.specs.inner.Relabels.{relabelled, relabelled_branch, relabelled_twig}
@@ -12,6 +14,16 @@ twig_of o f = record { out = o; kids = f }
 abbrev pub step_of : Branch → Twig → List Twig → Branch
 step_of b f ms =
     record { origin = b.origin; last = b.last; does = b.does; first = f; more = ms }
+
+-- a step that is held in its parts
+abbrev pub held : Inside → Branch
+held a = record {
+  origin = a.origin;
+  last = a.last;
+  does = a.does;
+  first = twig a.first;
+  more = map twig a.more.items;
+}
 
 -- ---- steps one behind the other
 
@@ -44,26 +56,26 @@ grown_relabelled r (b ∷ bs) =
     ap (λ (f : Forest). limb (relabelled_branch r b) f) (grown_relabelled r bs)
     ∙ sym (twigs_relabelled r b 0 (b.first ∷ b.more) (grown bs))
 
-relabelled_named : (r : ℕ → ℕ) (f : Forest) → relabelled (out_named r) f ≡ named_by r f
-relabelled_named r Bare = refl
-relabelled_named r (Grow l kids rest) =
-    ap₂ (λ (k o : Forest). Grow (with_out (out_named r l.out) l) k o)
-    (relabelled_named r kids) (relabelled_named r rest)
+-- one function gives it all forests, where it does so to each label
+relabelled_is : (r : Option ℕ → Option ℕ) (k : Forest → Forest) → k Bare ≡ Bare
+    → ((l : Label) (f h : Forest) → k (Grow l f h) ≡ Grow (with_out (r l.out) l) (k f) (k h))
+    → (f : Forest) → relabelled r f ≡ k f
+relabelled_is r k bare grow Bare = sym bare
+relabelled_is r k bare grow (Grow l kids rest) =
+    ap₂ (λ (f h : Forest). Grow (with_out (r l.out) l) f h) (relabelled_is r k bare grow kids)
+    (relabelled_is r k bare grow rest) ∙ sym (grow l kids rest)
 
 pub grown_named : (r : ℕ → ℕ) (bs : List Branch)
     → grown (map (relabelled_branch (out_named r)) bs) ≡ named_by r (grown bs)
-grown_named r bs = grown_relabelled (out_named r) bs ∙ relabelled_named r (grown bs)
-
-relabelled_kept : (keep : ℕ → Bool) (f : Forest)
-    → relabelled (out_kept keep) f ≡ kept_by keep f
-relabelled_kept keep Bare = refl
-relabelled_kept keep (Grow l kids rest) =
-    ap₂ (λ (k o : Forest). Grow (with_out (out_kept keep l.out) l) k o)
-    (relabelled_kept keep kids) (relabelled_kept keep rest)
+grown_named r bs =
+    grown_relabelled (out_named r) bs
+    ∙ relabelled_is (out_named r) (named_by r) refl (λ l f h. refl) (grown bs)
 
 pub grown_kept : (keep : ℕ → Bool) (bs : List Branch)
     → grown (map (relabelled_branch (out_kept keep)) bs) ≡ kept_by keep (grown bs)
-grown_kept keep bs = grown_relabelled (out_kept keep) bs ∙ relabelled_kept keep (grown bs)
+grown_kept keep bs =
+    grown_relabelled (out_kept keep) bs
+    ∙ relabelled_is (out_kept keep) (kept_by keep) refl (λ l f h. refl) (grown bs)
 
 -- an output whose kids are done
 pub relabelled_end : (r : Option ℕ → Option ℕ) (out number : Option ℕ) (kids now : List Branch)

@@ -25,17 +25,7 @@ one_mark : (later : Script) (number : ℕ) (how : Made) (rest : List ℕ)
     → map (needs_input later) (number_of_input number how ++ rest)
     ≡ needed_too later number how ++ map (needs_input later) rest
 one_mark later number (made.Input file columns) rest = refl
-one_mark later number (made.Do source called output) rest = refl
-one_mark later number (made.Group source) rest = refl
-one_mark later number (made.Combine source by) rest = refl
-one_mark later number (made.Flatten sources) rest = refl
-one_mark later number (made.Count source) rest = refl
-one_mark later number (made.Join left right_) rest = refl
-one_mark later number (made.Top many source) rest = refl
-one_mark later number (made.CombineAll source by) rest = refl
-one_mark later number (made.Operate objects called) rest = refl
-one_mark later number (made.DoWith source called object) rest = refl
-one_mark later number (made.Saved is_object call) rest = refl
+one_mark later number _ rest = refl
 
 marks_from : (later : Script) (nodes : List (ℕ × (List ℕ × Node)))
     → map (needs_input later) (flat_map (λ it. number_of_input it.0 it.1.1.made) nodes)
@@ -130,18 +120,8 @@ table_from found n (suc k) (entry ∷ nodes) below =
 
 no_members : (table : List (Option Collection)) (n : ℕ) (how : Made) → IsUnsaved how
     → members_kept table n how ≡ []
-no_members table n (made.Input file columns) un = refl
-no_members table n (made.Do source called output) un = refl
-no_members table n (made.Group source) un = refl
-no_members table n (made.Combine source by) un = refl
-no_members table n (made.Flatten sources) un = refl
-no_members table n (made.Count source) un = refl
-no_members table n (made.Join left right_) un = refl
-no_members table n (made.Top many source) un = refl
-no_members table n (made.CombineAll source by) un = refl
-no_members table n (made.Operate objects called) un = refl
-no_members table n (made.DoWith source called object) un = refl
 no_members table n (made.Saved is_object call) un = absurd un
+no_members table n _ un = refl
 
 -- ---- one collection
 

@@ -23,6 +23,21 @@ front_of [] i x h = cc
 front_of (y ∷ xs) zero x h = ap (λ (z : _). z ∷ xs) cc
 front_of (y ∷ xs) (suc i) x h = front_of xs i x h
 
+-- what is told from a number on, where one more is told
+one_more : {X : Type 0} (nodes : Named Node) (told : ℕ → Named Node → List X)
+    (old new own whole : List X) (number : ℕ)
+    → told number (drop number nodes) ≡ own ++ told (suc number) (drop (suc number) nodes)
+    → new ≡ old ++ own → old ++ told number (drop number nodes) ≡ whole
+    → new ++ told (number + 1) (drop (number + 1) nodes) ≡ whole
+one_more nodes told old new own whole number step pushed h =
+    let next : number + 1 ≡ suc number = omega arith in
+    let rest = told (suc number) (drop (suc number) nodes) in
+    ap (λ n. new ++ told n (drop n nodes)) next
+    ∙ ap (λ l. l ++ rest) pushed
+    ∙ append_assoc old own rest
+    ∙ ap (λ l. old ++ l) (sym step)
+    ∙ h
+
 -- ---- by a flag
 
 -- a flag that is read is what the flags tell
@@ -50,18 +65,12 @@ module _ {X : Type 0} (nodes : Named Node) (p : ℕ → Bool) (f : ℕ × (List 
       → new ++ told_from (number + 1) (drop (number + 1) nodes) ≡ whole
   told_next old new whole number below pushed h =
       let (entry, found) = entry_below nodes number below in
-      let own : List X = if p number then f (number, entry) ∷ [] else [] in
-      let next : suc number ≡ number + 1 = omega arith in
-      let step : told_from number (drop number nodes)
-      ≡ own ++ told_from (number + 1) (drop (number + 1) nodes)
-      = ap (told_from number) (front_of nodes number entry found)
+      one_more nodes told_from old new (if p number then f (number, entry) ∷ [] else []) whole
+      number
+      (ap (told_from number) (front_of nodes number entry found)
       ∙ map_if f (p number) (number, entry)
-      (filter (λ it. p it.0) (numbered (suc number) (drop (suc number) nodes)))
-      ∙ ap (λ n. own ++ told_from n (drop n nodes)) next in
-      ap (λ l. l ++ told_from (number + 1) (drop (number + 1) nodes)) (pushed entry found)
-      ∙ append_assoc old own (told_from (number + 1) (drop (number + 1) nodes))
-      ∙ ap (λ l. old ++ l) (sym step)
-      ∙ h
+      (filter (λ it. p it.0) (numbered (suc number) (drop (suc number) nodes))))
+      (pushed entry found) h
 
   pub told_all : (done whole : List X) (number : ℕ) → length nodes ≤ number
       → done ++ told_from number (drop number nodes) ≡ whole → done ≡ whole
@@ -89,18 +98,11 @@ module _ {X : Type 0} (nodes : Named Node) (p : ℕ → Bool)
       → new ++ gathered_from (number + 1) (drop (number + 1) nodes) ≡ whole
   gathered_next old new whole number below pushed h =
       let (entry, found) = entry_below nodes number below in
-      let own : List X = if p number then g (number, entry) else [] in
-      let next : suc number ≡ number + 1 = omega arith in
-      let step : gathered_from number (drop number nodes)
-      ≡ own ++ gathered_from (number + 1) (drop (number + 1) nodes)
-      = ap (gathered_from number) (front_of nodes number entry found)
+      one_more nodes gathered_from old new (if p number then g (number, entry) else []) whole number
+      (ap (gathered_from number) (front_of nodes number entry found)
       ∙ flat_if g (p number) (number, entry)
-      (filter (λ it. p it.0) (numbered (suc number) (drop (suc number) nodes)))
-      ∙ ap (λ n. own ++ gathered_from n (drop n nodes)) next in
-      ap (λ l. l ++ gathered_from (number + 1) (drop (number + 1) nodes)) (pushed entry found)
-      ∙ append_assoc old own (gathered_from (number + 1) (drop (number + 1) nodes))
-      ∙ ap (λ l. old ++ l) (sym step)
-      ∙ h
+      (filter (λ it. p it.0) (numbered (suc number) (drop (suc number) nodes))))
+      (pushed entry found) h
 
   pub gathered_all : (done whole : List X) (number : ℕ) → length nodes ≤ number
       → done ++ gathered_from number (drop number nodes) ≡ whole → done ≡ whole
@@ -123,16 +125,9 @@ pub asked_next : (script : Script) (old new : List (ℕ × List ℕ)) (number : 
     ≡ asked_nodes script
 asked_next script old new number below pushed h =
     let (entry, found) = entry_below script.nodes number below in
-    let own = asked_as number (name_read script.outputs number) in
-    let rest = asked_from script.outputs (number + 1) (drop (number + 1) script.nodes) in
-    let next : suc number ≡ number + 1 = omega arith in
-    let step : asked_from script.outputs number (drop number script.nodes) ≡ own ++ rest
-    = ap (asked_from script.outputs number) (front_of script.nodes number entry found)
-    ∙ ap (λ n. own ++ asked_from script.outputs n (drop n script.nodes)) next in
-    ap (λ l. l ++ rest) pushed
-    ∙ append_assoc old own rest
-    ∙ ap (λ l. old ++ l) (sym step)
-    ∙ h
+    one_more script.nodes (asked_from script.outputs) old new
+    (asked_as number (name_read script.outputs number)) (asked_nodes script) number
+    (ap (asked_from script.outputs number) (front_of script.nodes number entry found)) pushed h
 
 pub asked_all : (script : Script) (done : List (ℕ × List ℕ)) (number : ℕ)
     → length script.nodes ≤ number

@@ -25,7 +25,8 @@ use Rattle.direct_meaning.proofs.of_script_laws.MakingLemmas.{AreOutputs, IsAlon
 use Rattle.direct_meaning.proofs.of_script_laws.NewLemmas.{functions-are, named, nodes-are}
 use Rattle.direct_meaning.proofs.of_script_laws.OperationLemmas.{made-is}
 use Rattle.key_meaning.proofs.Alike.{FunctionsMeet, IsAlike, MakingAlike, Meet, NodeAlike, Paired, Pairs, making_more, meet_more, node_more, place_of, same_place, stands, zip_more}
-use Rattle.key_meaning.proofs.Lists.{along, along_at, along_more, zip_long}
+use Rattle.direct_meaning.proofs.of_script_laws.MemberLemmas.{zip_length}
+use Rattle.key_meaning.proofs.Lists.{along, along_at, along_more}
 use Rattle.key_meaning.proofs.Making.{makes_alike}
 use Rattle.key_meaning.proofs.Standing.{names_are, new_found, none_standing, standing, standing_meet, stands_later, stands_more}
 use Rattle.key_meaning.proofs.Entries.{EntriesAlike, with_entries}
@@ -153,7 +154,7 @@ module _ (SameFile : List ℕ → Type 0) (names : Names) (pairs : Pairs) (s r :
   all_pairs = pairs ++ along (length s.nodes) (length r.nodes) many
 
   as_many : many ≡ length more
-  as_many = zip_long (MakingAlike SameFile pairs s.functions r.functions) makings more zipped
+  as_many = zip_length (MakingAlike SameFile pairs s.functions r.functions) makings more zipped
 
   among_old : (a b : ℕ) → Paired pairs a b → Paired all_pairs a b
   among_old a b is =

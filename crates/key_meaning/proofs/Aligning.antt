@@ -62,10 +62,7 @@ same_outline s r same =
 pub away_named : (names : Names) (found : Bool) (it : Outline) → belongs_by names found it ≡ false
     → is_named names it ≡ false
 away_named names found outline.Type away = refl
-away_named names found (outline.Input own file) away = away
-away_named names found (outline.Function own) away = away
-away_named names found (outline.Let own reads calls) away = away
-away_named names found outline.Output away = away
+away_named names found _ away = away
 
 pub away_names : (names : Names) (found : Bool) (it : Outline) → belongs_by names found it ≡ false
     → names_before names it ≡ names
@@ -73,41 +70,29 @@ away_names names found it away =
     if_false (is_named names it) (with_named names it) names (away_named names found it away)
 
 -- more names
-wider_by : (names : Names) (it : Outline) (b : Bool) (own : List ℕ)
-    → has names.collections own ≡ true
-    → has (if b then with_named names it else names).collections own ≡ true
-wider_by names it false own is = is
-wider_by names outline.Type true own is = is
-wider_by names (outline.Input own_ file) true own is = is
-wider_by names (outline.Function own_) true own is = is
-wider_by names (outline.Let own_ reads calls) true own is =
-    has_left names.collections reads own is
-wider_by names outline.Output true own is = is
+pub record IsWider (names more : Names) : Type 0 where
+  pub collections : (own : List ℕ) → has names.collections own ≡ true
+      → has more.collections own ≡ true
+  pub functions : (own : List ℕ) → has names.functions own ≡ true → has more.functions own ≡ true
 
-pub wider : (names : Names) (it : Outline) (own : List ℕ) → has names.collections own ≡ true
-    → has (names_before names it).collections own ≡ true
-wider names it own is = wider_by names it (is_named names it) own is
+wider_by : (names : Names) (it : Outline) (b : Bool)
+    → IsWider names (if b then with_named names it else names)
+wider_by names it false = record { collections = λ own is. is; functions = λ own is. is }
+wider_by names (outline.Let own reads calls) true = record {
+  collections = has_left names.collections reads;
+  functions = has_left names.functions calls;
+}
+wider_by names _ true = record { collections = λ own is. is; functions = λ own is. is }
 
-wider_functions_by : (names : Names) (it : Outline) (b : Bool) (own : List ℕ)
-    → has names.functions own ≡ true
-    → has (if b then with_named names it else names).functions own ≡ true
-wider_functions_by names it false own is = is
-wider_functions_by names outline.Type true own is = is
-wider_functions_by names (outline.Input own_ file) true own is = is
-wider_functions_by names (outline.Function own_) true own is = is
-wider_functions_by names (outline.Let own_ reads calls) true own is =
-    has_left names.functions calls own is
-wider_functions_by names outline.Output true own is = is
-
-pub wider_functions : (names : Names) (it : Outline) (own : List ℕ)
-    → has names.functions own ≡ true → has (names_before names it).functions own ≡ true
-wider_functions names it own is = wider_functions_by names it (is_named names it) own is
+pub wider : (names : Names) (it : Outline) → IsWider names (names_before names it)
+wider names it = wider_by names it (is_named names it)
 
 module _ (name : List ℕ) where
   -- the collection itself is always among the names
   pub has_itself : (others : List Outline) → has (rested_on name others).collections name ≡ true
   has_itself [] = λ i. bytes_itself name i || false
-  has_itself (it ∷ others) = wider (rested_on name others) it name (has_itself others)
+  has_itself (it ∷ others) =
+      (wider (rested_on name others) it).collections name (has_itself others)
 
   some_defined : (names own : List (List ℕ)) → has names name ≡ true → has own name ≡ true
       → list_any (has names) own ≡ true

@@ -235,30 +235,12 @@ module _ (SameFile : List ℕ → Type 0) (pairs : Pairs) (functions others : Na
   pub same_kind : {how other : Made} → MadeAlike SameFile pairs functions others how other
       → gives_object how ≡ gives_object other
   same_kind (input file) = refl
-  same_kind (do_ reads by) = refl
-  same_kind (group reads) = refl
-  same_kind (combine reads) = refl
-  same_kind (flatten reads) = refl
-  same_kind (count reads) = refl
-  same_kind (join left right_) = refl
-  same_kind (top reads) = refl
-  same_kind (whole reads) = refl
-  same_kind (operate reads by) = refl
-  same_kind (do_with reads by object) = refl
+  same_kind _ = refl
 
   pub same_place : {how other : Made} → MadeAlike SameFile pairs functions others how other
       → place_of how ≡ place_of other
   same_place (input file) = refl
-  same_place (do_ reads by) = refl
-  same_place (group reads) = refl
-  same_place (combine reads) = refl
-  same_place (flatten reads) = refl
-  same_place (count reads) = refl
-  same_place (join left right_) = refl
-  same_place (top reads) = refl
-  same_place (whole reads) = refl
-  same_place (operate reads by) = refl
-  same_place (do_with reads by object) = refl
+  same_place _ = refl
 
   pub same_operands : {how other : Made} → MadeAlike SameFile pairs functions others how other
       → AllZip (Paired pairs) (operands how) (operands other)

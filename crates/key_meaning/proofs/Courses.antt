@@ -16,7 +16,7 @@ use Rattle.direct_meaning.specs.of_script_rules.Rules as spec
 use Rattle.direct_meaning.proofs.of_script_rules.CheckedLemmas.{both, ok-same}
 use Rattle.statement_law.specs.Outlined.{outlines_of}
 use Rattle.key_meaning.proofs.Adding.{Asked, SameLet}
-use Rattle.key_meaning.proofs.Aligning.{Aligned, HasSameFile, away_named, away_names, ended, if_true, kept, kept_defined, left, right_, same_defined, same_names, wider, wider_functions}
+use Rattle.key_meaning.proofs.Aligning.{Aligned, HasSameFile, away_named, away_names, ended, if_true, kept, kept_defined, left, right_, same_defined, same_names, wider}
 use Rattle.key_meaning.proofs.Alike.{IsAlike, Pairs}
 use Rattle.key_meaning.proofs.Forms.{SameForm, function_, input_, let_, output_, repeat_, same_form, type_}
 use Rattle.key_meaning.proofs.Keeping.{Grown, alike_fewer, each_itself, each_more, has_left, has_right, input_grown, let_grown, type_grown}
@@ -85,21 +85,13 @@ kept_named : (names : Names) (found : Bool) (f : Form)
     → belongs_by names found (outline_of f) ≡ true → is_type f ≡ false
     → is_named names (outline_of f) ≡ true
 kept_named names found (form.Type name type) is no_type = cc
-kept_named names found (form.Input name type file) is no_type = is
-kept_named names found (form.Function function) is no_type = is
-kept_named names found (form.Let own by) is no_type = is
-kept_named names found (form.Repeat own written) is no_type = is
-kept_named names found (form.Output name file) is no_type = is
+kept_named names found _ is no_type = is
 
 -- a type that stands before the collection belongs to its key
 type_away : (names : Names) (found : Bool) (f : Form)
     → belongs_by names found (outline_of f) ≡ false → found ≡ true → is_type f ≡ false
 type_away names found (form.Type name type) away is = cc
-type_away names found (form.Input name type file) away is = refl
-type_away names found (form.Function function) away is = refl
-type_away names found (form.Let own by) away is = refl
-type_away names found (form.Repeat own written) away is = refl
-type_away names found (form.Output name file) away is = refl
+type_away names found _ away is = refl
 
 module _ (SameFile : List ℕ → Type 0) (pairs : Pairs) (s r : State) (types : s.types ≡ r.types)
     (line other : ℕ) (after behind : State) (names : Names) where
@@ -126,23 +118,6 @@ module _ (SameFile : List ℕ → Type 0) (pairs : Pairs) (s r : State) (types :
       if_true (is_named names (outline_of (form.Repeat own w)))
       (with_named names (outline_of (form.Repeat own w))) names is
 
-  -- what a repeat reads is among them
-  wide : (own : List (List ℕ)) (w : Repeat)
-      → is_named names (outline_of (form.Repeat own w)) ≡ true → (name : List ℕ)
-      → has (read_in w) name ≡ true
-      → has (names_before names (outline_of (form.Repeat own w))).collections name ≡ true
-  wide own w is name among =
-      subst (λ (ns : Names). has ns.collections name ≡ true) (sym (repeat_names own w is))
-      (has_right names.collections (read_in w) name among)
-
-  wide_calls : (own : List (List ℕ)) (w : Repeat)
-      → is_named names (outline_of (form.Repeat own w)) ≡ true → (name : List ℕ)
-      → has (called_in w) name ≡ true
-      → has (names_before names (outline_of (form.Repeat own w))).functions name ≡ true
-  wide_calls own w is name among =
-      subst (λ (ns : Names). has ns.functions name ≡ true) (sym (repeat_names own w is))
-      (has_right names.functions (called_in w) name among)
-
   repeat_by : (own : List (List ℕ)) (w : Repeat) (lets : List TurnLet)
       → AllZip SameLet w.lets lets → is_named names (outline_of (form.Repeat own w)) ≡ true
       → With (outline_of (form.Repeat own w)) → spec.rule_repeat line own w s ≡ Ok after
@@ -150,20 +125,26 @@ module _ (SameFile : List ℕ → Type 0) (pairs : Pairs) (s r : State) (types :
       → Grows (outline_of (form.Repeat own w))
   repeat_by own w lets same is alike e h =
       let reads = flat_map (λ (own_ : TurnLet). operands own_.by) w.lets in
-      let before = names_before names (outline_of (form.Repeat own w)) in
-      turning_grown SameFile before pairs s r alike types line other own w lets same
+      let before = with_named names (outline_of (form.Repeat own w)) in
+      -- what a repeat reads is among these
+      let wide = has_right names.collections (read_in w) in
+      let among_before = repeat_names own w is in
+      subst (λ ns. Grown SameFile ns pairs s r after behind) (sym among_before)
+      (turning_grown SameFile before pairs s r
+      (subst (λ ns. IsAlike SameFile ns pairs s r) among_before alike) types line other own w lets
+      same
       (each_more w.from before.collections w.from
-      (λ name among. wide own w is name
+      (λ name among. wide name
       (has_left (w.from ++ reads) w.gives name (has_left w.from reads name among)))
       (each_itself w.from))
       (each_of w.lets before.collections before.functions
-      (λ name among. wide own w is name
+      (λ name among. wide name
       (has_left (w.from ++ reads) w.gives name (has_right w.from reads name among)))
-      (λ name among. wide_calls own w is name among))
+      (has_right names.functions (called_in w)))
       (each_more w.gives before.collections w.gives
-      (λ name among. wide own w is name (has_right (w.from ++ reads) w.gives name among))
+      (λ name among. wide name (has_right (w.from ++ reads) w.gives name among))
       (each_itself w.gives))
-      after behind e h
+      after behind e h)
 
   -- by its form, where these names are rested on behind it
   form_grown : {f g : Form} → SameForm f g → HasSameFile SameFile f
@@ -279,7 +260,7 @@ module _ (SameFile : List ℕ → Type 0) (name : List ℕ) where
       (left_counted (rested ss) all next.part (with_statement next_.part)
       (right_counted (rested ss) all next.part next_.part
       (alike_fewer SameFile (names_before (rested ss) it) (rested ss) all next.part next_.part
-      (wider (rested ss) it) (wider_functions (rested ss) it) grown.alike)))
+      (wider (rested ss) it).collections (wider (rested ss) it).functions grown.alike)))
       (more {m = length s.nodes} {n = length r.nodes} grown.many rises (omega arith)
       (omega arith) (omega (arith, grown.here)) (omega (arith, grown.there)))
       (λ to_come. grown.types) after behind next.then next_.then

@@ -1,8 +1,7 @@
 -- Of each collection that a script needs: what it is made of, and the rows that an input is read
 -- from.
-use Rattle.std.proofs.Common.{◌≡◌, ℕ, zero, suc, ◌+◌, ◌<◌, Bool, true, false, cond, List, [], ◌∷◌, ◌++◌, length, Option, Some, None, if◌then◌else◌, slice_get, option_and_then, refl, sym, ap, ◌∙◌, subst, arith, append_assoc, append-nil, length-append}
+use Rattle.std.proofs.Common.{◌≡◌, ℕ, zero, suc, ◌+◌, Bool, true, false, cond, List, [], ◌∷◌, ◌++◌, length, Option, Some, None, slice_get, refl, sym, ap, ◌∙◌, subst, arith}
 use Rattle.std.specs.List.{filter, flat_map}
-use Rattle.std.specs.Option.{option_flatten}
 use Rattle.flume_value.specs.declared.value.Value.{Value}
 use Rattle.flume_types.specs.declared.column.Column.{Column}
 use Rattle.flume_types.specs.declared.types.Ty.{Ty}
@@ -13,7 +12,7 @@ use Rattle.script_program.specs.declared.made.Made.{Made}
 use Rattle.script_program.specs.declared.made.Made.TheVariants as made
 use Rattle.script_program.specs.Needed.{is_needed, numbered}
 use Rattle.script_program.specs.Script.{Node, Script}
-use Rattle.direct_meaning.proofs.of_script_laws.MemberLemmas.{at_end, in_first}
+use Rattle.direct_meaning.proofs.GrowLemmas.{Begins, begun_end, grows, longer, next, shorter}
 use Rattle.direct_meaning.specs.Direct.{collections, inputs_behind, made_as, made_at}
 use Rattle.direct_meaning.specs.Inputs.{Wanted, wanted_by}
 use Rattle.key_meaning.proofs.Ways.{Table}
@@ -22,31 +21,6 @@ use Rattle.key_meaning.specs.Keyed.{AllHaveRowsIn, HasRows}
 
 abbrev pub Lists : Type 0
 Lists = List (List Value)
-
--- a table that begins with another
-pub record Begins (table whole : Table) : Type 0 where
-  pub rest : Table
-  pub is : whole ≡ table ++ rest
-
-pub begun_at : (table whole : Table) → Begins table whole → (n : ℕ) → n < length table
-    → made_at whole n ≡ made_at table n
-begun_at table whole begins n below =
-    ap (λ (t : Table). made_at t n) begins.is
-    ∙ ap option_flatten (in_first table begins.rest n below)
-
-begun_end : (table whole : Table) (last : Option Collection) → Begins (table ++ last ∷ []) whole
-    → made_at whole (length table) ≡ last
-begun_end table whole last begins =
-    ap (λ (t : Table). made_at t (length table))
-    (begins.is ∙ append_assoc table (last ∷ []) begins.rest)
-    ∙ ap option_flatten (at_end table last begins.rest)
-
-shorter : (table whole : Table) (last : Option Collection) → Begins (table ++ last ∷ []) whole
-    → Begins table whole
-shorter table whole last begins = record {
-  rest = last ∷ begins.rest;
-  is = begins.is ∙ append_assoc table (last ∷ []) begins.rest;
-}
 
 -- what an input is, behind which these lists are left
 pub record IsFrom (files : List File) (wanted : Wanted) (left : Lists) : Type 0 where
@@ -84,38 +58,6 @@ module _ (script : Script) (files : List File) where
       by (rows ∷ inputs) have =
           record { rows = rows; rest = inputs; is = refl; has = have.0 }
 
-  -- going on behind a node, where it is needed or not, and makes that
-  abbrev next : Bool → Option Collection → List ℕ × Node → Named Node → Lists → Table
-      → Option Table
-  next needed made_ entry nodes inputs table =
-      if needed
-      then option_and_then (λ c.
-      collections script nodes (inputs_behind entry.1.made inputs) (table ++ Some c ∷ [])) made_
-      else collections script nodes inputs (table ++ None ∷ [])
-
-  abbrev Grows : Named Node → Type 0
-  Grows nodes = (inputs : Lists) (table whole : Table)
-      → collections script nodes inputs table ≡ Some whole → Begins table whole
-
-  next_grows : (entry : List ℕ × Node) (nodes : Named Node) → Grows nodes → (needed : Bool)
-      (made_ : Option Collection) (inputs : Lists) (table whole : Table)
-      → next needed made_ entry nodes inputs table ≡ Some whole → Begins table whole
-  next_grows entry nodes grow true None inputs table whole is = cc
-  next_grows entry nodes grow true (Some c) inputs table whole is =
-      shorter table whole (Some c)
-      (grow (inputs_behind entry.1.made inputs) (table ++ Some c ∷ []) whole is)
-  next_grows entry nodes grow false made_ inputs table whole is =
-      shorter table whole None (grow inputs (table ++ None ∷ []) whole is)
-
-  grows : (nodes : Named Node) → Grows nodes
-  grows [] [] table whole is =
-      let same : table ≡ whole = cc in
-      record { rest = []; is = sym same ∙ sym (append-nil table) }
-  grows [] (rows ∷ inputs) table whole is = cc
-  grows (entry ∷ nodes) inputs table whole is =
-      next_grows entry nodes (grows nodes) (is_needed script (length table))
-      (made_as script (length table) entry.1.made inputs table) inputs table whole is
-
   -- what a collection is made of, and that it is
   pub record Stood (whole : Table) (number : ℕ) (how : Made) (type : Ty) : Type 0 where
     pub front : Table
@@ -131,12 +73,13 @@ module _ (script : Script) (files : List File) where
   here_stands : (entry : List ℕ × Node) (nodes : Named Node) (needed : Bool)
       (made_ : Option Collection) (inputs : Lists) (table whole : Table) → needed ≡ true
       → made_as script (length table) entry.1.made inputs table ≡ made_
-      → next needed made_ entry nodes inputs table ≡ Some whole
+      → next script needed made_ entry nodes inputs table ≡ Some whole
       → AllHaveRowsIn files (wanted_if needed (length table) entry nodes) inputs
       → Stood whole (length table) entry.1.made entry.1.type
   here_stands entry nodes true None inputs table whole needed made_so is have = cc
   here_stands entry nodes true (Some c) inputs table whole needed made_so is have =
-      let grown = grows nodes (inputs_behind entry.1.made inputs) (table ++ Some c ∷ []) whole is in
+      let grown =
+      grows script nodes (inputs_behind entry.1.made inputs) (table ++ Some c ∷ []) whole is in
       record {
         front = table;
         left = inputs;
@@ -159,14 +102,10 @@ module _ (script : Script) (files : List File) where
       → number ≡ length table + i → (entry : List ℕ × Node) → slice_get nodes i ≡ Some entry
       → is_needed script number ≡ true → Stood whole number entry.1.made entry.1.type
 
-  longer : (table : Table) (last : Option Collection)
-      → length (table ++ last ∷ []) ≡ suc (length table)
-  longer table last = omega (arith, length-append table (last ∷ []))
-
   next_stand : (first : List ℕ × Node) (nodes : Named Node) → AllStand nodes
       → IsPlain first.1.made → ArePlain nodes → (needed : Bool)
       (made_ : Option Collection) (inputs : Lists) (table whole : Table)
-      → next needed made_ first nodes inputs table ≡ Some whole
+      → next script needed made_ first nodes inputs table ≡ Some whole
       → AllHaveRowsIn files (wanted_if needed (length table) first nodes) inputs → (i number : ℕ)
       → number ≡ suc (length table + i) → (entry : List ℕ × Node)
       → slice_get nodes i ≡ Some entry → is_needed script number ≡ true

@@ -18,7 +18,7 @@ use Rattle.direct_meaning.proofs.of_script_rules.CheckedLemmas.{both, ok-same, t
 use Rattle.direct_meaning.specs.of_script_laws.WellFormed.{function_at}
 use Rattle.direct_meaning.proofs.of_script_laws.PlaceLemmas.{found-at}
 use Rattle.key_meaning.proofs.Alike.{FunctionsMeet, IsAlike, Meet, Paired, Pairs, SameCallee, SameFunction, number_for, same_kind, stands}
-use Rattle.key_meaning.proofs.Lists.{zip_push}
+use Rattle.direct_meaning.proofs.PlaceLemmas.{zip_more}
 
 pub some_same : {A : Type 0} (o : Option A) (x y : A) → o ≡ Some x → o ≡ Some y → x ≡ y
 some_same o x y here there_ =
@@ -194,7 +194,7 @@ module _ (SameFile : List ℕ → Type 0) (names : Names) (pairs : Pairs) (s r :
       let one = both (collection line name s) _ all e in
       let two = both (collection other name r) _ more f in
       all_alike asked are.1 (found ++ one.part ∷ []) (others ++ two.part ∷ [])
-      (zip_push (OperandAlike pairs) found others one.part two.part zipped
+      (zip_more (OperandAlike pairs) found others one.part two.part zipped
       (found_alike name are.0 one.part two.part one.first two.first)) all more one.then two.then
 
 pub numbers_alike : (pairs : Pairs) (all more : List Operand)

@@ -9,13 +9,13 @@ use Rattle.expression_check.specs.Numbers.{number_within}
 use Rattle.written_types.specs.Answer.{◌>>=◌, unless}
 use Rattle.written_types.specs.Named.{Named, find, fresh}
 use Rattle.written_types.specs.Written.{whole_type}
-use Rattle.body_check.specs.Bodies.{body_of}
 use Rattle.script_keys.specs.Rests.{has}
 use Rattle.script_keys.specs.declared.rests.Names.{Names}
 use Rattle.script_program.specs.Limits.{most_functions, most_outputs}
 use Rattle.script_program.specs.Script.{Function, Signature, State, function_from, with_function}
 use Rattle.direct_meaning.specs.of_script_rules.Rules as spec
 use Rattle.direct_meaning.proofs.of_script_rules.CheckedLemmas.{both, ok-same}
+use Rattle.direct_meaning.proofs.of_script_rules.FoundLemmas.{ruled}
 use Rattle.direct_meaning.proofs.of_script_laws.PlaceLemmas.{mapped-kept}
 use Rattle.statement_law.specs.Lineless.{function_lineless}
 use Rattle.key_meaning.proofs.Alike.{FunctionsMeet, IsAlike, Pairs, SameFunction, node_more}
@@ -172,15 +172,7 @@ same_written f g same = record {
 
 -- the function with another body
 abbrev with_body : WrittenFunction → WrittenFunction → WrittenFunction
-with_body f g = record {
-  name = f.name;
-  argument = f.argument;
-  takes = f.takes;
-  gives = f.gives;
-  more = f.more;
-  scale = f.scale;
-  body = g.body;
-}
+with_body f g = record f { body = g.body }
 
 module _ (SameFile : List ℕ → Type 0) (names : Names) (pairs : Pairs) (s r : State)
     (alike : IsAlike SameFile names pairs s r) (types : s.types ≡ r.types) (line other : ℕ) where
@@ -191,22 +183,17 @@ module _ (SameFile : List ℕ → Type 0) (names : Names) (pairs : Pairs) (s r :
       → Grown SameFile names pairs s r after behind
   like_grown f g bodies after behind e h =
       let g_ = with_body f g in
-      let signature = both (spec.signature_of line f s) _ after e in
-      let signature_ = both (spec.signature_of other g_ r) _ behind h in
-      let x = signature.part in
-      let y = signature_.part in
-      let body = both (body_of s.types f.argument x.takes x.gives f.body) _ after
-      signature.then in
-      let body_ = both (body_of r.types g_.argument y.takes y.gives g_.body) _ behind
-      signature_.then in
-      let few = both (spec.room line 1 most_functions s.functions) _ x signature.first in
-      let few_ = both (spec.room other 1 most_functions r.functions) _ y signature_.first in
+      let one = ruled line f s after e in
+      let two = ruled other g_ r behind h in
+      let x = one.signature in
+      let y = two.signature in
+      let few = both (spec.room line 1 most_functions s.functions) _ x one.signed in
+      let few_ = both (spec.room other 1 most_functions r.functions) _ y two.signed in
       let new = both (fresh line f.name s.functions) _ x few.then in
       let new_ = both (fresh other f.name r.functions) _ y few_.then in
       let here = with_function f.name (function_from f x s) s in
       let there = with_function f.name (function_from g_ y r) r in
-      grown_at SameFile names pairs s r here after there behind (ok-same here after body.then)
-      (ok-same there behind body_.then)
+      grown_at SameFile names pairs s r here after there behind one.is two.is
       (nothing_grown SameFile names pairs s r alike types line other here there refl refl
       (with_function_alike SameFile names pairs s r alike types line other f.name
       (function_from f x s) (function_from g_ y r)
@@ -214,8 +201,8 @@ module _ (SameFile : List ℕ → Type 0) (names : Names) (pairs : Pairs) (s r :
         types = types;
         argument = refl;
         signature =
-            same_signature SameFile names pairs s r alike types line other f x y signature.first
-            signature_.first;
+            same_signature SameFile names pairs s r alike types line other f x y one.signed
+            two.signed;
         body = bodies;
       })
       (fresh-none SameFile names pairs s r alike types line other line f.name s.functions

@@ -1,5 +1,5 @@
 -- Pairs of numbers that follow one another, and lists by their places.
-use Rattle.std.proofs.Common.{◌≡◌, ℕ, zero, suc, ◌+◌, ◌<◌, List, [], ◌∷◌, ◌++◌, length, Some, slice_get, refl, ap, ◌∙◌, subst, arith, ⊎_elim}
+use Rattle.std.proofs.Common.{◌≡◌, ℕ, zero, suc, ◌+◌, ◌<◌, List, [], ◌∷◌, ◌++◌, Some, slice_get, ap, ◌∙◌, subst, arith, ⊎_elim}
 use Rattle.std.specs.List.{AllZip, Contains}
 use Rattle.flume_collection.proofs.Members.{at_head, at_tail, head_or_tail, not_in_none}
 use Rattle.key_meaning.proofs.Alike.{Pairs, Paired}
@@ -77,20 +77,6 @@ zip_at R (z ∷ xs) (w ∷ ys) zipped zero x y here there =
     subst (λ v. R v y) first (subst (R z) second zipped.0)
 zip_at R (z ∷ xs) (w ∷ ys) zipped (suc i) x y here there =
     zip_at R xs ys zipped.1 i x y here there
-
-pub zip_long : {A B : Type 0} (R : A → B → Type 0) (xs : List A) (ys : List B) → AllZip R xs ys
-    → length xs ≡ length ys
-zip_long R [] [] zipped = refl
-zip_long R [] (y ∷ ys) zipped = absurd zipped
-zip_long R (x ∷ xs) [] zipped = absurd zipped
-zip_long R (x ∷ xs) (y ∷ ys) zipped = ap suc (zip_long R xs ys zipped.1)
-
-pub zip_push : {A B : Type 0} (R : A → B → Type 0) (xs : List A) (ys : List B) (x : A) (y : B)
-    → AllZip R xs ys → R x y → AllZip R (xs ++ x ∷ []) (ys ++ y ∷ [])
-zip_push R [] [] x y zipped last = (last, tt)
-zip_push R [] (w ∷ ys) x y zipped last = absurd zipped
-zip_push R (z ∷ xs) [] x y zipped last = absurd zipped
-zip_push R (z ∷ xs) (w ∷ ys) x y zipped last = (zipped.0, zip_push R xs ys x y zipped.1 last)
 
 pub zip_among : {A B : Type 0} (R : A → B → Type 0) (xs : List A) (ys : List B) → AllZip R xs ys
     → (x : A) → Contains xs x → (y : B) × (Contains ys y × R x y)

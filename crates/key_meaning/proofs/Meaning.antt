@@ -1,11 +1,11 @@
 -- What is paired means the same in both scripts.
-use Rattle.std.proofs.Common.{◌≡◌, ℕ, zero, suc, ◌+◌, ◌<◌, true, List, [], ◌∷◌, ◌++◌, length, map, Some, Ok, IsSomeAnd, slice_get, unwrap_or, refl, sym, ap, ◌∙◌, subst, arith, length-append, ⊎_elim}
+use Rattle.std.proofs.Common.{◌≡◌, ℕ, zero, suc, ◌+◌, ◌<◌, true, List, [], ◌∷◌, ◌++◌, length, Some, Ok, IsSomeAnd, slice_get, unwrap_or, refl, sym, ap, ◌∙◌, subst, arith, length-append}
 use Rattle.std.specs.List.{AllZip, Contains}
 use Rattle.csv_rows.specs.Rows.{rows_of}
 use Rattle.flume_value.specs.declared.value.Value.{Value}
 use Rattle.flume_types.specs.declared.column.Column.{Column}
 use Rattle.flume_types.specs.declared.types.Ty.{Ty}
-use Rattle.flume_collection.proofs.Members.{at_head, at_tail, head_or_tail, not_in_none}
+use Rattle.flume_collection.proofs.Members.{at_head, at_tail}
 use Rattle.outside.specs.declared.file.File.{File}
 use Rattle.written_types.specs.Named.{Named}
 use Rattle.script_program.specs.declared.made.Made.{Made}
@@ -17,7 +17,8 @@ use Rattle.direct_meaning.proofs.of_script_laws.MemberLemmas.{of_mapped}
 use Rattle.direct_meaning.specs.of_script_laws.WellFormed.{AllFit, Fits, IsWellFormed}
 use Rattle.direct_meaning.specs.Direct.{collections, made_as, made_at, rows_as}
 use Rattle.key_meaning.proofs.Alike.{NodeAlike, Paired, Pairs, same_operands}
-use Rattle.key_meaning.proofs.Equations.{Lists, Stood, begun_at, stood, wanted_from}
+use Rattle.direct_meaning.proofs.GrowLemmas.{begun_at}
+use Rattle.key_meaning.proofs.Equations.{Lists, Stood, stood, wanted_from}
 use Rattle.key_meaning.proofs.Keys.{SameBytes}
 use Rattle.key_meaning.proofs.Makes.{AlikeAt, makes_alike}
 use Rattle.key_meaning.proofs.Ways.{OptionAlike, Table}
@@ -72,14 +73,6 @@ module _ (script : Script) (well : IsWellFormed script) (number : ℕ) (entry : 
           path.1,
         ),
       )
-
-pub mapped_has : {A B : Type 0} (f : A → B) (xs : List A) (x : A) → Contains xs x
-    → Contains (map f xs) (f x)
-mapped_has f [] x is = absurd (not_in_none x is)
-mapped_has f (y ∷ xs) x is =
-    ⊎_elim
-    (λ (e : y ≡ x). subst (λ z. Contains (map f (y ∷ xs)) (f z)) e (at_head (f y) (map f xs)))
-    (λ there. at_tail (f y) (map f xs) (f x) (mapped_has f xs x there)) (head_or_tail y xs x is)
 
 -- ---- two scripts
 

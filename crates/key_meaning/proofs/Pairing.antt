@@ -1,7 +1,7 @@
 -- Pairs that ascend on both sides are told by either number, and what is told number by number is
 -- told pair by pair.
 use Rattle.std.proofs.Common.{◌≡◌, ◌⊎◌, inl, inr, ℕ, zero, suc, ◌+◌, ◌-◌, ◌<◌, ◌≤◌, List, [], ◌∷◌, ◌++◌, refl, sym, ap, ◌∙◌, arith, ⊎_elim, append_assoc, append-nil}
-use Rattle.std.specs.List.{flat_map}
+use Rattle.std.specs.List.{Contains, flat_map}
 use Rattle.std.proofs.lemmas.List.Elements.{Contains-append_cases}
 use Rattle.flume_collection.proofs.Members.{at_head, at_tail, not_in_none}
 use Rattle.key_meaning.proofs.Alike.{Paired, Pairs}
@@ -116,106 +116,98 @@ seams g k m j above first second between behind =
     (gathered_none g (m + j) left (λ n up down. behind n up (omega (arith, down, second))))
     ∙ append-nil (gathered g m j))
 
--- a number has a partner, or nothing is told of it
-abbrev pub Covers : {A : Type 0} → (ℕ → List A) → Pairs → ℕ → Type 0
-Covers g pairs k = (n : ℕ) → n < k → ((b : ℕ) × Paired pairs n b) ⊎ (g n ≡ [])
+-- ---- by a side
 
-abbrev pub CoversBack : {A : Type 0} → (ℕ → List A) → Pairs → ℕ → Type 0
-CoversBack g pairs l = (n : ℕ) → n < l → ((a : ℕ) × Paired pairs a n) ⊎ (g n ≡ [])
+abbrev pub left_of : ℕ × ℕ → ℕ
+left_of p = p.0
 
-all_none : {A : Type 0} (g : ℕ → List A) (k : ℕ) → Covers g [] k → gathered g 0 k ≡ []
-all_none g k covers =
-    gathered_none g 0 k
-    (λ n up down.
-    ⊎_elim (λ (it : (b : ℕ) × Paired [] n b). absurd (not_in_none (n, it.0) it.1)) (λ e. e)
-    (covers n (omega (arith, down))))
+abbrev pub right_of : ℕ × ℕ → ℕ
+right_of p = p.1
 
-all_none_back : {A : Type 0} (g : ℕ → List A) (k : ℕ) → CoversBack g [] k → gathered g 0 k ≡ []
-all_none_back g k covers =
-    gathered_none g 0 k
-    (λ n up down.
-    ⊎_elim (λ (it : (a : ℕ) × Paired [] a n). absurd (not_in_none (it.0, n) it.1)) (λ e. e)
-    (covers n (omega (arith, down))))
+module _ {A : Type 0} (side : ℕ × ℕ → ℕ) (g : ℕ → List A) where
+  abbrev pub told_by : Pairs → List A
+  told_by = flat_map (λ (p : ℕ × ℕ). g (side p))
 
-pub by_pairs : {A : Type 0} (g : ℕ → List A) {pairs : Pairs} {k l : ℕ} → Rises pairs k l
-    → Covers g pairs k → gathered g 0 k ≡ flat_map (λ (p : ℕ × ℕ). g p.0) pairs
-by_pairs g (none {k} {l}) covers = all_none g k covers
-by_pairs g (more {pairs} {k} {l} {m} {n} {above} {above_} j rises x y p q) covers =
-    seams g k m j above x p
-    (λ c up down.
-    ⊎_elim
-    (λ (it : (b : ℕ) × Paired (pairs ++ along m n j) c b).
-    absurd
-    (⊎_elim
-    (λ (old : Paired pairs c it.0).
-    let below = (rises_below rises c it.0 old).0 in omega (arith, below, up))
-    (λ (new : Paired (along m n j) c it.0).
-    let at = along_from m n j c it.0 new in omega (arith, at.here, down))
-    (Contains-append_cases pairs (along m n j) (c, it.0) it.1)))
-    (λ e. e) (covers c (omega (arith, down, p))))
-    (λ c up down.
-    ⊎_elim
-    (λ (it : (b : ℕ) × Paired (pairs ++ along m n j) c b).
-    absurd
-    (⊎_elim
-    (λ (old : Paired pairs c it.0).
-    let below = (rises_below rises c it.0 old).0 in omega (arith, below, up, x))
-    (λ (new : Paired (along m n j) c it.0).
-    let at = along_from m n j c it.0 new in omega (arith, at.here, at.below, up))
-    (Contains-append_cases pairs (along m n j) (c, it.0) it.1)))
-    (λ e. e) (covers c (omega (arith, down))))
-    ∙ (λ i. by_pairs g rises
-    (λ c down.
-    ⊎_elim
-    (λ (it : (b : ℕ) × Paired (pairs ++ along m n j) c b).
-    ⊎_elim
-    (λ (old : Paired pairs c it.0). inl (it.0, old))
-    (λ (new : Paired (along m n j) c it.0).
-    absurd (let at = along_from m n j c it.0 new in omega (arith, at.here, down, x)))
-    (Contains-append_cases pairs (along m n j) (c, it.0) it.1))
-    (λ e. inr e) (covers c (omega (arith, down, x, p)))) i
-    ++ sym (along_first g m n j) i)
-    ∙ sym (flat_append (λ (p : ℕ × ℕ). g p.0) pairs (along m n j))
+  -- a number is that of a pair
+  abbrev pub IsOf : Pairs → ℕ → Type 0
+  IsOf pairs n = (p : ℕ × ℕ) × Contains pairs p × (side p ≡ n)
 
-pub by_pairs_back : {A : Type 0} (g : ℕ → List A) {pairs : Pairs} {k l : ℕ} → Rises pairs k l
-    → CoversBack g pairs l → gathered g 0 l ≡ flat_map (λ (p : ℕ × ℕ). g p.1) pairs
-by_pairs_back g (none {k} {l}) covers = all_none_back g l covers
-by_pairs_back g (more {pairs} {k} {l} {m} {n} {above} {above_} j rises x y p q) covers =
-    seams g l n j above_ y q
-    (λ c up down.
-    ⊎_elim
-    (λ (it : (a : ℕ) × Paired (pairs ++ along m n j) a c).
-    absurd
-    (⊎_elim
-    (λ (old : Paired pairs it.0 c).
-    let below = (rises_below rises it.0 c old).1 in omega (arith, below, up))
-    (λ (new : Paired (along m n j) it.0 c).
-    let at = along_from m n j it.0 c new in omega (arith, at.there, down))
-    (Contains-append_cases pairs (along m n j) (it.0, c) it.1)))
-    (λ e. e) (covers c (omega (arith, down, q))))
-    (λ c up down.
-    ⊎_elim
-    (λ (it : (a : ℕ) × Paired (pairs ++ along m n j) a c).
-    absurd
-    (⊎_elim
-    (λ (old : Paired pairs it.0 c).
-    let below = (rises_below rises it.0 c old).1 in omega (arith, below, up, y))
-    (λ (new : Paired (along m n j) it.0 c).
-    let at = along_from m n j it.0 c new in omega (arith, at.there, at.below, up))
-    (Contains-append_cases pairs (along m n j) (it.0, c) it.1)))
-    (λ e. e) (covers c (omega (arith, down))))
-    ∙ (λ i. by_pairs_back g rises
-    (λ c down.
-    ⊎_elim
-    (λ (it : (a : ℕ) × Paired (pairs ++ along m n j) a c).
-    ⊎_elim
-    (λ (old : Paired pairs it.0 c). inl (it.0, old))
-    (λ (new : Paired (along m n j) it.0 c).
-    absurd (let at = along_from m n j it.0 c new in omega (arith, at.there, down, y)))
-    (Contains-append_cases pairs (along m n j) (it.0, c) it.1))
-    (λ e. inr e) (covers c (omega (arith, down, y, q)))) i
-    ++ sym (along_second g m n j) i)
-    ∙ sym (flat_append (λ (p : ℕ × ℕ). g p.1) pairs (along m n j))
+  -- or nothing is told of it
+  abbrev pub Covers : Pairs → ℕ → Type 0
+  Covers pairs k = (n : ℕ) → n < k → IsOf pairs n ⊎ (g n ≡ [])
+
+  all_none : (k : ℕ) → Covers [] k → gathered g 0 k ≡ []
+  all_none k covers =
+      gathered_none g 0 k
+      (λ n up down.
+      ⊎_elim (λ (it : IsOf [] n). absurd (not_in_none it.0 it.1)) (λ e. e)
+      (covers n (omega (arith, down))))
+
+  -- pairs more, whose numbers stand behind those of the others
+  module _ (pairs last : Pairs) (k m j above : ℕ) (x : k ≤ m) (p : m + j ≤ above)
+      (low : (it : ℕ × ℕ) → Contains pairs it → side it < k)
+      (high : (it : ℕ × ℕ) → Contains last it → (m ≤ side it) × (side it < m + j)) where
+    abbrev IsSorted : ℕ → Type 0
+    IsSorted n = IsOf pairs n ⊎ (((m ≤ n) × (n < m + j)) ⊎ (g n ≡ []))
+
+    sorted : (n : ℕ) → IsOf (pairs ++ last) n ⊎ (g n ≡ []) → IsSorted n
+    sorted n (inr e) = inr (inr e)
+    sorted n (inl it) =
+        ⊎_elim (λ (old : Contains pairs it.0). inl (it.0, old, it.2))
+        (λ (new : Contains last it.0).
+        let at = high it.0 new in
+        inr (inl (omega (arith, at.0, it.2), omega (arith, at.1, it.2))))
+        (Contains-append_cases pairs last it.0 it.1)
+
+    neither : (n : ℕ) → (n < k → ⊥) → (m ≤ n → n < m + j → ⊥) → IsSorted n → g n ≡ []
+    neither n old new (inl it) =
+        let below = low it.0 it.1 in absurd (old (omega (arith, below, it.2)))
+    neither n old new (inr (inl at)) = absurd (new at.0 at.1)
+    neither n old new (inr (inr e)) = e
+
+    in_front : (n : ℕ) → n < m → IsSorted n → IsOf pairs n ⊎ (g n ≡ [])
+    in_front n below (inl it) = inl it
+    in_front n below (inr (inl at)) = absurd (omega (arith, at.0, below))
+    in_front n below (inr (inr e)) = inr e
+
+    one_more : told_by last ≡ gathered g m j
+        → (Covers pairs k → gathered g 0 k ≡ told_by pairs) → Covers (pairs ++ last) above
+        → gathered g 0 above ≡ told_by (pairs ++ last)
+    one_more told others covers =
+        seams g k m j above x p
+        (λ n up down.
+        neither n (λ less. omega (arith, less, up)) (λ from to. omega (arith, from, down))
+        (sorted n (covers n (omega (arith, down, p)))))
+        (λ n up down.
+        neither n (λ less. omega (arith, less, up, x)) (λ from to. omega (arith, to, up))
+        (sorted n (covers n (omega (arith, down)))))
+        ∙ (λ i. others
+        (λ n down.
+        in_front n (omega (arith, down, x)) (sorted n (covers n (omega (arith, down, x, p))))) i
+        ++ sym told i)
+        ∙ sym (flat_append (λ (it : ℕ × ℕ). g (side it)) pairs last)
+
+pub by_left : {A : Type 0} (g : ℕ → List A) {pairs : Pairs} {k l : ℕ} → Rises pairs k l
+    → Covers left_of g pairs k → gathered g 0 k ≡ told_by left_of g pairs
+by_left g (none {k} {l}) covers = all_none left_of g k covers
+by_left g (more {pairs} {k} {l} {m} {n} {above} {above_} j rises x y p q) covers =
+    one_more left_of g pairs (along m n j) k m j above x p
+    (λ it among. (rises_below rises it.0 it.1 among).0)
+    (λ it among.
+    let at = along_from m n j it.0 it.1 among in
+    (omega (arith, at.here), omega (arith, at.here, at.below)))
+    (along_first g m n j) (by_left g rises) covers
+
+pub by_right : {A : Type 0} (g : ℕ → List A) {pairs : Pairs} {k l : ℕ} → Rises pairs k l
+    → Covers right_of g pairs l → gathered g 0 l ≡ told_by right_of g pairs
+by_right g (none {k} {l}) covers = all_none right_of g l covers
+by_right g (more {pairs} {k} {l} {m} {n} {above} {above_} j rises x y p q) covers =
+    one_more right_of g pairs (along m n j) l n j above_ y q
+    (λ it among. (rises_below rises it.0 it.1 among).1)
+    (λ it among.
+    let at = along_from m n j it.0 it.1 among in
+    (omega (arith, at.there), omega (arith, at.there, at.below)))
+    (along_second g m n j) (by_right g rises) covers
 
 -- two that tell the same of each pair
 pub same_flat : {A : Type 0} (f g : ℕ × ℕ → List A) (pairs : Pairs)

@@ -17,7 +17,7 @@ use Rattle.key_meaning.proofs.Courses.{Rises}
 use Rattle.key_meaning.proofs.Lists.{zip_among, zip_among_back}
 use Rattle.key_meaning.proofs.Ways.{OptionAlike, Table}
 use Rattle.key_meaning.proofs.Sources.{alone, alone_well}
-use Rattle.key_meaning.proofs.Pairing.{Covers, CoversBack, by_pairs, by_pairs_back, gathered, rises_same, same_flat}
+use Rattle.key_meaning.proofs.Pairing.{Covers, IsOf, by_left, by_right, gathered, left_of, right_of, rises_same, same_flat}
 use Rattle.script_program.specs.Rested.{rests}
 use Rattle.key_meaning.specs.Rested.{rested_sizes, sized}
 
@@ -219,26 +219,27 @@ module _ (SameFile : List ℕ → Type 0) (one other : Script) (well : IsWellFor
     abbrev there_sizes : ℕ → List (List ℕ × ℕ)
     there_sizes = sizes_at other whole_ output_.1.reads
 
-    covers : Covers here_sizes pairs (length one.nodes)
+    covers : Covers left_of here_sizes pairs (length one.nodes)
     covers n below = by (rests_here n) refl
       where
-        by : (b : Bool) → rests_here n ≡ b → ((q : ℕ) × Paired pairs n q) ⊎ (here_sizes n ≡ [])
+        by : (b : Bool) → rests_here n ≡ b
+            → IsOf left_of here_sizes pairs n ⊎ (here_sizes n ≡ [])
         by true is =
             let path = path_here n is in
             let it = forth path.0 n path.1 in
-            inl (it.0, it.1.0)
+            inl ((n, it.0), it.1.0, refl)
         by false is =
             inr (ap (λ b. if b then sized_by (slice_get one.nodes n) (made_at whole n) else []) is)
 
-    covers_back : CoversBack there_sizes pairs (length other.nodes)
+    covers_back : Covers right_of there_sizes pairs (length other.nodes)
     covers_back q below = by (rests_there q) refl
       where
         by : (b : Bool) → rests_there q ≡ b
-            → ((n : ℕ) × Paired pairs n q) ⊎ (there_sizes q ≡ [])
+            → IsOf right_of there_sizes pairs q ⊎ (there_sizes q ≡ [])
         by true is =
             let path = path_there q is in
             let it = back path.0 q path.1 in
-            inl (it.0, it.1.0)
+            inl ((it.0, q), it.1.0, refl)
         by false is =
             inr
             (ap (λ b. if b then sized_by (slice_get other.nodes q) (made_at whole_ q) else []) is)
@@ -278,8 +279,8 @@ module _ (SameFile : List ℕ → Type 0) (one other : Script) (well : IsWellFor
         ≡ rested_sizes other whole_ output_.1.reads
     sizes_same =
         sizes_are one whole output.1.reads
-        ∙ by_pairs here_sizes rises covers
+        ∙ by_left here_sizes rises covers
         ∙ same_flat (λ (p : ℕ × ℕ). here_sizes p.0) (λ (p : ℕ × ℕ). there_sizes p.1) pairs
         pair_sizes
-        ∙ sym (by_pairs_back there_sizes rises covers_back)
+        ∙ sym (by_right there_sizes rises covers_back)
         ∙ sym (sizes_are other whole_ output_.1.reads)

@@ -15,7 +15,6 @@ use Rattle.flume_grammar.specs.declared.fault.ScriptKind.TheVariants.{NotFlat}
 use Rattle.written_types.specs.Answer.{or_fault}
 use Rattle.written_types.specs.Named.{Named, find, fresh}
 use Rattle.written_types.specs.Written.{whole_type}
-use Rattle.body_check.specs.Bodies.{body_of}
 use Rattle.script_keys.specs.Outlines.{outline_of}
 use Rattle.script_keys.specs.Rests.{has, is_named}
 use Rattle.script_keys.specs.declared.rests.Names.{Names}
@@ -29,6 +28,7 @@ use Rattle.direct_meaning.specs.of_script_rules.Operations.{collection}
 use Rattle.direct_meaning.specs.of_script_rules.Repeats.{last_gives, unrolled}
 use Rattle.direct_meaning.specs.of_script_rules.Rules as spec
 use Rattle.direct_meaning.proofs.of_script_rules.CheckedLemmas.{both, ok-same}
+use Rattle.direct_meaning.proofs.of_script_rules.FoundLemmas.{ruled}
 use Rattle.direct_meaning.proofs.of_script_laws.BodyLemmas.{has-named}
 use Rattle.direct_meaning.proofs.of_script_laws.PlaceLemmas.{front-kept, mapped-kept}
 use Rattle.direct_meaning.proofs.of_script_laws.RepeatLemmas.{has-turns}
@@ -145,22 +145,17 @@ module _ (line : ℕ) (s after : State) where
   function_adds : (function : WrittenFunction) → spec.rule_function line function s ≡ Ok after
       → Adds (form.Function function) s after
   function_adds function e =
-      let signature = both (spec.signature_of line function s) _ after e in
-      let takes = signature.part.takes in
-      let gives = signature.part.gives in
-      let body =
-      both (body_of s.types function.argument takes gives function.body) _ after
-      signature.then in
-      subst (Adds (form.Function function) s) (ok-same _ after body.then) (record {
+      let it = ruled line function s after e in
+      subst (Adds (form.Function function) s) it.is (record {
         more = [];
         nodes = sym (append-nil s.nodes);
-        added = (function.name, function_from function signature.part s) ∷ [];
+        added = (function.name, function_from function it.signature s) ∷ [];
         functions = refl;
         rest = [];
         names = sym (append-nil s.names);
         none = λ own away. refl;
         none_function = λ own away.
-            none-of (bytes_eq own function.name) (function_from function signature.part s)
+            none-of (bytes_eq own function.name) (function_from function it.signature s)
             (neither (bytes_eq own function.name) false away).0;
         types = λ is. refl;
         outputs = λ entry among. inl among;

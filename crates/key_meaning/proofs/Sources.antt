@@ -53,11 +53,7 @@ plain_meaning script plain rows table e =
 -- ---- the script with one output alone
 
 abbrev pub alone : Script → List ℕ × Output → Script
-alone script output = record {
-  functions = script.functions;
-  nodes = script.nodes;
-  outputs = output ∷ [];
-}
+alone script output = record script { outputs = output ∷ [] }
 
 pub alone_well : (script : Script) (output : List ℕ × Output) → Contains script.outputs output
     → IsWellFormed script → IsWellFormed (alone script output)
@@ -66,16 +62,7 @@ alone_well script output among well = record {
   gives = well.gives;
   nodes = well.nodes;
   kinds = well.kinds;
-  calls = λ number how emitted is call.
-      let it = well.calls number how emitted is call in
-      record {
-        first = it.first;
-        place = it.place;
-        function = it.function;
-        calls = it.calls;
-        source = it.source;
-        names = it.names;
-      };
+  calls = well.calls;
   outputs =
       All-cons (λ (entry : List ℕ × Output). HasColumns script.nodes entry.1) output []
       (All-contains (λ (entry : List ℕ × Output). HasColumns script.nodes entry.1) script.outputs

@@ -8,11 +8,11 @@ use Rattle.script_program.specs.declared.made.Made.{Made}
 use Rattle.script_program.specs.declared.made.Made.TheVariants as made
 use Rattle.script_program.specs.Script.{Function, Node}
 use Rattle.direct_meaning.specs.of_script_rules.Repeats.{Repeat, copied, gives_left, in_turn, last_gives, nodes_left, renumbered, seen, turn_gives, turn_nodes, turn_to, unrolled}
-use Rattle.direct_meaning.proofs.of_script_laws.MemberLemmas.{in_mapped, within}
+use Rattle.direct_meaning.proofs.of_script_laws.MemberLemmas.{in_mapped, within, zip_length}
 use Rattle.direct_meaning.proofs.of_script_laws.StandLemmas.{seen_entering, seen_let, stands_inside, stands_outside}
 use Rattle.key_meaning.proofs.Entries.{EntriesAlike, entries_append}
 use Rattle.key_meaning.proofs.Alike.{EntryAlike, MadeAlike, Paired, Pairs, made_moved, place_of, same_place, zip_moved, zip_more}
-use Rattle.key_meaning.proofs.Lists.{Behind, zip_at, zip_long}
+use Rattle.key_meaning.proofs.Lists.{Behind, zip_at}
 
 place_moved : (to : ℕ → ℕ) (how : Made) → place_of (renumbered to how) ≡ place_of how
 place_moved to (made.Do source called output) = refl
@@ -88,7 +88,7 @@ module _ (SameFile : List ℕ → Type 0) (functions others : Named Function) (p
       back = turn_to other fs y
 
       as_many : length fs ≡ m
-      as_many = sym (zip_long (Paired all) es fs zipped) ∙ many
+      as_many = sym (zip_length (Paired all) es fs zipped) ∙ many
 
       seen_pair : (i : ℕ) → i < m + n
           → Paired all (slice_index_or (seen repeat es x) i 0)

@@ -107,6 +107,16 @@ module _ (pairs : Pairs) where
         traps = set_alike pairs (a.traps ++ c.traps) (b.traps ++ d.traps) both;
       }
 
+  all_traps : (cs ds : List Collection) → AllZip CollectionAlike cs ds
+      → TrapsAlike pairs (flat_map (λ (c : Collection). c.traps) cs)
+      (flat_map (λ (c : Collection). c.traps) ds)
+  all_traps [] [] zipped = no_traps pairs
+  all_traps [] (d ∷ ds) zipped = absurd zipped
+  all_traps (c ∷ cs) [] zipped = absurd zipped
+  all_traps (c ∷ cs) (d ∷ ds) zipped =
+      append_alike pairs c.traps d.traps (flat_map (λ (x : Collection). x.traps) cs)
+      (flat_map (λ (x : Collection). x.traps) ds) zipped.0.traps (all_traps cs ds zipped.1)
+
   module _ (a b : ℕ) (first : Paired pairs a b) where
     pub combined_alike : (by : Comb) (c d : Collection) → CollectionAlike c d
         → CollectionAlike (combined_by a by c) (combined_by b by d)
@@ -211,16 +221,6 @@ module _ (pairs : Pairs) where
         λ i. option_and_then (λ v. option_map (λ vs. v ∷ vs) (values_same cs ds zipped.1 i))
         (value_same c d zipped.0 i)
 
-    all_traps : (cs ds : List Collection) → AllZip CollectionAlike cs ds
-        → TrapsAlike pairs (flat_map (λ (c : Collection). c.traps) cs)
-        (flat_map (λ (c : Collection). c.traps) ds)
-    all_traps [] [] zipped = no_traps pairs
-    all_traps [] (d ∷ ds) zipped = absurd zipped
-    all_traps (c ∷ cs) [] zipped = absurd zipped
-    all_traps (c ∷ cs) (d ∷ ds) zipped =
-        append_alike pairs c.traps d.traps (flat_map (λ (x : Collection). x.traps) cs)
-        (flat_map (λ (x : Collection). x.traps) ds) zipped.0.traps (all_traps cs ds zipped.1)
-
     nothing_alike : (cs ds : List Collection) → AllZip CollectionAlike cs ds
         → CollectionAlike (nothing_behind cs) (nothing_behind ds)
     nothing_alike cs ds zipped = record {
@@ -305,7 +305,7 @@ module _ (pairs : Pairs) where
     bag = ap bag_of (bags cs ds zipped);
     traps =
         set_alike pairs (flat_map (λ (c : Collection). c.traps) cs)
-        (flat_map (λ (c : Collection). c.traps) ds) (traps_ cs ds zipped);
+        (flat_map (λ (c : Collection). c.traps) ds) (all_traps cs ds zipped);
   }
     where
       bags : (cs ds : List Collection) → AllZip CollectionAlike cs ds
@@ -314,13 +314,3 @@ module _ (pairs : Pairs) where
       bags [] (d ∷ ds) zipped = absurd zipped
       bags (c ∷ cs) [] zipped = absurd zipped
       bags (c ∷ cs) (d ∷ ds) zipped = λ i. zipped.0.bag i ++ bags cs ds zipped.1 i
-
-      traps_ : (cs ds : List Collection) → AllZip CollectionAlike cs ds
-          → TrapsAlike pairs (flat_map (λ (c : Collection). c.traps) cs)
-          (flat_map (λ (c : Collection). c.traps) ds)
-      traps_ [] [] zipped = no_traps pairs
-      traps_ [] (d ∷ ds) zipped = absurd zipped
-      traps_ (c ∷ cs) [] zipped = absurd zipped
-      traps_ (c ∷ cs) (d ∷ ds) zipped =
-          append_alike pairs c.traps d.traps (flat_map (λ (x : Collection). x.traps) cs)
-          (flat_map (λ (x : Collection). x.traps) ds) zipped.0.traps (traps_ cs ds zipped.1)

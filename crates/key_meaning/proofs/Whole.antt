@@ -26,12 +26,13 @@ use Rattle.direct_meaning.specs.Direct.{collections, made_at}
 use Rattle.key_meaning.proofs.Aligning.{Aligned}
 use Rattle.key_meaning.proofs.Alike.{IsAlike, NodeAlike, Paired, Pairs, same_kind, stands}
 use Rattle.key_meaning.proofs.Courses.{Rises, go_on, none}
+use Rattle.direct_meaning.proofs.PlaceLemmas.{mapped_has}
 use Rattle.key_meaning.proofs.Equations.{Stood, stood}
 use Rattle.key_meaning.proofs.Finding.{meet_some}
 use Rattle.key_meaning.proofs.Keeping.{bytes_itself}
 use Rattle.key_meaning.proofs.Keys.{SameBytes, align, contents, same_keys}
 use Rattle.key_meaning.proofs.Ways.{CollectionAlike, OptionAlike}
-use Rattle.key_meaning.proofs.Meaning.{all_alike, mapped_has}
+use Rattle.key_meaning.proofs.Meaning.{all_alike}
 use Rattle.key_meaning.proofs.Outputs.{OutputsStand, all_stand}
 use Rattle.key_meaning.proofs.Pieces.{same_last}
 use Rattle.key_meaning.proofs.Resting.{sizes_same}

@@ -18,7 +18,7 @@ use Rattle.flume_value.proofs.EachLemmas.{Each-append, Each-map, Each-weaker}
 use Rattle.flume_value.proofs.OrderLemmas.{value_cmp-same, value_cmp-total}
 use Rattle.bag_groups.specs.Pairs.{key_of, pair, pairs_of, parts_of}
 use Rattle.bag_groups.specs.Groups.{distinct, grouped, grouped_pairs, keys_of, values_of}
-use Rattle.bag_groups.proofs.Grouping.{distinct-run, grouped-bag_of}
+use Rattle.bag_groups.proofs.Grouping.{distinct-same, grouped-bag_of}
 use Rattle.bag_groups.proofs.MemberLemmas.{Each-distinct, filter_all, filter_none, map_same}
 use Rattle.bag_groups.proofs.PairLemmas.{Parts}
 use Rattle.bag_groups.proofs.PairOrder.{value_eq-other, value_eq-same}
@@ -145,7 +145,7 @@ one_key-parts k ps same some =
     = Each-bag_of (λ j. j ≡ k) (map key ps) (Each-map (λ j. j ≡ k) key ps same) in
     let many : 0 < length (bag_of (map key ps))
     = omega (arith, some, length-bag_of (map key ps), length-map ps key) in
-    ap (map (group_in ps)) (distinct-run [] (bag_of (map key ps)) k tt all_k many)
+    ap (map (group_in ps)) (distinct-same k (bag_of (map key ps)) all_k many)
     ∙ ap (λ l. pair k (value.List (bag_of (map held l))) ∷ [])
     (filter_all (of_key k) ps (Each-weaker (λ p. key p ≡ k) (λ p. of_key k p ≡ true)
     (λ p h. value_eq-same (key p) k h) ps same))

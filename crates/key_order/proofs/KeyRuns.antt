@@ -1,5 +1,5 @@
 -- Pairs in order of their keys: the groups of those ahead of the last key, and its own.
-use Rattle.std.proofs.Common.{◌≡◌, ◌<◌, ◌+◌, ◌-◌, ℕ, suc, Bool, false, Some, None, Option, List, [], ◌∷◌, ◌++◌, get_or, length, length-drop, map, take, drop, reverse, refl, sym, ap, ◌∙◌, subst, arith, append_assoc, append-nil, inl, inr}
+use Rattle.std.proofs.Common.{◌≡◌, ◌<◌, ◌≤◌, ◌+◌, ◌-◌, ℕ, suc, Bool, false, Some, None, Option, List, [], ◌∷◌, ◌++◌, get_or, length, length-drop, map, take, drop, reverse, refl, sym, ap, ◌∙◌, subst, arith, append_assoc, append-nil, inl, inr}
 use Rattle.std.specs.Prelude.{All, option_map, slice_get}
 use Rattle.std.specs.Borrow.{Bor}
 use Rattle.std.specs.Cmp.{IsStrictWeakOrder}
@@ -12,11 +12,11 @@ use Rattle.std.specs.declared.cmp.Ordering.{Ordering}
 use Rattle.std.specs.declared.cmp.Ordering.TheVariants.{Less}
 use Rattle.std.proofs.lemmas.Bool.{cases_lt}
 use Rattle.std.proofs.lemmas.Fn.{always_returns_same}
-use Rattle.std.proofs.lemmas.List.{drop-map, get_or-map, length-map, length-take-le, map-append, reverse-append, take-append-drop, take-map, take_all, take_rest}
+use Rattle.std.proofs.lemmas.List.{drop-map, drop_more, get_or-map, get_or-take, length-map, length-take-le, map-append, map_more, reverse-append, take-append-drop, take-map, take_all, take_rest}
 use Rattle.std.proofs.lemmas.List.Elements.{All-same, All-take, filter_map-append}
 use Rattle.std.proofs.lemmas.List.MinMax.{ranks_by}
 use Rattle.std.proofs.lemmas.List.Sorted.{IsPermutation-map, sorted_far}
-use Rattle.std.proofs.lemmas.Option.{slice_get_read}
+use Rattle.std.proofs.lemmas.Option.{get_or_from_slice_get, slice_get_read}
 use denote.Param.Members.{Mut}
 use Rattle.flume_value.specs.declared.value.Value.{Value}
 use Rattle.flume_value.specs.declared.value.Value.TheVariants as value
@@ -27,12 +27,12 @@ use Rattle.flume_value.proofs.EachLemmas.{each_from, Each-map, Each-take}
 use Rattle.flume_value.proofs.OrderLemmas.{value_cmp-total}
 use Rattle.flume_value.proofs.ReferenceLemmas.{referred}
 use Rattle.flume_value.proofs.RisesLemmas.{Rises-take}
-use Rattle.bag_groups.specs.Pairs.{pair, IsPair, key_of, parts_of, pairs_of}
+use Rattle.bag_groups.specs.Pairs.{pair, IsPair, held_by, key_of, parts_of, pairs_of, value_of}
 use Rattle.bag_groups.specs.Groups.{grouped, grouped_pairs}
-use Rattle.bag_groups.specs.inner.Runs.{IsLastRun, held_by}
-use Rattle.bag_groups.proofs.PairLemmas.{Parts}
+use Rattle.bag_groups.proofs.PairLemmas.{Parts, held-push}
 use Rattle.bag_groups.proofs.PairOrder.{less_from, value_eq-other}
 use Rattle.key_order.specs.inner.Numbered.{key_in}
+use Rattle.key_order.specs.inner.Runs.{IsLastRun}
 use Rattle.key_order.proofs.Dividing.{key, grouped-over, moved_groups, one_key-parts, parts_of_key, some_parts}
 use Rattle.key_order.proofs.Keying.{is_keyed, key_in-keyed}
 
@@ -80,6 +80,46 @@ keys_sorted {g = g} {f = f} rs up h =
     keys_rise rs (up by_key keys_by_key
     (always_returns_same g (λ a r. is_lt r ≡ by_key a.0.now a.1.0.now) f
     (λ a r f' k. (ap is_lt (h a r f' k).0, (h a r f' k).1))))
+
+-- ---- where a run begins
+
+module _ (k : Value) (refs : List Ref) (n : ℕ) (x : Ref) (some : 0 < n) (within : n ≤ length refs)
+    (is : x ≡ get_or refs (n - 1) x)
+    (same : Each (λ p. key_of p ≡ Some k) (drop n (referred refs))) where
+  inside : n - 1 < length (referred refs)
+  inside = omega (arith, some, within, length-map refs now)
+
+  at : get_or (referred refs) (n - 1) x.now ≡ x.now
+  at = get_or-map now refs (n - 1) x x.now (omega (arith, some, within)) ∙ sym (ap now is)
+
+  pub run_more : key_of x.now ≡ Some k
+      → Each (λ p. key_of p ≡ Some k) (drop (n - 1) (referred refs))
+  run_more keyed =
+      let back : n - 1 + 1 ≡ n = omega (arith, some) in
+      subst (Each (λ p. key_of p ≡ Some k))
+      (sym (drop_more (referred refs) (n - 1) x.now inside
+      ∙ (λ i. at i ∷ drop (back i) (referred refs)))) (keyed, same)
+
+  pub run_ends : (key_of x.now ≡ Some k → ⊥) → IsLastRun (Some k) (referred refs) n
+  run_ends other = record {
+    within = omega (arith, within, length-map refs now);
+    same = same;
+    ends = λ p e keyed. other (ap key_of (sym at
+        ∙ sym (get_or-take n (referred refs) (n - 1) x.now (omega (arith, some)))
+        ∙ get_or_from_slice_get (take n (referred refs)) (n - 1) p x.now e) ∙ keyed);
+  }
+
+-- ---- the values of a run
+
+pub held_more : (refs : List Ref) (i : ℕ) (x : Ref) (v : Value) (values grown : List Value)
+    → i < length refs → x ≡ get_or refs i x → value_of x.now ≡ Some v
+    → values ≡ held_by (map (λ (r : Ref). r.now) (take i refs)) → grown ≡ values ++ v ∷ []
+    → grown ≡ held_by (map (λ (r : Ref). r.now) (take (i + 1) refs))
+held_more refs i x v values grown within is e all push =
+    let before = map now (take i refs) in
+    push ∙ ap (λ l. l ++ v ∷ []) all ∙ sym (held-push before x.now v e)
+    ∙ ap (λ (q : Ref). held_by (before ++ q.now ∷ [])) is
+    ∙ ap held_by (sym (map_more now refs i x within))
 
 -- ---- the run of the last key
 

@@ -17,7 +17,7 @@ use Rattle.flume_value.proofs.EachLemmas.{each_from, Each-map, Each-weaker}
 use Rattle.flume_value.proofs.ReferenceLemmas.{referred}
 use Rattle.bag_groups.specs.Pairs.{IsPair, key_of, pair, pairs_of, parts_of}
 use Rattle.bag_groups.specs.Groups.{grouped, grouped_pairs}
-use Rattle.bag_groups.specs.inner.Runs.{held_by}
+use Rattle.bag_groups.specs.Pairs.{held_by}
 use Rattle.bag_groups.proofs.MemberLemmas.{referred_all}
 use Rattle.bag_groups.proofs.PairLemmas.{Parts}
 use Rattle.bag_groups.proofs.PairOrder.{same-value_eq}

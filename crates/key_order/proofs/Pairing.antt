@@ -6,9 +6,8 @@ use Rattle.std.proofs.lemmas.List.{map-append, map_more}
 use Rattle.std.proofs.lemmas.List.Elements.{All-push, All-same}
 use Rattle.flume_value.specs.declared.value.Value.{Value}
 use Rattle.flume_value.proofs.ReferenceLemmas.{referred}
-use Rattle.bag_groups.specs.Pairs.{key_of, value_of}
-use Rattle.bag_groups.specs.inner.Runs.{held_by}
-use Rattle.bag_groups.proofs.LastRuns.{held-push}
+use Rattle.bag_groups.specs.Pairs.{held_by, key_of, value_of}
+use Rattle.bag_groups.proofs.PairLemmas.{held-push}
 use Rattle.key_order.specs.Numbers.{key_number, IsHeldAtTop}
 use Rattle.key_order.specs.inner.Numbered.{IsNumbered}
 

@@ -1,12 +1,12 @@
 // A pair whose key and value stand in it, and not in a record of their own.
 ghost use Rattle.std.specs.Prelude.{◌≡◌, Some, IfOk};
-ghost use Rattle.bag_groups.specs.Pairs.{IsPair, key_of, pair as pair_of, parts_of, value_of};
+ghost use Rattle.bag_groups.specs.Pairs.{IsPair, key_of, pair as pair_of, value_of};
 ghost use Rattle.flume_value.specs.Order.{value_cmp};
 ghost use Rattle.flume_value.specs.declared.value.Value.TheVariants as values;
 ghost use Rattle.key_order.specs.inner.Numbered.{key_in};
 
 use crate::sides::{Side, Sided, on_side, unboxed};
-use bag_groups::pair;
+use bag_groups::{into_parts, pair};
 use flume_value::{Value, compare};
 use std::alloc::{AllocError, Global};
 use std::cmp::Ordering;
@@ -142,20 +142,4 @@ impl Couple {
     {
         compare(&self.key, &other.key)
     }
-}
-
-// The key of a pair and its value.
-fn into_parts(pair: Value) -> Option<(Value, Value)>
-    ensures { result ≡ parts_of pair }
-{
-    let Value::Rec(fields) = pair else {
-        return None;
-    };
-    if fields.len() != 2 {
-        return None;
-    }
-    let mut fields = fields.into_vec();
-    let value = fields.pop()?;
-    let key = fields.pop()?;
-    Some((key, value))
 }

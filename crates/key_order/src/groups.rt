@@ -4,9 +4,8 @@ ghost use Rattle.std.specs.List.{list_all};
 ghost use Rattle.std.specs.List.Sorted.{IsNonDecreasingBy, IsSorted};
 ghost use Rattle.flume_value.specs.Bag.{bag_of};
 ghost use Rattle.flume_value.specs.Order.{value_cmp};
-ghost use Rattle.bag_groups.specs.Pairs.{IsPair, pair as pair_of};
+ghost use Rattle.bag_groups.specs.Pairs.{IsPair, held_by, pair as pair_of};
 ghost use Rattle.bag_groups.specs.Groups.{grouped};
-ghost use Rattle.bag_groups.specs.inner.Runs.{held_by};
 ghost use Rattle.key_order.specs.inner.Numbered.{IsNumbered, has_key as has_key_of};
 
 use crate::couple::Couple;

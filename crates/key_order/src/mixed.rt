@@ -1,9 +1,9 @@
 // The groups of pairs whose keys may differ, by a sort of their keys.
 ghost use Rattle.std.specs.Prelude.{◌≡◌, All, IfOk, Some, map};
 ghost use Rattle.flume_value.specs.Bag.{bag_of};
-ghost use Rattle.bag_groups.specs.Pairs.{IsPair, pair as pair_of};
+ghost use Rattle.bag_groups.specs.Pairs.{IsPair, held_by, pair as pair_of};
 ghost use Rattle.bag_groups.specs.Groups.{grouped};
-ghost use Rattle.bag_groups.specs.inner.Runs.{IsLastRun, held_by};
+ghost use Rattle.key_order.specs.inner.Runs.{IsLastRun};
 
 use crate::couple::Couple;
 use bag_groups::pair;

@@ -1,11 +1,11 @@
 -- The files of inputs, as they are loaded.
-use Rattle.std.specs.Prelude.{◌≡◌, ◌++◌, ℕ, List, Option, drop}
+use Rattle.std.specs.Prelude.{◌≡◌, ◌++◌, ℕ, List, Option}
 use Rattle.std.specs.List.{AllZip}
-use Rattle.script_loading.specs.of_direct_meaning.Inputs.{Wanted, inputs_of}
+use Rattle.script_loading.specs.of_direct_meaning.Inputs.{Wanted}
 use Rattle.outside.specs.declared.file.File.{File}
 use Rattle.script_loading.specs.Limits.{input_limit}
 use Rattle.script_loading.specs.Loads.{Loads}
-use Rattle.script_loading.specs.inner.Reading.{inputs_from}
+use Rattle.script_loading.specs.inner.Reading.{inputs_at}
 use Rattle.script_program.specs.Script.{Script}
 
 -- the file of an input
@@ -17,9 +17,7 @@ pub record IsFileOf (told : Option (List File)) (wanted : Wanted) (file : File) 
 abbrev pub AreFilesOf : Option (List File) → List Wanted → List File → Type 0
 AreFilesOf told inputs files = AllZip (IsFileOf told) inputs files
 
--- these are the files of the inputs of the nodes below a number
-abbrev pub HasLoaded : Option (List File) → Script → ℕ → List File → Type 0
-HasLoaded told script number files =
-    (done : List Wanted)
-    × (inputs_of script ≡ done ++ inputs_from script number (drop number script.nodes))
-    × AreFilesOf told done files
+-- behind these files stands that of the node of that number, where it is an input that is needed
+abbrev pub AddsFiles : Option (List File) → Script → ℕ → List File → List File → Type 0
+AddsFiles told script number files more =
+    (own : List File) × (more ≡ files ++ own) × AreFilesOf told (inputs_at script number) own

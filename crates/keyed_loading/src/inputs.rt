@@ -1,24 +1,24 @@
 // The rows of a script's inputs, and the files that have them.
-ghost use Rattle.std.specs.Prelude.{◌≡◌, ◌≢◌, ◌≤◌, ◌<◌, ◌+◌, ◌++◌, ◌∷◌, [], Err, IfErr, IfOk, IsUtf8, Ok, OnErr, OnOk, Some, length};
+ghost use Rattle.std.specs.Prelude.{◌≡◌, ◌≢◌, ◌≤◌, ◌<◌, ◌++◌, ◌∷◌, [], Err, IfErr, IfOk, IsUtf8, Ok, OnErr, OnOk, Some, length};
 ghost use Rattle.csv_rows.specs.Records.{records_of};
 ghost use Rattle.csv_rows.specs.Rows.{rows_under};
 ghost use Rattle.script_loading.specs.of_direct_meaning.Inputs.{AreInputs, inputs_of};
 ghost use Rattle.flume_types.specs.Columns.{input_columns_of};
 ghost use Rattle.flume_types.specs.declared.types.Ty.{Ty};
 ghost use Rattle.outside.specs.Asked.{Asks, AsksFront};
+ghost use Rattle.script_loading.specs.Asks.{AsksToStop};
 ghost use Rattle.script_loading.specs.Causes.{IsInputCause, IsInputsCause};
 ghost use Rattle.script_loading.specs.Loads.{AllHaveRows, HasRows, file_names};
-ghost use Rattle.script_loading.specs.inner.Reading.{HasRead, inputs_at};
+ghost use Rattle.script_loading.specs.inner.Reading.{AddsRows, StopsAt, inputs_at};
 ghost use Rattle.script_program.specs.Saved.{HasNoSaved};
-ghost use Rattle.keyed_loading.specs.Files.{AreFilesOf, HasLoaded, IsFileOf};
+ghost use Rattle.keyed_loading.specs.Files.{AddsFiles, AreFilesOf, IsFileOf};
 
 use csv_rows::{RowFault, rows_under_columns};
 use flume_types::Column;
 use flume_value::{Items, Pile, Str};
 use outside::{File, Pieces, Source};
 use run_texts::Status;
-use script_loading::{INPUT_LIMIT, ReadyProgram, input_refused, inputs_law, loaded};
-use script_program::Made;
+use script_loading::{INPUT_LIMIT, ReadyProgram, input_refused, inputs_law, loaded, needed_input};
 use std::alloc::{AllocError, Global};
 use std::str;
 
@@ -52,6 +52,8 @@ pub fn keyed_inputs<R: Source>(
         (R.seen source.old) (R.seen source.new)) }
     ensures asked_front { OnErr result (AsksFront tries (file_names (inputs_of program.now.script))
         (R.seen source.old) (R.seen source.new)) }
+    ensures asked_until { IfErr result (AsksToStop tries (file_names (inputs_of program.now.script))
+        (R.seen source.old) (R.seen source.new)) }
 {
     inputs_law();
     let held = program.as_program();
@@ -76,32 +78,26 @@ fn add_input<R: Source>(
 ) -> Result<(), Status>
     requires tries { 0 < tries }
     requires within { number < length program.now.script.nodes }
-    requires read { HasRead (R.seen source.old).files program.now.script number rows.old }
-    requires loaded { HasLoaded (R.seen source.old).files program.now.script number files.old }
     ensures files { (R.seen source.new).files ≡ (R.seen source.old).files }
-    ensures read { OnOk result
-        (HasRead (R.seen source.old).files program.now.script (number + 1) rows.new) }
+    ensures rows { OnOk result
+        (AddsRows (R.seen source.old).files program.now.script number rows.old rows.new) }
     ensures loaded { OnOk result
-        (HasLoaded (R.seen source.old).files program.now.script (number + 1) files.new) }
-    ensures err { IfErr result (IsInputsCause tries (R.seen source.old)
-        (R.seen source.new) (inputs_of program.now.script)) }
+        (AddsFiles (R.seen source.old).files program.now.script number files.old files.new) }
+    ensures err { IfErr result
+        (StopsAt tries (R.seen source.old) (R.seen source.new) program.now.script number) }
     ensures later { (R.seen source.old).faults ≤ (R.seen source.new).faults }
     ensures asked { Asks tries (file_names (inputs_at program.now.script number))
         (R.seen source.old) (R.seen source.new) }
 {
-    let held = program.as_program();
-    if !held.is_needed(number) {
-        return Ok(());
-    }
-    match &held.node(number).made {
-        Made::Input { file, columns } => {
-            let own = input_of(alloc, file, columns.as_slice(), source, tries)?;
+    match needed_input(program, number) {
+        Some(it) => {
+            let own = input_of(alloc, it.0, it.1, source, tries)?;
             match push_input(rows, files, own) {
                 Ok(()) => Ok(()),
                 Err(_) => Err(Status::WantOfMemory),
             }
         }
-        _ => Ok(()),
+        None => Ok(()),
     }
 }
 

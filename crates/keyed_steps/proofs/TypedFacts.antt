@@ -189,10 +189,10 @@ combined_pairs_have comb key value (g ∷ gs) e =
 
 -- ---- the groups of a table
 
-abbrev HaveParts : Ty → Ty → Parts → Type 0
+abbrev pub HaveParts : Ty → Ty → Parts → Type 0
 HaveParts key value p = Has key p.0 × Has value p.1
 
-pairs_have : (key value : Ty) (ps : List Value) → Each (Has (table_of key value)) ps
+pub pairs_have : (key value : Ty) (ps : List Value) → Each (Has (table_of key value)) ps
     → Each (HaveParts key value) (pairs_of ps)
 pairs_have key value [] e = tt
 pairs_have key value (p ∷ ps) e =

@@ -1,9 +1,9 @@
 //! The two steps of a pipeline over whole tables: `group`, and then `combine`.
 //!
-//! `bag_groups::group` makes of a bag of pairs one pair for each key, with the list of its
-//! values. `combine_each` combines each list and stops at the first that traps, whose key it
-//! names. What the values come to as a bag is `combined_each`, and which keys trap is
-//! `traps_of_each`: it meets both for any pairs of a key and a list.
+//! `grouped` of bag_groups has one pair for each key, with the list of its values. `combine_each`
+//! combines each list and stops at the first that traps, whose key it names. What the values come
+//! to as a bag is `combined_each`, and which keys trap is `traps_of_each`: it meets both for any
+//! pairs of a key and a list.
 //!
 //! `tables_law` ties the steps to types: where the pairs have the type of a table, so have their
 //! groups, and the combiner takes them where it takes the type of their values. Then

@@ -1,7 +1,8 @@
 -- What the legs of a task come to together.
 use Rattle.std.proofs.Common.{◌≡◌, ◌+◌, ◌-◌, ◌^◌, ℕ, zero, suc, true, false, cond, Bool, ◌&&◌, ◌||◌, not, List, [], ◌∷◌, ◌++◌, length, map, Option, Some, None, refl, sym, ap, ◌∙◌, subst, arith, append-nil, append_assoc}
-use Rattle.std.specs.Prelude.{◌==◌, All, Ok, drop, min, slice_get}
+use Rattle.std.specs.Prelude.{◌==◌, All, Ok, Result, drop, min, slice_get}
 use Rattle.std.specs.List.{AllByRecursion, AllZip, list_all, list_any}
+use Rattle.std.proofs.lemmas.Bool.{and_parts}
 use Rattle.std.proofs.lemmas.Grind.{flat_map-append}
 use Rattle.std.proofs.lemmas.List.Elements.{All-from_recursion, recursion_from_All}
 use Rattle.flume_value.specs.declared.value.Value.{Value}
@@ -21,22 +22,16 @@ use Rattle.exec_plan.specs.declared.plan.Take.{Take}
 use Rattle.task_safety.specs.of_task_lists.Runs.{all_given, counts_of, gives, kept_count, output_at, traps_of, visits_of}
 use Rattle.task_safety.specs.of_task_lists.Typing.{AreGroupable}
 use Rattle.task_safety.proofs.of_forest_courses.Counting.{emits, emits_length, emits_more, plus}
-use Rattle.task_safety.specs.of_forest_courses.Courses.{IsCourse}
+use Rattle.task_safety.specs.of_forest_courses.Courses.{IsCourse, IsMade}
 use Rattle.forest_steps.specs.Running.{Given}
+use Rattle.forest_steps.specs.Safety.{SafeOf}
 use Rattle.map_shard.specs.declared.filling.Filling.{Filling}
 use Rattle.map_shard.specs.declared.legs.Legs.{Legs}
+use Rattle.map_shard.specs.declared.legs.Steps.{Steps}
 use Rattle.map_shard.specs.inner.Fillings.{IsFilled, IsFilling}
-use Rattle.map_shard.specs.inner.Legs.{AreLegs, count_with, each_with}
+use Rattle.map_shard.specs.inner.Legs.{AreLegs, CanRunIn, count_with, each_with}
 use Rattle.map_shard.specs.inner.Sending.{CanSend, taken, takes_of}
 use Rattle.map_shard.specs.inner.Single.{is_single, takes_once}
-
-and_left : (x y : Bool) → (x && y) ≡ true → x ≡ true
-and_left true y e = refl
-and_left false y e = cc
-
-and_right : (x y : Bool) → (x && y) ≡ true → y ≡ true
-and_right true y e = e
-and_right false y e = cc
 
 not_true : (x : Bool) → not x ≡ true → x ≡ false
 not_true true e = cc
@@ -153,23 +148,45 @@ module _ (w : World) (m : ℕ) (does : Option Forest) (xs ys : List Value) where
       (taken m (all_given w does ys) g.takes)
       (subst (AreGroupable g.lifted) (taken_both w does xs ys m g.takes e) fit)
 
-  pub fit_left : (os : List OutChannel) → list_all (is_single m) os ≡ true
+  fit_both : (os : List OutChannel) → list_all (is_single m) os ≡ true
       → AllByRecursion (CanSend m (all_given w does (xs ++ ys))) os
       → AllByRecursion (CanSend m (all_given w does xs)) os
-  fit_left [] e all = tt
-  fit_left (o ∷ os) e all = (
-    (fit_one o (and_left (is_single m o) (list_all (is_single m) os) e) all.0).0,
-    fit_left os (and_right (is_single m o) (list_all (is_single m) os) e) all.1,
-  )
+      × AllByRecursion (CanSend m (all_given w does ys)) os
+  fit_both [] e all = (tt, tt)
+  fit_both (o ∷ os) e all =
+      let each = and_parts (is_single m o) (list_all (is_single m) os) e in
+      let one = fit_one o each.0 all.0 in
+      let rest = fit_both os each.1 all.1 in
+      ((one.0, rest.0), (one.1, rest.1))
 
-  pub fit_right : (os : List OutChannel) → list_all (is_single m) os ≡ true
-      → AllByRecursion (CanSend m (all_given w does (xs ++ ys))) os
-      → AllByRecursion (CanSend m (all_given w does ys)) os
-  fit_right [] e all = tt
-  fit_right (o ∷ os) e all = (
-    (fit_one o (and_left (is_single m o) (list_all (is_single m) os) e) all.0).1,
-    fit_right os (and_right (is_single m o) (list_all (is_single m) os) e) all.1,
-  )
+module _ {F : Type 0} (w : World) (steps : Steps F) (takes : ℕ → Value → Type 0)
+    (single : list_all (is_single steps.m) steps.channels.now ≡ true) where
+  pub can_both : (xs ys whole : List Value) → xs ++ ys ≡ whole → CanRunIn w steps takes whole
+      → CanRunIn w steps takes xs × CanRunIn w steps takes ys
+  can_both xs ys whole is can =
+      let P = SafeOf w takes steps.does.now in
+      let all = subst (CanRunIn w steps takes) (sym is) can in
+      let fit = fit_both w steps.m steps.does.now xs ys steps.channels.now single all.fit in
+      let part : (zs : List Value) → AllByRecursion P zs
+      → AllByRecursion (CanSend steps.m (all_given w steps.does.now zs)) steps.channels.now
+      → CanRunIn w steps takes zs =
+      λ zs safe fit. record {
+        some = all.some;
+        numbered = all.numbered;
+        taken = all.taken;
+        safe = safe;
+        fit = fit;
+      } in
+      (part xs (Each-left P xs ys all.safe) fit.0, part ys (Each-right P xs ys all.safe) fit.1)
+
+-- what the steps gave is fit for the output channels
+pub given_fit : (w : World) (m : ℕ) (does : Option Forest) (os : List OutChannel)
+    (xs : List Value) (came : Result Given Trap) (given : Given) → IsCourse w does xs came
+    → came ≡ Ok given → AllByRecursion (CanSend m (all_given w does xs)) os
+    → AllByRecursion (CanSend m given.lists) os
+given_fit w m does os xs came given course is =
+    let made : IsMade w does xs given = subst (IsCourse w does xs) is course in
+    subst (λ (ls : List (List Value)). AllByRecursion (CanSend m ls) os) (sym made.lists)
 
 -- ---- the first leg
 module _ (w : World) (p m : ℕ) (does : Option Forest) (xs : List Value) where
@@ -200,10 +217,9 @@ module _ (w : World) (p m : ℕ) (does : Option Forest) (xs ys : List Value) whe
   filled_all [] [] e z = tt
   filled_all [] (f ∷ fs) e z = absurd z
   filled_all (o ∷ os) [] e z = absurd z
-  filled_all (o ∷ os) (f ∷ fs) e z = (
-    filled_one o f (and_left (is_single m o) (list_all (is_single m) os) e) z.0,
-    filled_all os fs (and_right (is_single m o) (list_all (is_single m) os) e) z.1,
-  )
+  filled_all (o ∷ os) (f ∷ fs) e z =
+      let each = and_parts (is_single m o) (list_all (is_single m) os) e in
+      (filled_one o f each.0 z.0, filled_all os fs each.1 z.1)
 
   pub legs_joined : (os : List OutChannel) → list_all (is_single m) os ≡ true
       → (old new : Legs) (given : Given) → AreLegs w p m does os xs old

@@ -4,23 +4,17 @@ use Rattle.std.specs.Prelude.{slice_get}
 use Rattle.std.specs.List.{AllByRecursion, AllZip}
 use Rattle.std.specs.Option.{IsSomeAnd}
 use Rattle.std.proofs.lemmas.List.{take_more, take_all}
+use Rattle.shuffle_parts.proofs.Lifting.{zip_push}
 use Rattle.map_shard.proofs.Later.{drop_at}
 
 module _ {A B : Type 0} (P : A → B → Type 0) where
-  zip_more : (xs : List A) (ys : List B) (x : A) (y : B) → AllZip P xs ys → P x y
-      → AllZip P (xs ++ x ∷ []) (ys ++ y ∷ [])
-  zip_more [] [] x y a p = (p, tt)
-  zip_more [] (v ∷ ys) x y a p = absurd a
-  zip_more (u ∷ xs) [] x y a p = absurd a
-  zip_more (u ∷ xs) (v ∷ ys) x y a p = (a.0, zip_more xs ys x y a.1 p)
-
   pub zip_further : (all : List A) (i : ℕ) (ys more : List B) (x : A) (y : B)
       → AllZip P (take i all) ys → i < length all → x ≡ get_or all i x → P x y
       → more ≡ ys ++ y ∷ [] → AllZip P (take (i + 1) all) more
   zip_further all i ys more x y a h is p push =
       subst (λ l. AllZip P l more)
       (sym (take_more all i x h ∙ ap (λ z. take i all ++ z ∷ []) (sym is)))
-      (subst (AllZip P (take i all ++ x ∷ [])) (sym push) (zip_more (take i all) ys x y a p))
+      (subst (AllZip P (take i all ++ x ∷ [])) (sym push) (zip_push P (take i all) ys x y a p))
 
   pub zip_all : (all : List A) (i : ℕ) (ys : List B) → length all ≤ i → AllZip P (take i all) ys
       → AllZip P all ys

@@ -9,6 +9,7 @@ use Rattle.flume_value.specs.declared.value.Value.{Value}
 use Rattle.flume_collection.specs.declared.trap.Trap.{Trap}
 use Rattle.shards.specs.Shards.{shard}
 use Rattle.shuffle_parts.specs.declared.out.MapOut.{MapOut}
+use Rattle.exec_graph.specs.Objects.{beside}
 use Rattle.exec_graph.specs.World.{World}
 use Rattle.exec_plan.specs.Wellformed.{IsNumbered}
 use Rattle.exec_plan.specs.declared.plan.InChannel.{InChannel}
@@ -22,8 +23,10 @@ use Rattle.task_safety.proofs.of_forest_courses.Worlds.{same_counts, same_gives,
 use Rattle.task_safety.specs.Taking.{taking}
 use Rattle.task_safety.proofs.Taken.{same_beside}
 use Rattle.map_shard.specs.Work.{Work, CanWork, IsReady, IsWorkValue, lists_of, shard_task, split_of, task_at, work_count}
-use Rattle.map_shard.specs.inner.Legs.{IsWholeOr}
+use Rattle.map_shard.specs.declared.legs.Steps.{Steps}
+use Rattle.map_shard.specs.inner.Legs.{CanRunIn, IsWholeOr}
 use Rattle.map_shard.specs.inner.Sending.{CanSend}
+use Rattle.map_shard.specs.inner.Takes.{AreTakes}
 use Rattle.map_shard.proofs.Taking.{can_send, sent_given}
 
 get_is : {X : Type 0} (xs : List X) (i : ℕ) (x : X) → i < length xs → x ≡ get_or xs i x
@@ -113,7 +116,7 @@ module _ {F : Type 0} {w : World} {takes : ℕ → Value → Type 0} {work : Wor
         does = c.does;
       })
 
-  pub safe : {task : Task} → task_at work k ≡ task
+  safe : {task : Task} → task_at work k ≡ task
       → AllByRecursion (SafeOf (world_for w task) (taking task.beside takes) task.does)
       task.elements
   safe is =
@@ -140,7 +143,7 @@ module _ {F : Type 0} {w : World} {takes : ℕ → Value → Type 0} {work : Wor
       can_send w work.stage.inputs (k / work.shards) channel.0 (task_at work k) channel.1
       does_is channel.2 Given refl work.stage.outputs ready.fit
 
-  pub fit : {task : Task} → task_at work k ≡ task → (os : List OutChannel)
+  fit : {task : Task} → task_at work k ≡ task → (os : List OutChannel)
       → os ≡ work.stage.outputs
       → AllByRecursion
       (CanSend (k / work.shards) (all_given (world_for w task) task.does task.elements)) os
@@ -151,6 +154,23 @@ module _ {F : Type 0} {w : World} {takes : ℕ → Value → Type 0} {work : Wor
       (subst (λ (t : Task). AllByRecursion
       (CanSend (k / work.shards) (all_given (world_for w t) t.does t.elements))
       work.stage.outputs) is can_send_all)
+
+  pub can_run : {elements : List Value} {object : Option Value} (steps : Steps F)
+      → task_at work k ≡ record { elements = elements; beside = object; does = steps.does.now }
+      → steps.m ≡ k / work.shards → steps.partitions ≡ work.partitions
+      → steps.channels.now ≡ work.stage.outputs
+      → AreTakes steps.m steps.channels.now steps.takes.now
+      → CanRunIn (beside object w) steps (taking object takes) elements
+  can_run {elements} {object} steps is at parts same taken = record {
+    some = subst (λ (n : ℕ). 0 < n) (sym parts) can.partitions;
+    numbered =
+        subst IsNumbered (sym (sym (ap (λ (t : Task). t.does) is) ∙ does_is)) channel.2;
+    taken = taken;
+    safe = safe is;
+    fit = subst (λ (n : ℕ). AllByRecursion (CanSend n
+        (all_given (beside object w) steps.does.now elements)) steps.channels.now) (sym at)
+        (fit is steps.channels.now same);
+  }
 
   whole_value : (out : Result MapOut Trap)
       → IsWholeOr (world_for w (task_at work k)) work.partitions (k / work.shards)

@@ -1,19 +1,12 @@
 // Steps that are called beside the value of an object.
-ghost use Rattle.std.specs.Prelude.{◌≡◌, ◌<◌, ◌∷◌, [], IfOk, Some};
-ghost use Rattle.std.specs.List.{AllByRecursion};
+ghost use Rattle.std.specs.Prelude.{◌≡◌, ◌∷◌, [], IfOk};
+ghost use Rattle.std.specs.Option.{option_copied};
 ghost use Rattle.exec_graph.specs.Objects.{beside};
-ghost use Rattle.exec_plan.specs.Wellformed.{IsNumbered};
 ghost use Rattle.flume_value.specs.declared.value.Value.TheVariants as value;
-ghost use Rattle.forest_steps.specs.Functions.{world_of};
-ghost use Rattle.forest_steps.specs.Safety.{SafeOf};
-ghost use Rattle.map_shard.specs.inner.Legs.{IsWholeOr};
-ghost use Rattle.map_shard.specs.inner.Sending.{CanSend};
-ghost use Rattle.task_safety.specs.of_task_lists.Runs.{all_given};
+ghost use Rattle.map_shard.specs.inner.Legs.{CanRunIn, IsWholeIn, own_world};
 ghost use Rattle.task_safety.specs.Taking.{taking};
 
-use crate::legs::run_task;
-use exec_graph::Roots;
-use exec_plan::OutChannel;
+use crate::legs::Steps;
 use flume_collection::Trap;
 use flume_value::{CallFault, Pile, Value};
 use forest_steps::{Answer, Functions};
@@ -45,32 +38,38 @@ impl<'a, F: Functions> Functions for Beside<'a, F> {
     }
 }
 
-/// What the steps on the elements, called beside the value of an object, give the output channels,
-/// or the first trap.
+/// What the steps on the elements give the output channels, or the first trap. They are called
+/// beside the value of an object, where there is one.
 pub(crate) fn run_beside<F: Functions>(
     alloc: Global,
-    functions: &F,
-    object: &Value,
-    does: &Option<Roots>,
-    channels: &[OutChannel],
-    m: u32,
-    partitions: u32,
+    steps: &Steps<'_, F>,
+    object: Option<&Value>,
     elements: &[Value],
 ) -> Result<Result<MapOut, Trap>, AllocError>
-    requires some { 0 < partitions }
-    requires numbered { IsNumbered does.now }
-    requires safe { AllByRecursion (SafeOf
-        (beside (Some object.now) (world_of (F.called functions.now)))
-        (taking (Some object.now) (F.can_call functions.now)) does.now) elements.now }
-    requires fit { AllByRecursion (CanSend m (all_given
-        (beside (Some object.now) (world_of (F.called functions.now))) does.now elements.now))
-        channels.now }
-    ensures { IfOk result (IsWholeOr
-        (beside (Some object.now) (world_of (F.called functions.now))) partitions m does.now
-        channels.now elements.now) }
+    requires { CanRunIn (beside (option_copied object) (own_world F.called steps.now)) steps.now
+        (taking (option_copied object) (F.can_call steps.now.functions.now)) elements.now }
+    ensures { IfOk result (IsWholeIn
+        (beside (option_copied object.entry) (own_world F.called steps.now)) steps.now
+        elements.now) }
 {
-    let functions = Beside { functions, object };
-    run_task(alloc, &functions, does, channels, m, partitions, elements)
+    match object {
+        None => steps.run(alloc, elements),
+        Some(object) => {
+            let functions = Beside {
+                functions: steps.functions,
+                object,
+            };
+            let steps = Steps {
+                functions: &functions,
+                does: steps.does,
+                channels: steps.channels,
+                takes: steps.takes,
+                m: steps.m,
+                partitions: steps.partitions,
+            };
+            steps.run(alloc, elements)
+        }
+    }
 }
 
 // The record of an element and the value of an object.

@@ -16,9 +16,7 @@ use flume_value::{Items, Pile, Value};
 use forest_steps::Emitted;
 use key_order::Couple;
 use partial_tables::Lifting;
-use shuffle_parts::{
-    Sent, finish_each, lift_couples, lift_more, no_pairs, none_lifted, part_couples, part_more,
-};
+use shuffle_parts::{Sent, finish_each, lift_more, no_pairs, none_lifted, part_more};
 use std::alloc::{AllocError, Global};
 
 /// What an output channel was given so far.
@@ -163,7 +161,7 @@ fn part_emitted(
 {
     let (values, couples) = pairs.into_parts();
     let parts = part_more(parts, values, partitions)?;
-    part_couples(parts, couples, partitions)
+    part_more(parts, couples, partitions)
 }
 
 // Puts more pairs into the accumulators of a lifted channel.
@@ -185,7 +183,7 @@ fn lift_emitted(
 {
     let (values, couples) = pairs.into_parts();
     let parts = lift_more(alloc, comb, parts, values, partitions)?;
-    lift_couples(alloc, comb, parts, couples, partitions)
+    lift_more(alloc, comb, parts, couples, partitions)
 }
 
 /// What a channel gets that was given this.

@@ -3,13 +3,9 @@
 ghost use Rattle.std.specs.Prelude.{◌≡◌, ◌<◌, ◌++◌, List, true, IfOk, length, map};
 ghost use Rattle.std.specs.List.{AllByRecursion, AllZip, list_all};
 ghost use Rattle.flume_value.specs.declared.value.Value.{Value as GhostValue};
-ghost use Rattle.exec_plan.specs.Wellformed.{IsNumbered};
 ghost use Rattle.exec_plan.specs.declared.plan.Take.{Take as GhostTake};
-ghost use Rattle.task_safety.specs.of_task_lists.Runs.{all_given};
-ghost use Rattle.forest_steps.specs.Functions.{world_of};
-ghost use Rattle.forest_steps.specs.Safety.{SafeOf};
 ghost use Rattle.map_shard.specs.inner.Fillings.{IsFilled, sent_of};
-ghost use Rattle.map_shard.specs.inner.Legs.{AreLegs, AreLegsOr, IsWholeOr, count_with, each_with};
+ghost use Rattle.map_shard.specs.inner.Legs.{CanRun, HaveRun, IsWholeIn, count_with, each_with, own_world};
 ghost use Rattle.map_shard.specs.inner.Sending.{CanSend, taken};
 ghost use Rattle.map_shard.specs.inner.Single.{is_single};
 ghost use Rattle.map_shard.specs.inner.Takes.{AreTakes};
@@ -18,7 +14,7 @@ use crate::filling::Filling;
 use crate::joining::join_counts;
 use crate::send::{all_sent, nothing_sent, send_more};
 use crate::single::are_single;
-use crate::takes::{Takes, takes_from};
+use crate::takes::Takes;
 use exec_graph::Roots;
 use exec_plan::OutChannel;
 use flume_collection::Trap;
@@ -38,60 +34,150 @@ pub(crate) struct Legs {
     pub(crate) counts: Vec<u64>,
 }
 
-/// What the steps on the elements give the output channels, or the first trap.
-pub(crate) fn run_task<F: Functions>(
-    alloc: Global,
-    functions: &F,
-    does: &Option<Roots>,
-    channels: &[OutChannel],
-    m: u32,
-    partitions: u32,
-    elements: &[Value],
-) -> Result<Result<MapOut, Trap>, AllocError>
-    requires some { 0 < partitions }
-    requires numbered { IsNumbered does.now }
-    requires safe { AllByRecursion (SafeOf (world_of (F.called functions.now))
-        (F.can_call functions.now) does.now) elements.now }
-    requires fit { AllByRecursion (CanSend m
-        (all_given (world_of (F.called functions.now)) does.now elements.now)) channels.now }
-    ensures { IfOk result (IsWholeOr (world_of (F.called functions.now)) partitions m does.now
-        channels.now elements.now) }
-{
-    match run_all(alloc, functions, does, channels, m, partitions, elements)? {
-        Ok(legs) => Ok(Ok(whole(alloc, legs)?)),
-        Err(trap) => Ok(Err(trap)),
-    }
+/// What a map task does with its elements: the steps of input channel m, and the output channels
+/// that take what they give.
+#[derive(Drop)]
+pub(crate) struct Steps<'a, F: Functions> {
+    pub(crate) functions: &'a F,
+    pub(crate) does: &'a Option<Roots>,
+    pub(crate) channels: &'a [OutChannel],
+    pub(crate) takes: &'a Takes,
+    pub(crate) m: u32,
+    pub(crate) partitions: u32,
 }
 
-// Where a channel takes two lists of the input channel, the first list is sent whole before the
-// second, so there is one leg. So there is where no channel groups: nothing is won then.
-fn run_all<F: Functions>(
-    alloc: Global,
-    functions: &F,
-    does: &Option<Roots>,
-    channels: &[OutChannel],
-    m: u32,
-    partitions: u32,
-    elements: &[Value],
-) -> Result<Result<Legs, Trap>, AllocError>
-    requires some { 0 < partitions }
-    requires numbered { IsNumbered does.now }
-    requires safe { AllByRecursion (SafeOf (world_of (F.called functions.now))
-        (F.can_call functions.now) does.now) elements.now }
-    requires fit { AllByRecursion (CanSend m
-        (all_given (world_of (F.called functions.now)) does.now elements.now)) channels.now }
-    ensures { IfOk result (AreLegsOr (world_of (F.called functions.now)) partitions m does.now
-        channels.now elements.now) }
-{
-    let takes = takes_from(alloc, channels, m)?;
-    if some_group(channels) && are_single(channels, m) {
-        return run_legs(
-            alloc, functions, does, channels, &takes, m, partitions, elements,
-        );
+impl<'a, F: Functions> Steps<'a, F> {
+    /// What the steps on the elements give the output channels, or the first trap.
+    pub(crate) fn run(
+        &self,
+        alloc: Global,
+        elements: &[Value],
+    ) -> Result<Result<MapOut, Trap>, AllocError>
+        requires { CanRun F.called self.now F.can_call elements.now }
+        ensures { IfOk result
+            (IsWholeIn (own_world F.called self.now) self.now elements.now) }
+    {
+        match self.run_all(alloc, elements)? {
+            Ok(legs) => Ok(Ok(whole(alloc, legs)?)),
+            Err(trap) => Ok(Err(trap)),
+        }
     }
-    run_leg(
-        alloc, functions, does, channels, &takes, m, partitions, elements,
-    )
+
+    // Where a channel takes two lists of the input channel, the first list is sent whole before the
+    // second, so there is one leg. So there is where no channel groups: nothing is won then.
+    fn run_all(&self, alloc: Global, elements: &[Value]) -> Result<Result<Legs, Trap>, AllocError>
+        requires { CanRun F.called self.now F.can_call elements.now }
+        ensures { IfOk result (HaveRun F.called self.now elements.now) }
+    {
+        if some_group(self.channels) && are_single(self.channels, self.m) {
+            return self.run_legs(alloc, elements);
+        }
+        self.run_leg(alloc, elements)
+    }
+
+    fn run_legs(&self, alloc: Global, elements: &[Value]) -> Result<Result<Legs, Trap>, AllocError>
+        requires can { CanRun F.called self.now F.can_call elements.now }
+        requires single { list_all (is_single self.now.m) self.now.channels.now ≡ true }
+        ensures { IfOk result (HaveRun F.called self.now elements.now) }
+    {
+        let (first, others) = cut(elements);
+        let mut legs = self.run_leg(alloc, first)?;
+        let mut left = others;
+        'turns: while !left.is_empty() {
+            let (next, behind) = cut(left);
+            let more = self.add_leg(alloc, next, legs)?;
+            legs = more;
+            left = behind;
+        }
+        Ok(legs)
+    }
+
+    fn run_leg(&self, alloc: Global, leg: &[Value]) -> Result<Result<Legs, Trap>, AllocError>
+        requires { CanRun F.called self.now F.can_call leg.now }
+        ensures { IfOk result (HaveRun F.called self.now leg.now) }
+    {
+        match run_part(alloc, self.functions, self.does, leg)? {
+            Ok(given) => {
+                let fillings = nothing_sent(alloc, self.channels, self.partitions)?;
+                Ok(Ok(self.send_given(alloc, given, fillings)?))
+            }
+            Err(trap) => Ok(Err(trap)),
+        }
+    }
+
+    // The next leg behind those before it, of which none goes on behind a trap.
+    fn add_leg(
+        &self,
+        alloc: Global,
+        leg: &[Value],
+        before: Result<Legs, Trap>,
+    ) -> Result<Result<Legs, Trap>, AllocError>
+        requires can { CanRun F.called self.now F.can_call leg.now }
+        requires single { list_all (is_single self.now.m) self.now.channels.now ≡ true }
+        requires stands { (done : List GhostValue) × HaveRun F.called self.now done before }
+        ensures { (done : List GhostValue) → HaveRun F.called self.now done before →
+            IfOk result (HaveRun F.called self.now (done ++ leg.now)) }
+    {
+        match before {
+            Ok(legs) => self.go_on(alloc, leg, legs),
+            Err(trap) => Ok(Err(trap)),
+        }
+    }
+
+    // The next leg behind those before it, which came to this.
+    fn go_on(
+        &self,
+        alloc: Global,
+        leg: &[Value],
+        legs: Legs,
+    ) -> Result<Result<Legs, Trap>, AllocError>
+        requires can { CanRun F.called self.now F.can_call leg.now }
+        requires single { list_all (is_single self.now.m) self.now.channels.now ≡ true }
+        requires stands { (done : List GhostValue) × HaveRun F.called self.now done (Ok legs) }
+        ensures { (done : List GhostValue) → HaveRun F.called self.now done (Ok legs) →
+            IfOk result (HaveRun F.called self.now (done ++ leg.now)) }
+    {
+        let Legs { fillings, counts } = legs;
+        match run_part(alloc, self.functions, self.does, leg)? {
+            Ok(given) => {
+                let more = self.send_given(alloc, given, fillings)?;
+                Ok(Ok(with_counts(alloc, counts, more)?))
+            }
+            Err(trap) => Ok(Err(trap)),
+        }
+    }
+
+    // What steps gave goes to the output channels, behind what those were given.
+    fn send_given(
+        &self,
+        alloc: Global,
+        given: Outputs,
+        fillings: Vec<Filling>,
+    ) -> Result<Legs, AllocError>
+        requires some { 0 < self.now.partitions }
+        requires taken { AreTakes self.now.m self.now.channels.now self.now.takes.now }
+        requires fit { AllByRecursion (CanSend self.now.m given.lists) self.now.channels.now }
+        requires stands { (before : List GhostTake → List GhostValue)
+            × AllZip (IsFilled self.now.partitions before) self.now.channels.now fillings.items }
+        ensures filled { (before : List GhostTake → List GhostValue) →
+            AllZip (IsFilled self.now.partitions before) self.now.channels.now fillings.items →
+            IfOk result (λ legs. AllZip (IsFilled self.now.partitions
+            (λ takes. before takes ++ taken self.now.m given.lists takes)) self.now.channels.now
+            legs.fillings.items) }
+        ensures counts { IfOk result (λ legs. legs.counts.items ≡ given.counts) }
+    {
+        let (lists, counts) = given.into_parts();
+        let fillings = send_more(
+            alloc,
+            self.channels,
+            self.takes,
+            self.m,
+            lists,
+            self.partitions,
+            fillings,
+        )?;
+        Ok(Legs { fillings, counts })
+    }
 }
 
 fn some_group(channels: &[OutChannel]) -> bool {
@@ -105,43 +191,6 @@ fn is_group(channel: &OutChannel) -> bool {
     }
 }
 
-fn run_legs<F: Functions>(
-    alloc: Global,
-    functions: &F,
-    does: &Option<Roots>,
-    channels: &[OutChannel],
-    takes: &Takes,
-    m: u32,
-    partitions: u32,
-    elements: &[Value],
-) -> Result<Result<Legs, Trap>, AllocError>
-    requires some { 0 < partitions }
-    requires taken { AreTakes m channels.now takes.now }
-    requires single { list_all (is_single m) channels.now ≡ true }
-    requires numbered { IsNumbered does.now }
-    requires safe { AllByRecursion (SafeOf (world_of (F.called functions.now))
-        (F.can_call functions.now) does.now) elements.now }
-    requires fit { AllByRecursion (CanSend m
-        (all_given (world_of (F.called functions.now)) does.now elements.now)) channels.now }
-    ensures { IfOk result (AreLegsOr (world_of (F.called functions.now)) partitions m does.now
-        channels.now elements.now) }
-{
-    let (first, others) = cut(elements);
-    let mut legs = run_leg(
-        alloc, functions, does, channels, takes, m, partitions, first,
-    )?;
-    let mut left = others;
-    'turns: while !left.is_empty() {
-        let (next, behind) = cut(left);
-        let more = add_leg(
-            alloc, functions, does, channels, takes, m, partitions, next, legs,
-        )?;
-        legs = more;
-        left = behind;
-    }
-    Ok(legs)
-}
-
 // The first leg of these elements, and those behind it.
 fn cut(elements: &[Value]) -> (&[Value], &[Value])
     ensures whole { result.0.now ++ result.1.now ≡ elements.now }
@@ -153,134 +202,6 @@ fn cut(elements: &[Value]) -> (&[Value], &[Value])
         LEG
     };
     elements.split_at(count)
-}
-
-fn run_leg<F: Functions>(
-    alloc: Global,
-    functions: &F,
-    does: &Option<Roots>,
-    channels: &[OutChannel],
-    takes: &Takes,
-    m: u32,
-    partitions: u32,
-    leg: &[Value],
-) -> Result<Result<Legs, Trap>, AllocError>
-    requires some { 0 < partitions }
-    requires taken { AreTakes m channels.now takes.now }
-    requires numbered { IsNumbered does.now }
-    requires safe { AllByRecursion (SafeOf (world_of (F.called functions.now))
-        (F.can_call functions.now) does.now) leg.now }
-    requires fit { AllByRecursion (CanSend m
-        (all_given (world_of (F.called functions.now)) does.now leg.now)) channels.now }
-    ensures { IfOk result (AreLegsOr (world_of (F.called functions.now)) partitions m does.now
-        channels.now leg.now) }
-{
-    match run_part(alloc, functions, does, leg)? {
-        Ok(given) => {
-            let fillings = nothing_sent(alloc, channels, partitions)?;
-            Ok(Ok(send_given(alloc, channels, takes, m, partitions, given, fillings)?))
-        }
-        Err(trap) => Ok(Err(trap)),
-    }
-}
-
-// The next leg behind those before it, of which none goes on behind a trap.
-fn add_leg<F: Functions>(
-    alloc: Global,
-    functions: &F,
-    does: &Option<Roots>,
-    channels: &[OutChannel],
-    takes: &Takes,
-    m: u32,
-    partitions: u32,
-    leg: &[Value],
-    before: Result<Legs, Trap>,
-) -> Result<Result<Legs, Trap>, AllocError>
-    requires some { 0 < partitions }
-    requires taken { AreTakes m channels.now takes.now }
-    requires single { list_all (is_single m) channels.now ≡ true }
-    requires numbered { IsNumbered does.now }
-    requires safe { AllByRecursion (SafeOf (world_of (F.called functions.now))
-        (F.can_call functions.now) does.now) leg.now }
-    requires fit { AllByRecursion (CanSend m
-        (all_given (world_of (F.called functions.now)) does.now leg.now)) channels.now }
-    requires stands { (done : List GhostValue) × AreLegsOr (world_of (F.called functions.now))
-        partitions m does.now channels.now done before }
-    ensures { (done : List GhostValue) → AreLegsOr (world_of (F.called functions.now))
-        partitions m does.now channels.now done before →
-        IfOk result (AreLegsOr (world_of (F.called functions.now)) partitions m does.now
-        channels.now (done ++ leg.now)) }
-{
-    match before {
-        Ok(legs) => go_on(
-            alloc, functions, does, channels, takes, m, partitions, leg, legs,
-        ),
-        Err(trap) => Ok(Err(trap)),
-    }
-}
-
-// The next leg behind those before it, which came to this.
-fn go_on<F: Functions>(
-    alloc: Global,
-    functions: &F,
-    does: &Option<Roots>,
-    channels: &[OutChannel],
-    takes: &Takes,
-    m: u32,
-    partitions: u32,
-    leg: &[Value],
-    legs: Legs,
-) -> Result<Result<Legs, Trap>, AllocError>
-    requires some { 0 < partitions }
-    requires taken { AreTakes m channels.now takes.now }
-    requires single { list_all (is_single m) channels.now ≡ true }
-    requires numbered { IsNumbered does.now }
-    requires safe { AllByRecursion (SafeOf (world_of (F.called functions.now))
-        (F.can_call functions.now) does.now) leg.now }
-    requires fit { AllByRecursion (CanSend m
-        (all_given (world_of (F.called functions.now)) does.now leg.now)) channels.now }
-    requires stands { (done : List GhostValue) × AreLegs (world_of (F.called functions.now))
-        partitions m does.now channels.now done legs }
-    ensures { (done : List GhostValue) → AreLegs (world_of (F.called functions.now))
-        partitions m does.now channels.now done legs →
-        IfOk result (AreLegsOr (world_of (F.called functions.now)) partitions m does.now
-        channels.now (done ++ leg.now)) }
-{
-    let Legs { fillings, counts } = legs;
-    match run_part(alloc, functions, does, leg)? {
-        Ok(given) => {
-            let more = send_given(alloc, channels, takes, m, partitions, given, fillings)?;
-            Ok(Ok(with_counts(alloc, counts, more)?))
-        }
-        Err(trap) => Ok(Err(trap)),
-    }
-}
-
-// What steps gave goes to the output channels, behind what those were given.
-fn send_given(
-    alloc: Global,
-    channels: &[OutChannel],
-    takes: &Takes,
-    m: u32,
-    partitions: u32,
-    given: Outputs,
-    fillings: Vec<Filling>,
-) -> Result<Legs, AllocError>
-    requires some { 0 < partitions }
-    requires taken { AreTakes m channels.now takes.now }
-    requires fit { AllByRecursion (CanSend m given.lists) channels.now }
-    requires stands { (before : List GhostTake → List GhostValue)
-        × AllZip (IsFilled partitions before) channels.now fillings.items }
-    ensures filled { (before : List GhostTake → List GhostValue) →
-        AllZip (IsFilled partitions before) channels.now fillings.items →
-        IfOk result (λ legs.
-        AllZip (IsFilled partitions (λ takes. before takes ++ taken m given.lists takes))
-        channels.now legs.fillings.items) }
-    ensures counts { IfOk result (λ legs. legs.counts.items ≡ given.counts) }
-{
-    let (lists, counts) = given.into_parts();
-    let fillings = send_more(alloc, channels, takes, m, lists, partitions, fillings)?;
-    Ok(Legs { fillings, counts })
 }
 
 // Legs with these counts before their own.

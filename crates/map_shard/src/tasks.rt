@@ -1,11 +1,12 @@
 // The map tasks of a stage.
 ghost use Rattle.std.specs.Prelude.{◌≡◌, ◌<◌, IfOk};
 ghost use Rattle.forest_steps.specs.Functions.{world_of};
-ghost use Rattle.map_shard.specs.Work.{CanWork, IsWorkValue, task_at, work_count};
+ghost use Rattle.map_shard.specs.Work.{CanWork, IsWorkValue, task_at, work_count, work_of};
 
 use crate::beside::run_beside;
-use crate::legs::run_task;
+use crate::legs::Steps;
 use crate::reading::{called_on, object_value};
+use crate::takes::takes_from;
 use crew::{Attempt, Spot, Tasks};
 use exec_plan::Mscr;
 use flume_collection::Trap;
@@ -32,30 +33,19 @@ pub struct MapTasks<'a, F: Functions> {
 
 impl<'a, F: Functions> Model for MapTasks<'a, F> {
     ghost use Rattle.forest_steps.specs.Functions.{world_of};
-    ghost use Rattle.map_shard.specs.Work.{CanWork, Work, work_code};
+    ghost use Rattle.map_shard.specs.Work.{CanWork, Work, work_code, work_of};
 
     ghost Value = { Work F };
 
     ghost coded = { work_code F.code };
 
-    ghost view = { λ s. record {
-      functions = s.functions.now;
-      sources = s.sources.now;
-      results = s.results.now;
-      stage = s.stage.now;
-      shards = s.shards;
-      partitions = s.partitions;
-    } };
+    ghost view = { λ s. work_of s.functions.now s.sources.now
+        s.results.now s.stage.now s.shards s.partitions };
 
     ghost invariant = { λ s.
-        CanWork (world_of (F.called s.functions.now)) (F.can_call s.functions.now) (record {
-          functions = s.functions.now;
-          sources = s.sources.now;
-          results = s.results.now;
-          stage = s.stage.now;
-          shards = s.shards;
-          partitions = s.partitions;
-        }) };
+        CanWork (world_of (F.called s.functions.now)) (F.can_call s.functions.now)
+        (work_of s.functions.now s.sources.now s.results.now s.stage.now s.shards
+        s.partitions) };
 }
 
 impl<'a, F: Functions> MapTasks<'a, F> {
@@ -69,22 +59,10 @@ impl<'a, F: Functions> MapTasks<'a, F> {
         shards: u32,
         partitions: u32,
     ) -> MapTasks<'a, F>
-        requires { CanWork (world_of (F.called functions.now)) (F.can_call functions.now) (record {
-          functions = functions.now;
-          sources = sources.now;
-          results = results.now;
-          stage = stage.now;
-          shards = shards;
-          partitions = partitions;
-        }) }
-        ensures { result ≡ record {
-          functions = functions.now;
-          sources = sources.now;
-          results = results.now;
-          stage = stage.now;
-          shards = shards;
-          partitions = partitions;
-        } }
+        requires { CanWork (world_of (F.called functions.now)) (F.can_call functions.now)
+            (work_of functions.now sources.now results.now stage.now shards partitions) }
+        ensures { result
+            ≡ work_of functions.now sources.now results.now stage.now shards partitions }
     {
         MapTasks {
             functions,
@@ -115,27 +93,18 @@ impl<'a, F: Functions> MapTasks<'a, F> {
         let list = called_on(self.sources, self.results, channel);
         let elements = shard_of(list, self.shards, task % self.shards);
         let channels = self.stage.outputs.as_slice();
-        match object_value(self.sources, self.results, channel.beside) {
-            None => run_task(
-                alloc,
-                self.functions,
-                &channel.does,
-                channels,
-                task / self.shards,
-                self.partitions,
-                elements,
-            ),
-            Some(object) => run_beside(
-                alloc,
-                self.functions,
-                object,
-                &channel.does,
-                channels,
-                task / self.shards,
-                self.partitions,
-                elements,
-            ),
-        }
+        let m = task / self.shards;
+        let takes = takes_from(alloc, channels, m)?;
+        let object = object_value(self.sources, self.results, channel.beside);
+        let steps = Steps {
+            functions: self.functions,
+            does: &channel.does,
+            channels,
+            takes: &takes,
+            m,
+            partitions: self.partitions,
+        };
+        run_beside(alloc, &steps, object, elements)
     }
 }
 

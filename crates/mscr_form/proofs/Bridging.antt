@@ -110,12 +110,8 @@ all_passes_same b (k ∷ ks) a =
 
 reducer_by : (b : Blocked) (n : ℕ) (o : Option Node) → IsGbkAt o
     → reducer_in_role (role_at_node b n o) ≡ reducer_of b n
-reducer_by b n None h = absurd h
-reducer_by b n (Some (Source r)) h = absurd h
-reducer_by b n (Some (Flatten ins)) h = absurd h
-reducer_by b n (Some (Pdo c f)) h = absurd h
 reducer_by b n (Some (Gbk c o l k)) h = refl
-reducer_by b n (Some (Barrier ins o l a)) h = absurd h
+reducer_by b n _ h = absurd h
 
 grouped_same : (b : Blocked) (n : ℕ) → IsGbk b n → grouped_with (roles b) n ≡ grouped b n
 grouped_same b n h =

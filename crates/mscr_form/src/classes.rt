@@ -52,16 +52,7 @@ fn empty_buckets(alloc: Global, count: usize) -> Result<Vec<Pile<u32>>, AllocErr
 fn is_group(role: &Role) -> bool
     ensures { result ≡ is_group role.now.part }
 {
-    match &role.part {
-        Part::Group(_, _) => true,
-        Part::Source
-        | Part::Stage
-        | Part::Inlined
-        | Part::Mapper(_)
-        | Part::Reducer
-        | Part::Trivial(_)
-        | Part::Operate => false,
-    }
+    matches!(role.part, Part::Group(_, _))
 }
 
 /// Those that have members.

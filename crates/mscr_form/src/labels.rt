@@ -1,12 +1,13 @@
 // Labels of Gbks: one label where a chain of shared keys joins them.
-ghost use Rattle.std.specs.Prelude.{◌≡◌, ◌==◌, ◌<◌, ◌∷◌, [], ◌++◌, ℕ, Bool, cond, length, map, nat_eq, true, IfOk, IfSome, List, None, OnOk, Some};
+ghost use Rattle.std.specs.Prelude.{◌≡◌, ◌==◌, ◌<◌, ◌∷◌, [], ◌++◌, ℕ, Bool, cond, length, map, nat_eq, true, IfOk, List, None, OnOk, Some};
 ghost use Rattle.form_laws.specs.of_plan_rules.Fitting.{same_key};
 ghost use Rattle.form_laws.specs.Classes.{has_same};
-ghost use Rattle.mscr_form.specs.inner.Labels.{AreJoined, AreLabels, at_key, role_keys, level_at, relabelled, same_at, seen_at};
+ghost use Rattle.mscr_form.specs.inner.Labels.{AreJoined, AreLabels, IsWithin, at_key, role_keys, level_at, relabelled, same_at, seen_at};
 ghost use Rattle.plan_laws.specs.declared.operations.Key.{Key as GhostKey};
 
+use crate::indexed::keys_of;
 use plan_laws::Key;
-use plan_roles::{Part, Role};
+use plan_roles::Role;
 use std::alloc::{AllocError, Global};
 use std::collections::HashMap;
 
@@ -87,11 +88,9 @@ fn join_key(
     requires here { i < length roles.now }
     requires all { length labels.old.items ≡ length roles.now }
     requires key { has_same (role_keys roles.now i) key ≡ true }
-    requires within { (l : ℕ) (k : GhostKey) →
-        IfSome (seen_at seen.old l k) (λ j. j < length roles.now) }
+    requires within { IsWithin roles.now seen.old }
     ensures all { length labels.new.items ≡ length roles.now }
-    ensures within { OnOk result ((l : ℕ) (k : GhostKey) →
-        IfSome (seen_at seen.new l k) (λ j. j < length roles.now)) }
+    ensures within { OnOk result (IsWithin roles.now seen.new) }
     ensures joined { OnOk result ((ps : List (ℕ × GhostKey)) →
         AreJoined roles.now labels.old.items seen.old ps →
         AreJoined roles.now labels.new.items seen.new (ps ++ ((i, key) ∷ []))) }
@@ -109,32 +108,6 @@ fn join_key(
     }
 }
 
-/// Joins a Gbk with those that take by one of its keys on its level.
-fn join_keys(
-    roles: &[Role],
-    labels: &mut Vec<usize>,
-    seen: &mut Seen,
-    i: usize,
-    keys: &[Key],
-) -> Result<(), AllocError>
-    requires here { i < length roles.now }
-    requires all { length labels.old.items ≡ length roles.now }
-    requires keys { keys.now ≡ role_keys roles.now i }
-    requires within { (l : ℕ) (k : GhostKey) →
-        IfSome (seen_at seen.old l k) (λ j. j < length roles.now) }
-    ensures all { length labels.new.items ≡ length roles.now }
-    ensures within { OnOk result ((l : ℕ) (k : GhostKey) →
-        IfSome (seen_at seen.new l k) (λ j. j < length roles.now)) }
-    ensures joined { OnOk result ((ps : List (ℕ × GhostKey)) →
-        AreJoined roles.now labels.old.items seen.old ps →
-        AreJoined roles.now labels.new.items seen.new (ps ++ map (λ k. (i, k)) keys.now)) }
-{
-    for key in keys {
-        join_key(roles, labels, seen, i, *key)?;
-    }
-    Ok(())
-}
-
 /// Joins a Gbk with those that it shares a key with.
 fn join_role(
     roles: &[Role],
@@ -144,29 +117,27 @@ fn join_role(
 ) -> Result<(), AllocError>
     requires here { i < length roles.now }
     requires all { length labels.old.items ≡ length roles.now }
-    requires within { (l : ℕ) (k : GhostKey) →
-        IfSome (seen_at seen.old l k) (λ j. j < length roles.now) }
+    requires within { IsWithin roles.now seen.old }
     ensures all { length labels.new.items ≡ length roles.now }
-    ensures within { OnOk result ((l : ℕ) (k : GhostKey) →
-        IfSome (seen_at seen.new l k) (λ j. j < length roles.now)) }
+    ensures within { OnOk result (IsWithin roles.now seen.new) }
     ensures joined { OnOk result ((ps : List (ℕ × GhostKey)) →
         AreJoined roles.now labels.old.items seen.old ps →
         AreJoined roles.now labels.new.items seen.new
         (ps ++ map (λ k. (i, k)) (role_keys roles.now i))) }
 {
-    match &roles[i].part {
-        Part::Group(keys, _) => {
-            join_keys(roles, labels, seen, i, keys.as_slice())?;
-            Ok(())
-        }
-        Part::Source
-        | Part::Stage
-        | Part::Inlined
-        | Part::Mapper(_)
-        | Part::Reducer
-        | Part::Trivial(_)
-        | Part::Operate => Ok(()),
+    let keys = keys_at(roles, i);
+    for key in keys {
+        join_key(roles, labels, seen, i, *key)?;
     }
+    Ok(())
+}
+
+/// The keys of the Gbk at that place.
+fn keys_at(roles: &[Role], i: usize) -> &[Key]
+    requires { i < length roles.now }
+    ensures { result.now ≡ role_keys roles.now i }
+{
+    keys_of(&roles[i])
 }
 
 /// Each place as its own label.

@@ -1,83 +1,49 @@
 // The collections that an operation reads, and those that sources give.
 ghost use Rattle.std.specs.Prelude.{◌≡◌, ◌++◌, [], ◌∷◌, ℕ, Bool, IfOk, OnOk};
 ghost use Rattle.std.specs.List.{flat_map};
-ghost use Rattle.exec_graph.specs.Meaning.{node_at, place};
+ghost use Rattle.exec_graph.specs.Meaning.{place};
 ghost use Rattle.exec_graph.specs.Places.{HasAlso, HasPlaces};
 ghost use Rattle.exec_graph.specs.Readers.{among};
-ghost use Rattle.node_index.specs.Index.{IsIndex};
 ghost use Rattle.plan_laws.specs.Operations as operations;
 
 use exec_graph::{Act, Entry, Node, Place, add_place};
 use flume_value::Pile;
-use node_index::find_node;
+use form_laws::plan_making::Nodes;
 use plan_laws::{Key, Operation};
 use std::alloc::{AllocError, Global};
-use std::collections::{HashMap, HashSet};
+use std::collections::HashSet;
 
 /// The collections of the graph that an operation reads.
 pub(crate) fn reads_of(
     alloc: Global,
-    nodes: &[Entry],
-    index: &HashMap<u32, usize>,
+    nodes: &Nodes<'_>,
     operation: &Operation,
 ) -> Result<Pile<Place>, AllocError>
-    requires { IsIndex index.now nodes.now }
     ensures { IfOk result (λ cs. cs ≡ operations.reads_of nodes.now operation.now) }
 {
     match operation {
-        Operation::Flat(number) => flatten_reads(alloc, nodes, index, *number),
-        Operation::Class(keys, _, _) => keys_read(alloc, nodes, index, keys.as_slice()),
+        Operation::Flat(number) => {
+            let inputs = Vec::from_slice(alloc, nodes.flat_inputs(*number))?;
+            Ok(Pile::from_vec(inputs))
+        }
+        Operation::Class(keys, _, _) => keys_read(alloc, nodes, keys.as_slice()),
     }
 }
 
-/// The inputs of a Flatten.
-fn flatten_reads(
-    alloc: Global,
-    nodes: &[Entry],
-    index: &HashMap<u32, usize>,
-    number: u32,
-) -> Result<Pile<Place>, AllocError>
-    requires { IsIndex index.now nodes.now }
-    ensures { IfOk result (λ cs. cs ≡ operations.flat_inputs (node_at nodes.now number)) }
-{
-    match find_node(nodes, index, number) {
-        Some(Node::Flatten(inputs)) => {
-            let copied = Vec::from_slice(alloc, inputs.as_slice())?;
-            Ok(Pile::from_vec(copied))
-        }
-        Some(Node::Barrier { inputs, .. }) => {
-            let copied = Vec::from_slice(alloc, inputs.as_slice())?;
-            Ok(Pile::from_vec(copied))
-        }
-        _ => Ok(Pile::new(alloc)),
-    }
-}
-
-fn keys_read(
-    alloc: Global,
-    nodes: &[Entry],
-    index: &HashMap<u32, usize>,
-    keys: &[Key],
-) -> Result<Pile<Place>, AllocError>
-    requires { IsIndex index.now nodes.now }
+/// What the input channels of the keys read.
+fn keys_read(alloc: Global, nodes: &Nodes<'_>, keys: &[Key]) -> Result<Pile<Place>, AllocError>
     ensures { IfOk result (λ cs. cs
         ≡ flat_map operations.reading_reads (operations.channels_of nodes.now keys.now)) }
 {
     let mut all = Vec::new(alloc);
     for key in keys {
-        add_key_reads(nodes, index, *key, &mut all)?;
+        add_key_reads(nodes, *key, &mut all)?;
     }
     Ok(Pile::from_vec(all))
 }
 
 /// Adds what an input channel reads.
-fn add_key_reads(
-    nodes: &[Entry],
-    index: &HashMap<u32, usize>,
-    key: Key,
-    all: &mut Vec<Place>,
-) -> Result<(), AllocError>
-    requires { IsIndex index.now nodes.now }
+fn add_key_reads(nodes: &Nodes<'_>, key: Key, all: &mut Vec<Place>) -> Result<(), AllocError>
     ensures { OnOk result (all.new.items ≡ all.old.items
         ++ operations.reading_reads (operations.channel_of nodes.now key)) }
 {
@@ -86,7 +52,7 @@ fn add_key_reads(
             all.push(c)?;
             Ok(())
         }
-        Key::Mapper(number) => match find_node(nodes, index, number) {
+        Key::Mapper(number) => match nodes.find(number) {
             Some(Node::Pdo { input: c, .. }) => {
                 all.push(*c)?;
                 Ok(())

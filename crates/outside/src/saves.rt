@@ -33,8 +33,7 @@ pub fn save_all<K: Shelf>(shelf: &mut K, outputs: &[Output]) -> Result<(), usize
     Ok(())
 }
 
-/// Writes a file, and ends it. It takes no memory; each `write` is handed all that is left of the
-/// text.
+/// Writes a file, and ends it. It takes no memory.
 ///
 /// Failed comes only where the shelf's count rose; then the file has a front of the text, or all
 /// files are as they were.

@@ -23,6 +23,7 @@ use Rattle.exec_graph.specs.Readers.{uses, is_read}
 use Rattle.pardo_fuse.proofs.Once.{AllGrown}
 use Rattle.pardo_fuse.proofs.Levels.{all_grown}
 use Rattle.pardo_fuse.proofs.Few.{joined_size}
+use Rattle.pardo_fuse.proofs.Places.{pdo_is}
 use Rattle.pardo_fuse.proofs.Naming.{all_joined, all_cond, differ_joined}
 use Rattle.pardo_fuse.proofs.Finding.{search_place, any_joined, not_new, no_joined, IsSeen, IsNew}
 use Rattle.pardo_fuse.proofs.Seeing.{all_among, seen_left}
@@ -50,11 +51,8 @@ steps-numbered s (Grow l kids rest) = let a = steps-numbered (after_out s l.out)
     steps-numbered (after (after_out s l.out) kids) rest in omega arith
 
 size_done : (r : Place → Place) (x : Node) → size (reread r (with_numbers x)) ≡ size x
-size_done r (Source s) = refl
-size_done r (Flatten ins) = refl
 size_done r (Pdo c f) = steps-numbered 0 f
-size_done r (Gbk c o l k) = refl
-size_done r (Barrier ins o l a) = refl
+size_done r _ = refl
 
 total_done : (r : Place → Place) (hs : List Entry) → total_size (map (finished r) hs)
     ≡ total_size hs
@@ -108,7 +106,6 @@ length-map r (d ∷ ds) = let i = length-map r ds in omega arith
 
 left_ok : (b : Cut) → (can : CanFuse b) → AllGrown b → IsCutOk b → (n : ℕ) (x : Node)
     → node_at b.graph.nodes n ≡ Some x → AllByRecursion (OkNow b) (left_of b n x)
-left_ok b can g fu n (Source r) at = (λ _. tt, tt)
 left_ok b can g fu n (Flatten ins) at =
     let a = all_found (λ e. IsNodeOk b.graph e.number e.node) b.graph.nodes n (Flatten ins) at
     fu.nodes in
@@ -126,13 +123,12 @@ left_ok b can g fu n (Pdo c f) at =
       order = numbered_again 0 (forest_of b c);
       read = λ j h. outs_read b n c j can g (record { old = f; at = at; leads = l }) found h;
     })
-left_ok b can g fu n (Gbk c o l None) at = (λ _. tt, tt)
 left_ok b can g fu n (Gbk c o l (Some k)) at = (
   λ _. lifted_ok b n k can g (gbk b n c o l (Some k) can g at) (all_found (λ e. IsNodeOk b.graph
       e.number e.node) b.graph.nodes n (Gbk c o l (Some k)) at fu.nodes),
   tt,
 )
-left_ok b can g fu n (Barrier ins o l i) at = (λ _. tt, tt)
+left_ok b can g fu n _ at = (λ _. tt, tt)
 
 -- ---- marks
 uses_cases : (c : Place) (es : List Entry) → any_node (uses c) es ≡ true
@@ -170,12 +166,8 @@ there_read b c fu t d f at = (all_found (λ e. IsNodeOk b.graph e.number e.node)
 
 pdo_read : (b : Cut) (c : Place) → IsCutOk b → IsThere b.graph.nodes c → (o : Option Node)
     → node_at b.graph.nodes c.node ≡ o → is_pdo o ≡ true → is_read b.graph c ≡ true
-pdo_read b c fu t None at h = absurd (false≢true h)
-pdo_read b c fu t (Some (Source r)) at h = absurd (false≢true h)
-pdo_read b c fu t (Some (Flatten ins)) at h = absurd (false≢true h)
 pdo_read b c fu t (Some (Pdo d f)) at h = there_read b c fu t d f at
-pdo_read b c fu t (Some (Gbk d o l k)) at h = absurd (false≢true h)
-pdo_read b c fu t (Some (Barrier ins o l a)) at h = absurd (false≢true h)
+pdo_read b c fu t _ at h = absurd (false≢true h)
 
 pub mark_seen : (b : Cut) → CanFuse b → IsCutOk b → AllByRecursion (IsSeen b) b.marks
 mark_seen b can fu = Each-both (IsThere b.graph.nodes) (λ c. is_outer b c
@@ -186,122 +178,75 @@ mark_seen b can fu = Each-both (IsThere b.graph.nodes) (λ c. is_outer b c
     }) b.marks
     can.marked fu.outer
 
-lifted_done : (r : Place → Place) (p : ℕ) (x : Node) → holds_out p x ≡ true
-    → is_lifted (Some (reread r (with_numbers x))) ≡ false
-lifted_done r p (Source s) h = refl
-lifted_done r p (Flatten ins) h = refl
-lifted_done r p (Pdo c f) h = refl
-lifted_done r p (Gbk c o l k) h = absurd (false≢true h)
-lifted_done r p (Barrier ins o l a) h = refl
-
 lifted_same : (r : Place → Place) (x : Node) → is_lifted (Some (reread r (with_numbers x)))
     ≡ is_lifted (Some x)
-lifted_same r (Source s) = refl
-lifted_same r (Flatten ins) = refl
-lifted_same r (Pdo c f) = refl
 lifted_same r (Gbk c o l None) = refl
-lifted_same r (Gbk c o l (Some k)) = refl
-lifted_same r (Barrier ins o l a) = refl
+lifted_same r _ = refl
 
 abbrev Here : Cut → Entry → Type 0
 Here b e = node_at (joined_nodes b) e.number ≡ Some e.node
 
-unlifted_by : (b : Cut) (c : Place) → (can : CanFuse b) → AllGrown b → IsSeen b c
-    → is_lifted (node_at b.graph.nodes c.node) ≡ false → (t : Bool)
-    → is_pdo (node_at b.graph.nodes c.node) ≡ t → is_lifted (node_at (nodes_now b) (now b c).node)
-    ≡ false
-unlifted_by b c can g s l true h =
+-- A collection is of the kind that it was, where all Pdos are of one.
+kind_now : (t : Option Node → Bool) (v : Bool)
+    → ((c : Place) (f : Forest) → t (Some (Pdo c f)) ≡ v)
+    → ((r : Place → Place) (x : Node) → t (Some (reread r (with_numbers x))) ≡ t (Some x))
+    → (b : Cut) (c : Place) → CanFuse b → AllGrown b → IsSeen b c → (s : Bool)
+    → is_pdo (node_at b.graph.nodes c.node) ≡ s
+    → t (node_at (nodes_now b) (now b c).node) ≡ t (node_at b.graph.nodes c.node)
+kind_now t v pdos same b c can g s true h =
     let hs : List Entry = joined_nodes b in
     let i : IsNew (Here b) hs c = search_place (Here b) c hs (each_found hs (differ_joined b
     b.graph.nodes can.ok.differ)) (any_joined b c.node can g h (well_kept b c can s h)) in
-    ap (λ (d : Place). is_lifted (node_at (nodes_now b) d.node)) i.is
-    ∙ ap is_lifted (at_finished (now b) hs i.here.number ∙ ap (done_node (now b)) i.holds)
-    ∙ lifted_done (now b) c.node i.here.node i.keeps
-unlifted_by b c can g s l false h =
+    let p = pdo_is (node_at b.graph.nodes c.node) h in
+    ap (λ (d : Place). t (node_at (nodes_now b) d.node)) i.is
+    ∙ ap t (at_finished (now b) hs i.here.number ∙ ap (done_node (now b)) i.holds)
+    ∙ held i.here.node i.keeps ∙ sym (ap t p.2 ∙ pdos p.0 p.1)
+  where
+    held : (x : Node) → holds_out c.node x ≡ true
+        → t (Some (reread (now b) (with_numbers x))) ≡ v
+    held (Pdo d f) e = pdos (now b d) (numbered 0 f)
+    held _ e = absurd (false≢true e)
+kind_now t v pdos same b c can g s false h =
     let hs : List Entry = joined_nodes b in
     let x = there_found b.graph.nodes c s.there in
-    ap (λ (d : Place). is_lifted (node_at (nodes_now b) d.node)) (not_new c hs (no_joined b c.node
-    can g h))
-    ∙ ap is_lifted (at_finished (now b) hs c.node ∙ ap (done_node (now b)) (others_left b
+    ap (λ (d : Place). t (node_at (nodes_now b) d.node)) (not_new c hs (no_joined b c.node can g h))
+    ∙ ap t (at_finished (now b) hs c.node ∙ ap (done_node (now b)) (others_left b
     b.graph.nodes c.node x.0 x.1 (sym (ap is_pdo x.1) ∙ h)))
-    ∙ lifted_same (now b) x.0 ∙ sym (ap is_lifted x.1) ∙ l
+    ∙ same (now b) x.0 ∙ sym (ap t x.1)
 
 -- ---- objects
-object_done : (r : Place → Place) (p : ℕ) (x : Node) → holds_out p x ≡ true
-    → is_object (Some (reread r (with_numbers x))) ≡ false
-object_done r p (Source s) h = absurd (false≢true h)
-object_done r p (Flatten ins) h = refl
-object_done r p (Pdo c f) h = refl
-object_done r p (Gbk c o l k) h = absurd (false≢true h)
-object_done r p (Barrier ins o l a) h = absurd (false≢true h)
-
 object_same : (r : Place → Place) (x : Node)
     → is_object (Some (reread r (with_numbers x))) ≡ is_object (Some x)
 object_same r (Source s) = refl
-object_same r (Flatten ins) = refl
-object_same r (Pdo c f) = refl
-object_same r (Gbk c o l k) = refl
-object_same r (Barrier ins o l a) = refl
-
-no_object : (o : Option Node) → is_pdo o ≡ true → is_object o ≡ false
-no_object None h = refl
-no_object (Some (Source s)) h = absurd (false≢true h)
-no_object (Some (Flatten ins)) h = refl
-no_object (Some (Pdo c f)) h = refl
-no_object (Some (Gbk c o l k)) h = refl
-no_object (Some (Barrier ins o l a)) h = absurd (false≢true h)
-
-object_by : (b : Cut) (c : Place) → (can : CanFuse b) → AllGrown b → IsSeen b c → (t : Bool)
-    → is_pdo (node_at b.graph.nodes c.node) ≡ t
-    → is_object_at (nodes_now b) (now b c) ≡ is_object_at b.graph.nodes c
-object_by b c can g s true h =
-    let hs : List Entry = joined_nodes b in
-    let i : IsNew (Here b) hs c = search_place (Here b) c hs (each_found hs (differ_joined b
-    b.graph.nodes can.ok.differ)) (any_joined b c.node can g h (well_kept b c can s h)) in
-    ap (λ (d : Place). is_object (node_at (nodes_now b) d.node)) i.is
-    ∙ ap is_object (at_finished (now b) hs i.here.number ∙ ap (done_node (now b)) i.holds)
-    ∙ object_done (now b) c.node i.here.node i.keeps
-    ∙ sym (no_object (node_at b.graph.nodes c.node) h)
-object_by b c can g s false h =
-    let hs : List Entry = joined_nodes b in
-    let x = there_found b.graph.nodes c s.there in
-    ap (λ (d : Place). is_object (node_at (nodes_now b) d.node)) (not_new c hs (no_joined b c.node
-    can g h))
-    ∙ ap is_object (at_finished (now b) hs c.node ∙ ap (done_node (now b)) (others_left b
-    b.graph.nodes c.node x.0 x.1 (sym (ap is_pdo x.1) ∙ h)))
-    ∙ object_same (now b) x.0 ∙ sym (ap is_object x.1)
+object_same r _ = refl
 
 abbrev ObjectsNow : Cut → Entry → Type 0
 ObjectsNow b h = has_objects (nodes_now b) (reread (now b) (with_numbers h.node)) ≡ true
 
 left_objects : (b : Cut) → (can : CanFuse b) → AllGrown b → IsCutOk b → (n : ℕ) (x : Node)
     → node_at b.graph.nodes n ≡ Some x → AllByRecursion (ObjectsNow b) (left_of b n x)
-left_objects b can g fu n (Source r) at = (refl, tt)
-left_objects b can g fu n (Flatten ins) at = (refl, tt)
 left_objects b can g fu n (Pdo c f) at =
     all_cond (ObjectsNow b) (leads b n c) (record { number = n; node = Pdo c (forest_of b c) })
     (λ i. refl)
-left_objects b can g fu n (Gbk c o l k) at = (refl, tt)
 left_objects b can g fu n (Barrier ins o l d) at = (
   ap (takes_such d) (flags_reread (is_object_at (nodes_now b)) (is_object_at b.graph.nodes)
       (now b) ins (Each-weaker (IsSeen b)
       (λ c. is_object_at (nodes_now b) (now b c) ≡ is_object_at b.graph.nodes c)
-      (λ c s. object_by b c can g s (is_pdo (node_at b.graph.nodes c.node)) refl) ins
+      (λ c s. kind_now is_object false (λ d f. refl) object_same b c can g s
+      (is_pdo (node_at b.graph.nodes c.node)) refl) ins
       (seen_left b can n (Barrier ins o l d) at refl)))
       ∙ all_found (λ e. has_objects b.graph.nodes e.node ≡ true) b.graph.nodes n
       (Barrier ins o l d) at fu.objects,
   tt,
 )
+left_objects b can g fu n _ at = (refl, tt)
 
 -- ---- numbers
 left_all : (b : Cut) (P : ℕ → Type 0) (n : ℕ) (x : Node) → P n
     → AllByRecursion (λ h. P h.number) (left_of b n x)
-left_all b P n (Source r) p = (p, tt)
-left_all b P n (Flatten ins) p = (p, tt)
 left_all b P n (Pdo c f) p = all_cond (λ h. P h.number) (leads b n c)
     (record { number = n; node = Pdo c (forest_of b c) }) (λ l. p)
-left_all b P n (Gbk c o l k) p = (p, tt)
-left_all b P n (Barrier ins o l a) p = (p, tt)
+left_all b P n _ p = (p, tt)
 
 pub all_numbers : (b : Cut) (P : ℕ → Type 0) (es : List Entry) → AllByRecursion (λ e. P e.number) es
     → AllByRecursion (λ h. P h.number) (flat_map (λ e. left_of b e.number e.node) es)
@@ -312,16 +257,13 @@ all_numbers b P (e ∷ es) a = Each-append (λ h. P h.number) (left_of b e.numbe
 
 left_ascends : (b : Cut) (n : ℕ) (x : Node) (hs : List Entry)
     → AllByRecursion (λ d. n < d.number) hs → Ascends hs → Ascends (left_of b n x ++ hs)
-left_ascends b n (Source r) hs a u = (a, u)
-left_ascends b n (Flatten ins) hs a u = (a, u)
 left_ascends b n (Pdo c f) hs a u = by (leads b n c)
   where
     by : (r : Bool)
         → Ascends (cond r ((record { number = n; node = Pdo c (forest_of b c) }) ∷ []) [] ++ hs)
     by true = (a, u)
     by false = u
-left_ascends b n (Gbk c o l k) hs a u = (a, u)
-left_ascends b n (Barrier ins i l d) hs a u = (a, u)
+left_ascends b n _ hs a u = (a, u)
 
 pub joined_ascends : (b : Cut) (es : List Entry) → Ascends es
     → Ascends (flat_map (λ e. left_of b e.number e.node) es)
@@ -378,8 +320,8 @@ IsBlockedOk-fused_by b can fu =
           ≡ false) (λ c. is_lifted (node_at (nodes_now b) c.node) ≡ false) (λ c a. a) b.marks
           (Each-both (IsSeen b) (λ c. is_lifted (node_at b.graph.nodes c.node)
           ≡ false) (λ c. is_lifted (node_at (nodes_now b) (now b c).node)
-          ≡ false) (λ c s l. unlifted_by b c can g s l (is_pdo (node_at b.graph.nodes c.node))
-          refl) b.marks seen fu.unlifted);
+          ≡ false) (λ c s l. kind_now is_lifted false (λ d f. refl) lifted_same b c can g s
+          (is_pdo (node_at b.graph.nodes c.node)) refl ∙ l) b.marks seen fu.unlifted);
     }
 
 marked_outer : (p m : Bool) → m ≡ true → cond (p && cond m false true) false true ≡ true

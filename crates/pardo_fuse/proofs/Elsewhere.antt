@@ -2,11 +2,9 @@
 use Rattle.std.proofs.Common.{◌≡◌, ℕ, true, List, [], ◌∷◌, map, refl, sym, ap, ◌∙◌, subst, inl, inr}
 use Rattle.std.specs.List.{AllByRecursion as Each}
 use Rattle.exec_graph.specs.of_flume_collection.Collection.{Collection, by_key, together}
-use Rattle.flume_types.specs.declared.types.Ty.{Ty}
 use Rattle.exec_graph.specs.Meaning.{FitsForest, Holds, gives, place, reads}
 use Rattle.exec_graph.specs.Objects.{act_result}
 use Rattle.exec_graph.specs.Readers.{among, calls_on, collects, same_place, uses}
-use Rattle.exec_graph.specs.Typing.{ActTyped, ForestTyped, NodeTyped, Signatures}
 use Rattle.exec_graph.specs.World.{World}
 use Rattle.exec_graph.specs.declared.graph.Place.{Place}
 use Rattle.exec_graph.specs.declared.graph.Node.{Node}
@@ -14,17 +12,12 @@ use Rattle.exec_graph.specs.declared.graph.Node.TheVariants.{Source, Flatten, Pd
 use Rattle.exec_graph.proofs.Bools.{or_cases, or_left, or_right}
 use Rattle.graph_laws.specs.Joining.{reread}
 use Rattle.graph_laws.proofs.Joining.{fits_moved, map_reread}
-use Rattle.graph_laws.proofs.TypedForests.{typed_moved}
-use Rattle.graph_laws.proofs.TypedGraphs.{types_reread}
 use Rattle.pardo_fuse.proofs.Places.{same_is, same_self}
 
 -- ---- what they give and hold
 pub gives_reread : (r : Place → Place) (z : Node) (j : ℕ) → gives (reread r z) j ≡ gives z j
 gives_reread r (Source s) j = refl
-gives_reread r (Flatten ins) j = refl
-gives_reread r (Pdo c f) j = refl
-gives_reread r (Gbk c o l k) j = refl
-gives_reread r (Barrier ins o l a) j = refl
+gives_reread r _ j = refl
 
 pub holds_moved : (w : World) (k m : Place → Collection) (r : Place → Place) (n i : ℕ) (z : Node)
     → Each (λ c. k (r c) ≡ m c) (reads z) → ((j : ℕ) → k (place i j) ≡ m (place n j))
@@ -38,34 +31,6 @@ holds_moved w k m r n i (Pdo c f) a o h =
 holds_moved w k m r n i (Gbk c s l e) a o h = o 0 ∙ h ∙ ap by_key (sym a.0)
 holds_moved w k m r n i (Barrier ins s l e) a o h =
     o 0 ∙ h ∙ ap (act_result w s e) (sym (map_reread k m r ins a))
-
-flat_moved : (types new : Place → Ty) (r : Place → Place) (t u : Ty) (cs : List Place) → u ≡ t
-    → Each (λ c. new (r c) ≡ types c) cs → Each (λ c. types c ≡ t) cs
-    → Each (λ c. new c ≡ u) (map r cs)
-flat_moved types new r t u [] e a b = tt
-flat_moved types new r t u (c ∷ cs) e a b =
-    (a.0 ∙ b.0 ∙ sym e, flat_moved types new r t u cs e a.1 b.1)
-
-pub typed_at : (s : Signatures) (types new : Place → Ty) (r : Place → Place) (n i : ℕ) (z : Node)
-    → Each (λ c. new (r c) ≡ types c) (reads z)
-    → ((j : ℕ) → new (place i j) ≡ types (place n j)) → NodeTyped s types n z
-    → NodeTyped s new i (reread r z)
-typed_at s types new r n i (Source x) a o h = o 0 ∙ h
-typed_at s types new r n i (Flatten ins) a o h =
-    flat_moved types new r (types (place n 0)) (new (place i 0)) ins (o 0) a h
-typed_at s types new r n i (Pdo c f) a o h =
-    subst (λ (t : Ty). ForestTyped s new i t f) (sym a.0)
-    (typed_moved s types new n i (types c) f (λ j _. o j) h)
-typed_at s types new r n i (Gbk c x l k) a o h = record {
-  key = h.key;
-  value = h.value;
-  takes = a.0 ∙ h.takes;
-  gives = o 0 ∙ h.gives;
-}
-typed_at s types new r n i (Barrier ins x l d) a o h =
-    subst (ActTyped s d (map new (map r ins))) (sym (o 0))
-    (subst (λ (ts : List Ty). ActTyped s d ts (types (place n 0)))
-    (sym (types_reread new types r ins a)) h)
 
 -- ---- who reads: what read y reads r y
 to_same : (r : Place → Place) (y e : Place) → same_place y e ≡ true
@@ -84,11 +49,8 @@ among_to r y (e ∷ es) h =
 
 pub calls_to : (r : Place → Place) (y : Place) (z : Node) → calls_on y z ≡ true
     → calls_on (r y) (reread r z) ≡ true
-calls_to r y (Source s) h = h
-calls_to r y (Flatten ins) h = h
 calls_to r y (Pdo c f) h = to_same r y c h
-calls_to r y (Gbk c o l k) h = h
-calls_to r y (Barrier ins o l a) h = h
+calls_to r y _ h = h
 
 collects_to : (r : Place → Place) (y : Place) (z : Node) → collects y z ≡ true
     → collects (r y) (reread r z) ≡ true
@@ -128,11 +90,8 @@ among_from r y (e ∷ es) a h =
 
 pub calls_from : (r : Place → Place) (y : Place) (z : Node) → Each (KeepsApart r y) (reads z)
     → calls_on (r y) (reread r z) ≡ true → calls_on y z ≡ true
-calls_from r y (Source s) a h = h
-calls_from r y (Flatten ins) a h = h
 calls_from r y (Pdo c f) a h = from_same r y c a.0 h
-calls_from r y (Gbk c o l k) a h = h
-calls_from r y (Barrier ins o l d) a h = h
+calls_from r y _ a h = h
 
 pub collects_from : (r : Place → Place) (y : Place) (z : Node) → Each (KeepsApart r y) (reads z)
     → collects (r y) (reread r z) ≡ true → collects y z ≡ true

@@ -1,11 +1,11 @@
 -- Where each collection that is still read is found in the fused graph, and back.
-use Rattle.std.proofs.Common.{◌≡◌, ℕ, ◌<◌, Bool, true, false, cond, eqb, ◌||◌, List, [], ◌∷◌, ◌++◌, Option, Some, None, refl, sym, ap, ◌∙◌, arith, zero, suc}
+use Rattle.std.proofs.Common.{◌≡◌, ℕ, ◌<◌, Bool, true, false, cond, eqb, ◌||◌, List, [], ◌∷◌, ◌++◌, Option, Some, refl, sym, ap, ◌∙◌, arith, zero, suc}
 use Rattle.std.proofs.lemmas.Bool.{eqb-true, false≢true}
 use Rattle.std.specs.List.{flat_map, AllByRecursion}
 use Rattle.exec_graph.specs.Forests.{Forest}
 use Rattle.exec_graph.specs.declared.graph.Place.{Place}
 use Rattle.exec_graph.specs.declared.graph.Node.{Node}
-use Rattle.exec_graph.specs.declared.graph.Node.TheVariants.{Source, Flatten, Pdo, Gbk, Barrier}
+use Rattle.exec_graph.specs.declared.graph.Node.TheVariants.{Pdo}
 use Rattle.exec_graph.specs.declared.graph.Entry.{Entry}
 use Rattle.exec_graph.specs.Meaning.{place, node_at, has_out, AllDiffer, IsThere}
 use Rattle.graph_laws.proofs.Numbering.{old_in, number_back}
@@ -24,12 +24,8 @@ use Rattle.exec_graph.proofs.Bools.{or_right as right}
 
 -- ---- back to the former collection
 abbrev pub former_at : Option Node → Place → Place
-former_at None c = c
-former_at (Some (Source r)) c = c
-former_at (Some (Flatten ins)) c = c
 former_at (Some (Pdo d f)) c = place (old_in 0 f c.out) 0
-former_at (Some (Gbk d o l k)) c = c
-former_at (Some (Barrier ins o l a)) c = c
+former_at _ c = c
 
 abbrev pub former : List Entry → Place → Place
 former hs c = former_at (node_at hs c.node) c
@@ -78,11 +74,8 @@ not_new c (e ∷ es) h = by (not_new c es) (holds_out c.node e.node) refl h
 
 former_of : (c : Place) (n : ℕ) (x : Node) → holds_out c.node x ≡ true
     → former_at (Some x) (place n (out_number c.node x)) ≡ place c.node 0
-former_of c n (Source r) h = absurd (false≢true h)
-former_of c n (Flatten ins) h = absurd (false≢true h)
 former_of c n (Pdo d f) h = ap (λ (j : ℕ). place j 0) (number_back 0 f c.node h).back
-former_of c n (Gbk d o l k) h = absurd (false≢true h)
-former_of c n (Barrier ins o l a) h = absurd (false≢true h)
+former_of c n _ h = absurd (false≢true h)
 
 pub former_back : (c : Place) (hs : List Entry) → AllDiffer hs → any_node (holds_out c.node) hs
     ≡ true → former hs (new_place hs c) ≡ place c.node 0
@@ -117,8 +110,6 @@ not_alone b p n x h at not t = by (eqb n p) refl
 left_has : (b : Cut) (p : ℕ) → AllGrown b → is_pdo (node_at b.graph.nodes p) ≡ true
     → keeps_output b p ≡ true → (n : ℕ) (x : Node) → node_at b.graph.nodes n ≡ Some x
     → 0 < times p (left_numbers b n x) → any_node (holds_out p) (left_of b n x) ≡ true
-left_has b p g h k n (Source r) at t = absurd (not_alone b p n (Source r) h at refl t)
-left_has b p g h k n (Flatten ins) at t = absurd (not_alone b p n (Flatten ins) h at refl t)
 left_has b p g h k n (Pdo c f) at t = by (leads b n c) t
   where
     by : (r : Bool) → 0 < times p (cond r (numbers (all_of b c)) [])
@@ -129,9 +120,7 @@ left_has b p g h k n (Pdo c f) at t = by (leads b n c) t
         }) ∷ []) []) ≡ true
     by true t = rw (times_has b p k (readers b.graph.nodes c) (all_of b c) (g c) t) refl
     by false t = absurd (omega arith)
-left_has b p g h k n (Gbk c o l q) at t = absurd (not_alone b p n (Gbk c o l q) h at refl t)
-left_has b p g h k n (Barrier ins o l a) at t =
-    absurd (not_alone b p n (Barrier ins o l a) h at refl t)
+left_has b p g h k n x at t = absurd (not_alone b p n x h at refl t)
 
 any_left : (b : Cut) (p : ℕ) → AllGrown b → is_pdo (node_at b.graph.nodes p) ≡ true
     → keeps_output b p ≡ true → (es : List Entry) → Found b es → 0 < times p (all_left b es)
@@ -166,8 +155,6 @@ lacks false f = refl
 left_lacks : (b : Cut) (p : ℕ) → AllGrown b → Found b b.graph.nodes
     → is_pdo (node_at b.graph.nodes p) ≡ false → (n : ℕ) (x : Node) → node_at b.graph.nodes n
     ≡ Some x → AllByRecursion (λ h. holds_out p h.node ≡ false) (left_of b n x)
-left_lacks b p g fo not n (Source r) at = (refl, tt)
-left_lacks b p g fo not n (Flatten ins) at = (refl, tt)
 left_lacks b p g fo not n (Pdo c f) at =
     all_cond (λ h. holds_out p h.node ≡ false) (leads b n c) (record {
       number = n;
@@ -178,8 +165,7 @@ left_lacks b p g fo not n (Pdo c f) at =
     ∙ outs_pdos b p fo (readers b.graph.nodes c) (all_of b c) (g c) (pdos b c (readers
     b.graph.nodes c) (all_readers b c b.graph.nodes fo)) (has_pruned (keeps_output b) (all_of b
     c) p q))))
-left_lacks b p g fo not n (Gbk c o l q) at = (refl, tt)
-left_lacks b p g fo not n (Barrier ins o l a) at = (refl, tt)
+left_lacks b p g fo not n _ at = (refl, tt)
 
 pub any_none : (t : Node → Bool) (es : List Entry) → AllByRecursion (λ h. t h.node ≡ false) es
     → any_node t es ≡ false
@@ -197,16 +183,13 @@ no_joined b p can g not =
 left_pdos : (b : Cut) (n : ℕ) (x : Node) → node_at b.graph.nodes n ≡ Some x
     → AllByRecursion (λ h. is_pdo (Some h.node) ≡ true → is_pdo (node_at b.graph.nodes h.number)
     ≡ true) (left_of b n x)
-left_pdos b n (Source r) at = (λ h. absurd (false≢true h), tt)
-left_pdos b n (Flatten ins) at = (λ h. absurd (false≢true h), tt)
 left_pdos b n (Pdo c f) at = all_cond (λ h. is_pdo (Some h.node) ≡ true
     → is_pdo (node_at b.graph.nodes h.number) ≡ true) (leads b n c) (record {
       number = n;
       node =
           Pdo c (forest_of b c);
     }) (λ i h. ap is_pdo at)
-left_pdos b n (Gbk c o l q) at = (λ h. absurd (false≢true h), tt)
-left_pdos b n (Barrier ins o l a) at = (λ h. absurd (false≢true h), tt)
+left_pdos b n _ at = (λ h. absurd (false≢true h), tt)
 
 pub joined_pdos : (b : Cut) (n : ℕ) (d : Place) (f : Forest) → CanFuse b
     → node_at (joined_nodes b) n ≡ Some (Pdo d f) → is_pdo (node_at b.graph.nodes n) ≡ true
@@ -218,12 +201,8 @@ joined_pdos b n d f can at =
 
 former_self : (o : Option Node) (c : Place) → ((d : Place) (f : Forest) → o ≡ Some (Pdo d f) → ⊥)
     → former_at o c ≡ c
-former_self None c h = refl
-former_self (Some (Source r)) c h = refl
-former_self (Some (Flatten ins)) c h = refl
 former_self (Some (Pdo d f)) c h = absurd (h d f refl)
-former_self (Some (Gbk d o l k)) c h = refl
-former_self (Some (Barrier ins o l a)) c h = refl
+former_self _ c h = refl
 
 -- Another collection than a Pdo's stands where it stood.
 pub former_other : (b : Cut) (c : Place) → CanFuse b → is_pdo (node_at b.graph.nodes c.node)

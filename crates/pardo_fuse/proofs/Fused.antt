@@ -7,7 +7,7 @@ use Rattle.exec_graph.specs.Typing.{KeepsTypes}
 use Rattle.exec_graph.specs.Wellformed.{Ascends, IsBlockedOk}
 use Rattle.exec_graph.specs.declared.graph.Place.{Place}
 use Rattle.exec_graph.specs.declared.graph.Node.{Node}
-use Rattle.exec_graph.specs.declared.graph.Node.TheVariants.{Source, Flatten, Pdo, Gbk, Barrier}
+use Rattle.exec_graph.specs.declared.graph.Node.TheVariants.{Flatten, Barrier}
 use Rattle.exec_graph.specs.declared.graph.Entry.{Entry}
 use Rattle.exec_graph.specs.declared.graph.Blocked.{Blocked}
 use Rattle.exec_graph.proofs.Entries.{entry}
@@ -29,8 +29,9 @@ use Rattle.pardo_fuse.proofs.Members.{apart_least, least_stays, low_least}
 use Rattle.pardo_fuse.proofs.PartedMeaning.{KeepsMeaning-parted, KeepsTypes-parted}
 use Rattle.pardo_fuse.proofs.PartedNodes.{can_fuse, can_part}
 use Rattle.pardo_fuse.proofs.PartedOk.{cut_ok}
-use Rattle.pardo_fuse.proofs.OtherNumbers.{AreApart}
-use Rattle.pardo_fuse.proofs.Renumbered.{at_new, there}
+use Rattle.pardo_fuse.proofs.OtherNumbers.{AreApart, former}
+use Rattle.pardo_fuse.proofs.Carried.{there}
+use Rattle.pardo_fuse.proofs.Renumbered.{is_moved}
 use Rattle.pardo_fuse.proofs.RenumberedMarks.{blocked_kept, graph_kept, settled_kept}
 use Rattle.pardo_fuse.proofs.Settling.{IsSettled-fused_by}
 use Rattle.pardo_fuse.proofs.Sorting.{order_same}
@@ -79,11 +80,14 @@ module _ (a : Blocked) (fu : IsFusible a) where
   -- what is there is there under its least number
   pub at_fused : (n : ℕ) (z : Node) → node_at p.graph.nodes n ≡ Some z
       → node_at (fused a).graph.nodes (l n) ≡ Some (reread (at_number l) z)
-  at_fused = at_new p.graph l (IsSound-ok p.graph good.ok) apart
+  at_fused = (is_moved p.graph l (IsSound-ok p.graph good.ok) apart).at_new
 
   pub there_fused : (c : Place) → IsThere p.graph.nodes c
       → IsThere (fused a).graph.nodes (at_number l c)
-  there_fused = there p.graph l (IsSound-ok p.graph good.ok) apart
+  there_fused =
+      let ok = IsSound-ok p.graph good.ok in
+      there p.graph l (former l p.graph.nodes) (fused a).graph.nodes ok
+      (is_moved p.graph l ok apart)
 
   pub IsBlockedOk-fused : IsBlockedOk (fused a)
   IsBlockedOk-fused = blocked_kept p l good apart (low_least (cut_of a))
@@ -106,11 +110,9 @@ same_places [] = refl
 same_places (c ∷ cs) = ap (λ (l : List Place). c ∷ l) (same_places cs)
 
 same_node : (z : Node) → reread (at_number (λ n. n)) z ≡ z
-same_node (Source r) = refl
 same_node (Flatten ins) = ap Flatten (same_places ins)
-same_node (Pdo c f) = refl
-same_node (Gbk c o l k) = refl
 same_node (Barrier ins o l a) = ap (λ (cs : List Place). Barrier cs o l a) (same_places ins)
+same_node _ = refl
 
 same_entries : (es : List Entry) → map (renumbered_entry (λ n. n)) es ≡ es
 same_entries [] = refl

@@ -10,7 +10,7 @@ use Rattle.exec_graph.specs.Wellformed.{IsNodeOk}
 use Rattle.exec_graph.specs.Readers.{readers, same_place}
 use Rattle.exec_graph.specs.declared.graph.Place.{Place}
 use Rattle.exec_graph.specs.declared.graph.Node.{Node}
-use Rattle.exec_graph.specs.declared.graph.Node.TheVariants.{Source, Flatten, Pdo, Gbk, Barrier}
+use Rattle.exec_graph.specs.declared.graph.Node.TheVariants.{Pdo}
 use Rattle.exec_graph.specs.declared.graph.Entry.{Entry}
 use Rattle.exec_graph.specs.declared.graph.Graph.{Graph}
 use Rattle.exec_graph.specs.declared.graph.Blocked.{Blocked}
@@ -55,8 +55,6 @@ small_out a fu c t = let x = there_found a.graph.nodes c t in by x.0 x.1 x.2
     zero_out j h = let e : j ≡ 0 = eqb-true j 0 h in omega arith
 
     by : (x : Node) → node_at a.graph.nodes c.node ≡ Some x → gives x c.out ≡ true → c.out < 2 ^ 32
-    by (Source r) at h = zero_out c.out h
-    by (Flatten ins) at h = zero_out c.out h
     by (Pdo d f) at h =
         let can : CanPart a.graph = can_part a fu in
         let row = row_of f (step_at_node a.graph can c.node d f at) in
@@ -71,8 +69,7 @@ small_out a fu c t = let x = there_found a.graph.nodes c t in by x.0 x.1 x.2
         let u = row_after 0 0 f row in
         let high = b.high in
         omega arith
-    by (Gbk d o l k) at h = zero_out c.out h
-    by (Barrier ins o l a) at h = zero_out c.out h
+    by _ at h = zero_out c.out h
 
 -- ---- forests that match
 

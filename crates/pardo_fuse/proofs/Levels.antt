@@ -5,7 +5,7 @@ use Rattle.std.specs.List.{AllByRecursion}
 use Rattle.exec_graph.specs.Forests.{Forest}
 use Rattle.exec_graph.specs.declared.graph.Place.{Place}
 use Rattle.exec_graph.specs.declared.graph.Node.{Node}
-use Rattle.exec_graph.specs.declared.graph.Node.TheVariants.{Source, Flatten, Pdo, Gbk, Barrier}
+use Rattle.exec_graph.specs.declared.graph.Node.TheVariants.{Pdo}
 use Rattle.exec_graph.specs.declared.graph.Entry.{Entry}
 use Rattle.exec_graph.specs.Meaning.{place, reads, IsRankedBy}
 use Rattle.flume_value.proofs.EachLemmas.{Each-weaker}
@@ -24,11 +24,8 @@ grown_planted b t (n ∷ ns) a = (refl, a.0, grown_planted b t ns a.1)
 above_by : (r : ℕ → ℕ) (c : Place) (n : ℕ) (x : Node)
     → AllByRecursion (λ (d : Place). r d.node < r n) (reads x) → calls_on c x ≡ true
     → r c.node < r n
-above_by r c n (Source s) a h = absurd (false≢true h)
-above_by r c n (Flatten ins) a h = absurd (false≢true h)
 above_by r c n (Pdo d f) a h = subst (λ (p : Place). r p.node < r n) (sym (same_is c d h)) a.0
-above_by r c n (Gbk d o l k) a h = absurd (false≢true h)
-above_by r c n (Barrier ins i l d) a h = absurd (false≢true h)
+above_by r c n _ a h = absurd (false≢true h)
 
 pub readers_above : (r : ℕ → ℕ) (c : Place) (es : List Entry) → IsRankedBy r es
     → AllByRecursion (λ n. r c.node < r n) (readers es c)

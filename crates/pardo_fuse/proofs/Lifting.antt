@@ -170,8 +170,6 @@ Leading b n = (m : ℕ) (f : Forest) → node_at b.graph.nodes m ≡ Some (Pdo (
 left_calls : (b : Cut) (n : ℕ) → CanFuse b → AllGrown b → IsGbk b n → Leading b n
     → (m : ℕ) (x : Node) → node_at b.graph.nodes m ≡ Some x
     → those_now b (place n 0) (left_of b m x) ≡ cond (calls_on (place n 0) x) (m ∷ []) []
-left_calls b n can g k lead m (Source s) at = refl
-left_calls b n can g k lead m (Flatten ins) at = refl
 left_calls b n can g k lead m (Pdo d f) at = by (leads b m d) (same_place (place n 0) d) refl refl
   where
     by : (r s : Bool) → leads b m d ≡ r → same_place (place n 0) d ≡ s
@@ -187,8 +185,7 @@ left_calls b n can g k lead m (Pdo d f) at = by (leads b m d) (same_place (place
         absurd (false≢true (sym l ∙ ap (leads b m) (sym p) ∙ lead m f (at
         ∙ ap (λ (x : Place). Some (Pdo x f)) (sym p))))
     by false false l e = refl
-left_calls b n can g k lead m (Gbk d o l i) at = refl
-left_calls b n can g k lead m (Barrier ins o l a) at = refl
+left_calls b n can g k lead m _ at = refl
 
 readers_left : (b : Cut) (n : ℕ) → CanFuse b → AllGrown b → IsGbk b n → Leading b n
     → (es : List Entry) → Found b es → those_now b (place n 0) (flat_map (λ e. left_of b e.number

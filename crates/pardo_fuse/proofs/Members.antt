@@ -35,19 +35,19 @@ pub least_in : (P : ℕ → Type 0) (n : ℕ) (qs : List ℕ) → P n → Each P
 least_in P n [] p a = p
 least_in P n (q ∷ qs) p a = least_in P (lesser n q) qs (picked P n q p a.0) a.1
 
-lesser_low : (n q : ℕ) → lesser n q ≤ n
+pub lesser_low : (n q : ℕ) → lesser n q ≤ n
 lesser_low n q = by (ltb q n) refl
   where
     by : (b : Bool) → ltb q n ≡ b → cond b q n ≤ n
     by true i = let less : q < n = ltb-true q n i in omega arith
     by false i = omega arith
 
-least_low : (n : ℕ) (qs : List ℕ) → least n qs ≤ n
+pub least_low : (n : ℕ) (qs : List ℕ) → least n qs ≤ n
 least_low n [] = omega arith
 least_low n (q ∷ qs) =
     let i = least_low (lesser n q) qs in let j = lesser_low n q in omega (arith, i, j)
 
-least_same : (n : ℕ) (qs : List ℕ) → Each (λ q. n ≤ q) qs → least n qs ≡ n
+pub least_same : (n : ℕ) (qs : List ℕ) → Each (λ q. n ≤ q) qs → least n qs ≡ n
 least_same n [] a = refl
 least_same n (q ∷ qs) a =
     ap (λ (b : Bool). least (cond b q n) qs) (le-ltb q n a.0) ∙ least_same n qs a.1
@@ -95,12 +95,8 @@ module _ (b : Cut) (P : ℕ → Type 0) (found : Found b b.graph.nodes)
 
 -- ---- where a Pdo begins: what is read by it, or by the Pdo that it is fused into, and so on
 abbrev pub start_at : Cut → (ℕ → Option Place) → Option Node → Option Place
-start_at b up None = None
-start_at b up (Some (Source r)) = None
-start_at b up (Some (Flatten ins)) = None
 start_at b up (Some (Pdo c f)) = cond (is_inner b c) (up c.node) (Some c)
-start_at b up (Some (Gbk c o l k)) = None
-start_at b up (Some (Barrier ins o l a)) = None
+start_at b up _ = None
 
 unfoldable pub start : Cut → ℕ → ℕ → Option Place
 start b zero n = None
@@ -139,12 +135,8 @@ begins_pdo b c n (zero, h) = let no : ⊥ = cc in absurd no
 begins_pdo b c n (suc k, h) = by (node_at b.graph.nodes n) h
   where
     by : (o : Option Node) → start_at b (start b k) o ≡ Some c → is_pdo o ≡ true
-    by None h = let no : ⊥ = cc in absurd no
-    by (Some (Source r)) h = let no : ⊥ = cc in absurd no
-    by (Some (Flatten ins)) h = let no : ⊥ = cc in absurd no
     by (Some (Pdo e f)) h = refl
-    by (Some (Gbk e o l a)) h = let no : ⊥ = cc in absurd no
-    by (Some (Barrier ins o l a)) h = let no : ⊥ = cc in absurd no
+    by _ h = let no : ⊥ = cc in absurd no
 
 begins_here : (b : Cut) (c : Place) (n : ℕ) (f : Forest)
     → node_at b.graph.nodes n ≡ Some (Pdo c f) → is_inner b c ≡ false → BeginsAt b c n
@@ -192,27 +184,19 @@ least_begins b n found w =
     (all_readers b w.source b.graph.nodes found))))
 
 least_other : (b : Cut) (n : ℕ) (o : Option Node) → is_pdo o ≡ false → least_at b n o ≡ n
-least_other b n None h = refl
-least_other b n (Some (Source r)) h = refl
-least_other b n (Some (Flatten ins)) h = refl
 least_other b n (Some (Pdo c f)) h = absurd (false≢true (sym h))
-least_other b n (Some (Gbk c o l k)) h = refl
-least_other b n (Some (Barrier ins o l a)) h = refl
+least_other b n _ h = refl
 
 pub low_least : (b : Cut) (n : ℕ) → least_of b n ≤ n
 low_least b n = by (node_at b.graph.nodes n)
   where
     by : (o : Option Node) → least_at b n o ≤ n
-    by None = omega arith
-    by (Some (Source r)) = omega arith
-    by (Some (Flatten ins)) = omega arith
     by (Some (Pdo c f)) = led (leads b n c)
       where
         led : (t : Bool) → cond t (least n (members_over b c)) n ≤ n
         led true = least_low n (members_over b c)
         led false = omega arith
-    by (Some (Gbk c o l k)) = omega arith
-    by (Some (Barrier ins o l a)) = omega arith
+    by _ = omega arith
 
 -- ---- the nodes that are left
 abbrev pub IsLeft : Cut → ℕ → Type 0
@@ -220,25 +204,23 @@ IsLeft b n = IsLeading b n ⊎ (is_pdo (node_at b.graph.nodes n) ≡ false)
 
 of_left : (b : Cut) (n : ℕ) (z : Node) → node_at b.graph.nodes n ≡ Some z
     → Each (λ (h : Entry). IsLeft b h.number) (kept_of b n z)
-of_left b n (Source r) at = (inr (ap is_pdo at), tt)
-of_left b n (Flatten ins) at = (inr (ap is_pdo at), tt)
 of_left b n (Pdo c f) at = by (leads b n c) refl
   where
     by : (t : Bool) → leads b n c ≡ t → Each (λ (h : Entry). IsLeft b h.number)
         (cond t (record { number = n; node = Pdo c (forest_over b c) } ∷ []) [])
     by true i = (inl (record { source = c; forest = f; at = at; leads = i }), tt)
     by false i = tt
-of_left b n (Gbk c o l k) at = (inr (ap is_pdo at), tt)
-of_left b n (Barrier ins o l a) at = (inr (ap is_pdo at), tt)
+of_left b n _ at = (inr (ap is_pdo at), tt)
 
-all_of_left : (b : Cut) (es : List Entry) → Found b es
-    → Each (λ (h : Entry). IsLeft b h.number)
-    (flat_map (λ (e : Entry). kept_of b e.number e.node) es)
-all_of_left b [] a = tt
-all_of_left b (e ∷ es) a =
-    Each-append (λ (h : Entry). IsLeft b h.number) (kept_of b e.number e.node)
-    (flat_map (λ (d : Entry). kept_of b d.number d.node) es) (of_left b e.number e.node a.0)
-    (all_of_left b es a.1)
+-- what holds of what is kept of each node holds of all
+pub all_kept : (b : Cut) (P : ℕ → Type 0) → ((n : ℕ) (z : Node) → node_at b.graph.nodes n ≡ Some z
+    → Each (λ (h : Entry). P h.number) (kept_of b n z)) → (es : List Entry) → Found b es
+    → Each (λ (h : Entry). P h.number) (flat_map (λ (e : Entry). kept_of b e.number e.node) es)
+all_kept b P one [] a = tt
+all_kept b P one (e ∷ es) a =
+    Each-append (λ (h : Entry). P h.number) (kept_of b e.number e.node)
+    (flat_map (λ (d : Entry). kept_of b d.number d.node) es) (one e.number e.node a.0)
+    (all_kept b P one es a.1)
 
 left_by_parents : (a : Blocked) → AllDiffer a.graph.nodes
     → Each (λ h. IsLeft (cut_of a) h.number) (fused_by_parents a).graph.nodes
@@ -247,7 +229,7 @@ left_by_parents a d =
     let b : Cut = cut_of a in
     let P : Entry → Type 0 = λ h. IsLeft b h.number in
     all_map (finished (moved_to (kept_nodes b))) P P (λ h p. p) (kept_nodes b)
-    (all_of_left b b.graph.nodes (each_found b.graph.nodes d))
+    (all_kept b (IsLeft b) (of_left b) b.graph.nodes (each_found b.graph.nodes d))
 
 least_apart : (b : Cut) (n m : ℕ) → Found b b.graph.nodes → IsLeft b n → IsLeft b m
     → least_of b n ≡ least_of b m → n ≡ m
@@ -316,9 +298,6 @@ pub least_stays : (b : Cut) → Ascends b.graph.nodes → AllDiffer b.graph.node
 least_stays b u d late n = by (node_at b.graph.nodes n)
   where
     by : (o : Option Node) → least_at b n o ≡ n
-    by None = refl
-    by (Some (Source r)) = refl
-    by (Some (Flatten ins)) = refl
     by (Some (Pdo c f)) = led (leads b n c) refl
       where
         led : (t : Bool) → leads b n c ≡ t → cond t (least n (members_over b c)) n ≡ n
@@ -330,5 +309,4 @@ least_stays b u d late n = by (node_at b.graph.nodes n)
             (length b.graph.nodes) (readers b.graph.nodes c)
             (first_least b.graph.nodes c n u (leads_first b n c i)))
         led false i = refl
-    by (Some (Gbk c o l k)) = refl
-    by (Some (Barrier ins o l a)) = refl
+    by _ = refl

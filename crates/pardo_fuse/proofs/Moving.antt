@@ -100,8 +100,6 @@ node_alike : (a : Blocked) → IsFusible a → (n : ℕ) (x : Node)
     → AllByRecursion (IsThere a.graph.nodes) (reads x)
     → Alike a (kept_of (cut_of a) n x)
     (left_of (cut_of (parted a)) n (reread (part_place a.graph) x))
-node_alike a fu n (Source r) t = (refl, refl, tt)
-node_alike a fu n (Flatten ins) t = (refl, refl, tt)
 node_alike a fu n (Pdo c f) t =
     let g : Graph = a.graph in
     let p : Cut = cut_of (parted a) in
@@ -128,8 +126,7 @@ node_alike a fu n (Pdo c f) t =
       tt,
     )
     by false = tt
-node_alike a fu n (Gbk c o l k) t = (refl, refl, tt)
-node_alike a fu n (Barrier ins o l d) t = (refl, refl, tt)
+node_alike a fu n _ t = (refl, refl, tt)
 
 all_alike : (a : Blocked) → IsFusible a → (es : List Entry)
     → AllByRecursion (λ (e : Entry). AllByRecursion (IsThere a.graph.nodes) (reads e.node)) es
@@ -154,19 +151,13 @@ nodes_alike a fu = subst (Alike a (kept_nodes (cut_of a))) (sym (joined_parted a
 
 holds_same : (a : Blocked) (c : Place) (q : ℕ) → Seeks a c q → (x y : Node) → AlikeNode a x y
     → holds_out (code c) x ≡ holds_out q y
-holds_same a c q s (Source r) y h = sym (ap (holds_out q) h)
-holds_same a c q s (Flatten ins) y h = sym (ap (holds_out q) h)
 holds_same a c q s (Pdo d f) y h = matched_has a c q s f h.0 h.2 ∙ sym (ap (holds_out q) h.1)
-holds_same a c q s (Gbk d o l k) y h = sym (ap (holds_out q) h)
-holds_same a c q s (Barrier ins o l d) y h = sym (ap (holds_out q) h)
+holds_same a c q s _ y h = sym (ap (holds_out q) h)
 
 number_same : (a : Blocked) (c : Place) (q : ℕ) → Seeks a c q → (x y : Node) → AlikeNode a x y
     → out_number (code c) x ≡ out_number q y
-number_same a c q s (Source r) y h = sym (ap (out_number q) h)
-number_same a c q s (Flatten ins) y h = sym (ap (out_number q) h)
 number_same a c q s (Pdo d f) y h = matched_number a c q s 0 f h.0 h.2 ∙ sym (ap (out_number q) h.1)
-number_same a c q s (Gbk d o l k) y h = sym (ap (out_number q) h)
-number_same a c q s (Barrier ins o l d) y h = sym (ap (out_number q) h)
+number_same a c q s _ y h = sym (ap (out_number q) h)
 
 move_same : (a : Blocked) (c p : Place) → Seeks a c p.node → (ds es : List Entry) → Alike a ds es
     → (any_node (holds_out p.node) es ≡ false → p ≡ c) → moved_to ds c ≡ new_place es p

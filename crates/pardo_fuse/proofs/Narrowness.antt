@@ -8,11 +8,10 @@ use Rattle.exec_graph.specs.Forests.{Branch, Forest, Bare, Grow, Twig, grown, li
 use Rattle.exec_graph.specs.Twigs.{twig}
 use Rattle.exec_graph.specs.declared.graph.Node.{Node}
 use Rattle.exec_graph.specs.declared.graph.Place.{Place}
-use Rattle.exec_graph.specs.declared.graph.Node.TheVariants.{Source, Flatten, Pdo, Gbk, Barrier}
+use Rattle.exec_graph.specs.declared.graph.Node.TheVariants.{Pdo}
 use Rattle.exec_graph.specs.declared.graph.Entry.{Entry}
-use Rattle.exec_graph.specs.declared.graph.Graph.{Graph}
 use Rattle.exec_graph.specs.declared.step.Output.{Output}
-use Rattle.graph_laws.specs.Single.{HasNarrowSteps, HasSteps, IsOneStep, IsUnfused, most_outputs, width}
+use Rattle.graph_laws.specs.Single.{HasSteps, IsOneStep, most_outputs, width}
 use Rattle.pardo_fuse.specs.inner.Narrow.{IsNarrow, IsShort, is_bare, is_short, one_short}
 use Rattle.pardo_fuse.proofs.Parting.{IsRow, row_of}
 use Rattle.pardo_fuse.proofs.Places.{and_left, and_right}
@@ -134,11 +133,8 @@ short_tells (b ∷ (c ∷ bs)) = (
 
 both : (x : Node) → IsNarrow x
     → HasSteps IsOneStep x × HasSteps (λ f. width f ≤ most_outputs) x
-both (Source r) h = (tt, tt)
-both (Flatten ins) h = (tt, tt)
 both (Pdo c f) h = h
-both (Gbk c o l k) h = (tt, tt)
-both (Barrier ins o l a) h = (tt, tt)
+both _ h = (tt, tt)
 
 pub pdo_tells : (x : Node) (c : Place) (f : Forest) (bs : List Branch) (r : Bool) → x ≡ Pdo c f
     → grown bs ≡ f → r ≡ one_short bs → (r ≡ true → IsNarrow x) × (IsNarrow x → r ≡ true)

@@ -52,18 +52,12 @@ step_of_output f s =
     }
 
 node_step : (x : Node) → HasSteps IsOneOutput x → HasSteps IsOneStep x
-node_step (Source r) a = tt
-node_step (Flatten ins) a = tt
 node_step (Pdo c f) a = step_of_output f a
-node_step (Gbk c o l k) a = tt
-node_step (Barrier ins o l d) a = tt
+node_step _ a = tt
 
 node_width : (x : Node) → HasSteps IsOneOutput x → HasSteps (λ f. width f ≤ most_outputs) x
-node_width (Source r) a = tt
-node_width (Flatten ins) a = tt
 node_width (Pdo c f) a = let e : width f ≡ 1 = ap width a.alone in omega arith
-node_width (Gbk c o l k) a = tt
-node_width (Barrier ins o l d) a = tt
+node_width _ a = tt
 
 pub unfused_single : (g : Graph) → HasSingleOutputs g → IsUnfused g
 unfused_single g one = Each-weaker (λ (e : Entry). HasSteps IsOneOutput e.node)
@@ -104,8 +98,6 @@ same_forest f s e = sym (ap (numbered 0) s.alone) ∙ e
 -- A collection that is there stays where it is.
 same_place_by : (b : Blocked) → IsBlockedOk b → HasSingleOutputs b.graph → (c : Place) (x : Node)
     → node_at b.graph.nodes c.node ≡ Some x → IsThere b.graph.nodes c → part_place b.graph c ≡ c
-same_place_by b ok one c (Source r) at t = part_same b.graph c (Source r) at refl
-same_place_by b ok one c (Flatten ins) at t = part_same b.graph c (Flatten ins) at refl
 same_place_by b ok one c (Pdo d f) at t =
     let g : Graph = b.graph in
     let s = all_found (λ (e : Entry). HasSteps IsOneOutput e.node) g.nodes c.node
@@ -128,8 +120,7 @@ same_place_by b ok one c (Pdo d f) at t =
     choose : (t : Bool) (x : ℕ) → x ≡ 0 → cond t x 0 ≡ 0
     choose true x e = e
     choose false x e = refl
-same_place_by b ok one c (Gbk d o l k) at t = part_same b.graph c (Gbk d o l k) at refl
-same_place_by b ok one c (Barrier ins o l a) at t = part_same b.graph c (Barrier ins o l a) at refl
+same_place_by b ok one c x at t = part_same b.graph c x at refl
 
 same_part : (b : Blocked) → IsBlockedOk b → HasSingleOutputs b.graph → (c : Place)
     → IsThere b.graph.nodes c → part_place b.graph c ≡ c

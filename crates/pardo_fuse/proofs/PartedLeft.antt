@@ -37,8 +37,6 @@ first_cases P q (x ∷ xs) ys h f g = f h
 part_first : (k n q : ℕ) (c : Place) (x : Node) (r : Place → Place) → n < k
     → HasSteps IsOneStep x
     → is_first q (those (calls_on c) (parts_of k n (reread r x))) ≡ true → q < k
-part_first k n q c (Source s) r l a h = absurd (false≢true h)
-part_first k n q c (Flatten ins) r l a h = absurd (false≢true h)
 part_first k n q c (Pdo d f) r l a h = by f (row_of f a) (same_place c (r d)) refl h
   where
     by : (f : Forest) → IsRow 0 f → (b : Bool) → same_place c (r d) ≡ b
@@ -54,8 +52,7 @@ part_first k n q c (Pdo d f) r l a h = by f (row_of f a) (same_place c (r d)) re
         omega arith
     by (Grow m kids rest) w false e h = absurd (false≢true
         (sym (ap (is_first q) (apart_calls c (r d) k n (Grow m kids rest) e)) ∙ h))
-part_first k n q c (Gbk d o b m) r l a h = absurd (false≢true h)
-part_first k n q c (Barrier ins o y d) r l a h = absurd (false≢true h)
+part_first k n q c _ r l a h = absurd (false≢true h)
 
 -- A Pdo that leads is the first of the former Pdo's.
 pub first_low : (k q : ℕ) (c : Place) (r : Place → Place) (es : List Entry)
@@ -170,11 +167,8 @@ row_size k n c (Grow l kids rest) i r hs =
 
 part_size : (k n : ℕ) (x : Node) (r : Place → Place) → HasSteps IsOneStep x → (hs : List Entry)
     → total_size (parts_of k n (reread r x) ++ hs) ≡ size x + total_size hs
-part_size k n (Source s) r a hs = refl
-part_size k n (Flatten ins) r a hs = refl
 part_size k n (Pdo c f) r a hs = row_size k n (r c) f 0 (row_of f a) hs
-part_size k n (Gbk c o l m) r a hs = refl
-part_size k n (Barrier ins o l d) r a hs = refl
+part_size k n _ r a hs = refl
 
 pub all_size : (k : ℕ) (r : Place → Place) (es : List Entry)
     → AllByRecursion (λ (e : Entry). HasSteps IsOneStep e.node) es
@@ -197,8 +191,6 @@ step_some (Grow l kids rest) r z =
 part_length : (k n : ℕ) (x : Node) (r : Place → Place) → HasSteps IsOneStep x
     → HasSteps (λ f. width f ≤ most_outputs) x
     → length (parts_of k n (reread r x)) ≤ 8 * size x
-part_length k n (Source s) r a w = omega arith
-part_length k n (Flatten ins) r a w = omega arith
 part_length k n (Pdo c f) r a w =
     let e = row_length k n (r c) f in
     let s = step_some f (row_of f a) filled in
@@ -206,8 +198,7 @@ part_length k n (Pdo c f) r a w =
   where
     filled : f ≡ Bare → ⊥
     filled e = let bad : ⊥ = let q = sym a.alone ∙ e in cc in bad
-part_length k n (Gbk c o l m) r a w = omega arith
-part_length k n (Barrier ins o l d) r a w = omega arith
+part_length k n _ r a w = omega arith
 
 all_length : (k : ℕ) (r : Place → Place) (es : List Entry)
     → AllByRecursion (λ (e : Entry). HasSteps IsOneStep e.node) es

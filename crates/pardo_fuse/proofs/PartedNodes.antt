@@ -165,14 +165,12 @@ collects_back r c (Barrier ins o l d) a h = among_back r c ins a h
 parts_uncollected : (c : Place) (k n : ℕ) (x : Node) → collects c x ≡ false
     → any_node (collects c) (parts_of k n x) ≡ false
 parts_uncollected c k n (Source r) h = refl
-parts_uncollected c k n (Flatten ins) h = rw h refl
 parts_uncollected c k n (Pdo d f) h = by f
   where
     by : (f : Forest) → any_node (collects c) (parts k n d f) ≡ false
     by Bare = refl
     by (Grow l kids rest) = by rest
-parts_uncollected c k n (Gbk d o l m) h = rw h refl
-parts_uncollected c k n (Barrier ins o l a) h = rw h refl
+parts_uncollected c k n _ h = rw h refl
 
 -- The places of nodes that are no Pdos stay what they are, and nothing else comes there.
 only_part : (g : Graph) → CanPart g → (n : ℕ) (x : Node) → node_at g.nodes n ≡ Some x
@@ -217,8 +215,6 @@ part_calls : (g : Graph) → CanPart g → (n : ℕ) (y : Node) → node_at g.no
     → AllByRecursion (IsThere g.nodes) (reads x) → IsRoot (place n 0) m x
     → those (calls_on (place n 0)) (parts_of g.next m (reread (part_place g) x))
     ≡ cond (calls_on (place n 0) x) (m ∷ []) []
-part_calls g can n y at h m (Source r) t i = refl
-part_calls g can n y at h m (Flatten ins) t i = refl
 part_calls g can n y at h m (Pdo d f) t i = by (same_place (place n 0) d) refl
   where
     by : (b : Bool) → same_place (place n 0) d ≡ b
@@ -237,8 +233,7 @@ part_calls g can n y at h m (Pdo d f) t i = by (same_place (place n 0) d) refl
         ∙ ap (λ (x : ℕ). x ∷ []) (first_number g.next m)
     by false e = apart_calls (place n 0) (part_place g d) g.next m f
         (same_back (part_place g) (place n 0) d (only_part g can n y at h d t.0) e)
-part_calls g can n y at h m (Gbk d o l k) t i = refl
-part_calls g can n y at h m (Barrier ins o l a) t i = refl
+part_calls g can n y at h m _ t i = refl
 
 readers_parts : (g : Graph) → CanPart g → (n : ℕ) (y : Node) → node_at g.nodes n ≡ Some y
     → is_pdo (Some y) ≡ false → (es : List Entry)
@@ -302,13 +297,10 @@ comb_root k (Grow l kids (Grow m others rest)) r h = let bad : ⊥ = cc in absur
 root_by : (g : Graph) → CanPart g → (c : Place) (k : Comb) (q : ℕ)
     → comb_at (node_at g.nodes q) ≡ Some k
     → (x : Node) → node_at g.nodes q ≡ Some x → IsRoot c q x
-root_by g can c k q root (Source r) at h = absurd (false≢true h)
-root_by g can c k q root (Flatten ins) at h = absurd (false≢true h)
 root_by g can c k q root (Pdo d f) at h =
     let w = comb_root k f (row_of f (step_at_node g can q d f at)) (sym (ap comb_at at) ∙ root) in
     (w.0, ap (λ (x : Place). Pdo x f) (sym (same_is c d h)) ∙ ap (Pdo c) w.1, w.2)
-root_by g can c k q root (Gbk d o l m) at h = absurd (false≢true h)
-root_by g can c k q root (Barrier ins o l a) at h = absurd (false≢true h)
+root_by g can c k q root _ at h = absurd (false≢true h)
 
 lifted_part : (g : Graph) → CanPart g → (n : ℕ) (c : Place) (o : ℕ) (b : Bool) (k : Comb)
     → node_at g.nodes n ≡ Some (Gbk c o b (Some k)) → IsLiftedOk g n k
@@ -336,9 +328,6 @@ lifted_part g can n c o b k at lift =
   where
     by : (z : Option Node) → node_at g.nodes lift.reader ≡ z → comb_at z ≡ Some k
         → comb_at (node_at (parted_nodes g) lift.reader) ≡ Some k
-    by None e h = let bad : ⊥ = cc in absurd bad
-    by (Some (Source r)) e h = let bad : ⊥ = cc in absurd bad
-    by (Some (Flatten ins)) e h = let bad : ⊥ = cc in absurd bad
     by (Some (Pdo d f)) e h =
         let w = comb_root k f (row_of f (step_at_node g can lift.reader d f e)) h in
         let l : Label = w.0 in
@@ -348,19 +337,16 @@ lifted_part g can n c o b k at lift =
         ap (λ (x : ℕ). comb_at (node_at (parted_nodes g) x))
         (sym (ap (part_number g.next lift.reader) w.2 ∙ first_number g.next lift.reader))
         ∙ ap comb_at found.0 ∙ sym (ap root_comb w.1) ∙ h
-    by (Some (Gbk d o l m)) e h = let bad : ⊥ = cc in absurd bad
-    by (Some (Barrier ins o l a)) e h = let bad : ⊥ = cc in absurd bad
+    by _ e h = let bad : ⊥ = cc in absurd bad
 
 pub node_ok : (g : Graph) → CanPart g → (n : ℕ) (x : Node) → node_at g.nodes n ≡ Some x
     → IsNodeOk g n x
     → AllByRecursion (λ (h : Entry). IsNodeOk (parted_graph g) h.number h.node)
     (parts_of g.next n (reread (part_place g) x))
-node_ok g can n (Source r) at h = (tt, tt)
 node_ok g can n (Flatten ins) at h =
     let e = length-map (part_place g) ins in
     let x = h.0 in let y = h.1 in
     ((omega arith, omega arith), tt)
 node_ok g can n (Pdo c f) at h = pdo_ok g can n c f at h
-node_ok g can n (Gbk c o l None) at h = (tt, tt)
 node_ok g can n (Gbk c o l (Some k)) at h = (lifted_part g can n c o l k at h, tt)
-node_ok g can n (Barrier ins o l a) at h = (tt, tt)
+node_ok g can n _ at h = (tt, tt)

@@ -1,106 +1,42 @@
 -- What comes of a graph whose steps have their outputs apart is well-formed, with its marks.
-use Rattle.std.proofs.Common.{◌≡◌, ℕ, ◌<◌, true, false, List, map, Option, Some, None, refl, sym, ap, ◌∙◌, subst, arith}
-use Rattle.std.proofs.lemmas.Bool.{false≢true}
+use Rattle.std.proofs.Common.{◌≡◌, ℕ, ◌<◌, true, false, List, map, Some, refl, sym, ap, ◌∙◌, subst, arith}
 use Rattle.std.proofs.lemmas.List.Folds.{flat_map-map}
 use Rattle.std.specs.List.{flat_map, AllByRecursion}
 use Rattle.flume_value.proofs.EachLemmas.{Each-weaker, Each-both}
 use Rattle.exec_graph.specs.Forests.{Forest, Bare, Grow}
-use Rattle.exec_graph.specs.Meaning.{node_at, has_out, gives_at, IsThere}
+use Rattle.exec_graph.specs.Meaning.{node_at, IsThere}
 use Rattle.exec_graph.specs.Objects.{takes_such}
 use Rattle.exec_graph.specs.Wellformed.{Ascends, IsNodeOk, has_objects, is_lifted, is_object, is_object_at}
 use Rattle.exec_graph.specs.declared.graph.Place.{Place}
 use Rattle.exec_graph.specs.declared.graph.Node.{Node}
-use Rattle.exec_graph.specs.declared.graph.Node.TheVariants.{Source, Flatten, Pdo, Gbk, Barrier}
+use Rattle.exec_graph.specs.declared.graph.Node.TheVariants.{Pdo, Barrier}
 use Rattle.exec_graph.specs.declared.graph.Entry.{Entry}
 use Rattle.exec_graph.specs.declared.graph.Graph.{Graph}
 use Rattle.exec_graph.specs.declared.graph.Blocked.{Blocked}
 use Rattle.exec_graph.proofs.Entries.{all_found, all_map}
 use Rattle.graph_laws.specs.Joining.{reread, reread_entry}
 use Rattle.graph_laws.proofs.ObjectNodes.{flags_reread, object_mapped}
-use Rattle.pardo_fuse.specs.Readers.{Cut, cut_of, is_pdo}
-use Rattle.pardo_fuse.specs.Parting.{part_number, sole, parts, parts_of, part_at, part_place, parted_nodes, parted_graph, parted}
+use Rattle.pardo_fuse.specs.Readers.{Cut, cut_of}
+use Rattle.pardo_fuse.specs.Parting.{parts, parts_of, part_place, parted_nodes, parted_graph, parted}
 use Rattle.pardo_fuse.specs.SingleFusing.{joined_nodes, left_of}
 use Rattle.pardo_fuse.specs.Wellformed.{IsFusible}
 use Rattle.pardo_fuse.proofs.BlockedOk.{IsCutOk, all_numbers, cut_outer, joined_ascends}
 use Rattle.pardo_fuse.proofs.PartedMeaning.{there_node}
-use Rattle.pardo_fuse.proofs.Parting.{row_of}
-use Rattle.pardo_fuse.proofs.Unparting.{CanPart, at_out, each_part, label_found, other_found, part_same, step_at_node}
+use Rattle.pardo_fuse.proofs.Unparting.{CanPart, each_part, kind_part, lifted_reread}
 use Rattle.pardo_fuse.proofs.PartedNodes.{can_part, node_ok}
 use Rattle.pardo_fuse.proofs.PartedLeft.{all_size, joined_parted, map_ascends}
 
--- ---- marks
-
-same_lifted : (r : Place → Place) (x : Node) → is_lifted (Some (reread r x)) ≡ is_lifted (Some x)
-same_lifted r (Source s) = refl
-same_lifted r (Flatten ins) = refl
-same_lifted r (Pdo c f) = refl
-same_lifted r (Gbk c o l None) = refl
-same_lifted r (Gbk c o l (Some k)) = refl
-same_lifted r (Barrier ins o l a) = refl
+-- ---- marks and objects
 
 marks_unlifted : (g : Graph) → CanPart g → (c : Place) → IsThere g.nodes c
     → is_lifted (node_at g.nodes c.node) ≡ false
     → is_lifted (node_at (parted_nodes g) (part_place g c).node) ≡ false
-marks_unlifted g can c t h = by (node_at g.nodes c.node) refl
-  where
-    other : (x : Node) → node_at g.nodes c.node ≡ Some x → is_pdo (Some x) ≡ false
-        → is_lifted (node_at (parted_nodes g) (part_place g c).node) ≡ false
-    other x at p = ap (λ (d : Place). is_lifted (node_at (parted_nodes g) d.node))
-        (part_same g c x at p)
-        ∙ ap is_lifted (other_found g can c.node x at p) ∙ same_lifted (part_place g) x
-        ∙ sym (ap is_lifted at) ∙ h
-
-    by : (o : Option Node) → node_at g.nodes c.node ≡ o
-        → is_lifted (node_at (parted_nodes g) (part_place g c).node) ≡ false
-    by None at = let bad : ⊥ =
-        false≢true (sym (ap (λ (o : Option Node). gives_at o c.out) at) ∙ t) in
-        absurd bad
-    by (Some (Source r)) at = other (Source r) at refl
-    by (Some (Flatten ins)) at = other (Flatten ins) at refl
-    by (Some (Pdo d f)) at =
-        let has : has_out c.out f ≡ true = sym (ap (λ (o : Option Node). gives_at o c.out) at)
-        ∙ t in
-        let row = row_of f (step_at_node g can c.node d f at) in
-        let i = at_out (λ l. node_at (parted_nodes g) (part_number g.next c.node l.at)
-        ≡ Some (Pdo (part_place g d) (sole l))) 0 c.out f row
-        (label_found g can c.node d f at) has in
-        ap (λ (o : Option Node). is_lifted (node_at (parted_nodes g) (part_at g.next c o).node)) at
-        ∙ ap (λ (x : ℕ). is_lifted (node_at (parted_nodes g) (part_number g.next c.node x))) i.at
-        ∙ ap is_lifted i.holds
-    by (Some (Gbk d o l m)) at = other (Gbk d o l m) at refl
-    by (Some (Barrier ins o l a)) at = other (Barrier ins o l a) at refl
-
--- ---- objects
+marks_unlifted g can c t h = kind_part is_lifted lifted_reread (λ c d f h. refl) g can c t ∙ h
 
 -- A collection is an object where its part is one.
 object_part : (g : Graph) → CanPart g → (c : Place) → IsThere g.nodes c
     → is_object_at (parted_nodes g) (part_place g c) ≡ is_object_at g.nodes c
-object_part g can c t = by (node_at g.nodes c.node) refl
-  where
-    other : (x : Node) → node_at g.nodes c.node ≡ Some x → is_pdo (Some x) ≡ false
-        → is_object_at (parted_nodes g) (part_place g c) ≡ is_object (Some x)
-    other x at p = ap (is_object_at (parted_nodes g)) (part_same g c x at p)
-        ∙ ap is_object (other_found g can c.node x at p) ∙ object_mapped (part_place g) (Some x)
-
-    by : (o : Option Node) → node_at g.nodes c.node ≡ o
-        → is_object_at (parted_nodes g) (part_place g c) ≡ is_object_at g.nodes c
-    by None at = let bad : ⊥ =
-        false≢true (sym (ap (λ (o : Option Node). gives_at o c.out) at) ∙ t) in
-        absurd bad
-    by (Some (Source r)) at = other (Source r) at refl ∙ sym (ap is_object at)
-    by (Some (Flatten ins)) at = other (Flatten ins) at refl ∙ sym (ap is_object at)
-    by (Some (Pdo d f)) at =
-        let has : has_out c.out f ≡ true = sym (ap (λ (o : Option Node). gives_at o c.out) at)
-        ∙ t in
-        let row = row_of f (step_at_node g can c.node d f at) in
-        let i = at_out (λ l. node_at (parted_nodes g) (part_number g.next c.node l.at)
-        ≡ Some (Pdo (part_place g d) (sole l))) 0 c.out f row
-        (label_found g can c.node d f at) has in
-        ap (λ (o : Option Node). is_object (node_at (parted_nodes g) (part_at g.next c o).node)) at
-        ∙ ap (λ (x : ℕ). is_object (node_at (parted_nodes g) (part_number g.next c.node x))) i.at
-        ∙ ap is_object i.holds ∙ sym (ap is_object at)
-    by (Some (Gbk d o l m)) at = other (Gbk d o l m) at refl ∙ sym (ap is_object at)
-    by (Some (Barrier ins o l a)) at = other (Barrier ins o l a) at refl ∙ sym (ap is_object at)
+object_part = kind_part is_object (λ r x. object_mapped r (Some x)) (λ c d f h. refl)
 
 parts_objects : (es : List Entry) (k n : ℕ) (c : Place) (f : Forest)
     → AllByRecursion (λ (h : Entry). has_objects es h.node ≡ true) (parts k n c f)
@@ -111,10 +47,7 @@ node_objects : (g : Graph) → CanPart g → (n : ℕ) (x : Node) → node_at g.
     → has_objects g.nodes x ≡ true
     → AllByRecursion (λ (h : Entry). has_objects (parted_nodes g) h.node ≡ true)
     (parts_of g.next n (reread (part_place g) x))
-node_objects g can n (Source r) at h = (refl, tt)
-node_objects g can n (Flatten ins) at h = (refl, tt)
 node_objects g can n (Pdo c f) at h = parts_objects (parted_nodes g) g.next n (part_place g c) f
-node_objects g can n (Gbk c o l k) at h = (refl, tt)
 node_objects g can n (Barrier ins o l d) at h = (
   ap (takes_such d) (flags_reread (is_object_at (parted_nodes g)) (is_object_at g.nodes)
       (part_place g) ins (Each-weaker (IsThere g.nodes)
@@ -122,6 +55,7 @@ node_objects g can n (Barrier ins o l d) at h = (
       (λ c t. object_part g can c t) ins (there_node g can n (Barrier ins o l d) at))) ∙ h,
   tt,
 )
+node_objects g can n _ at h = (refl, tt)
 
 -- ---- all of it
 

@@ -8,7 +8,7 @@ use Rattle.exec_graph.specs.Forests.{Label, Forest, Bare, Grow, Branch, Twig, tw
 use Rattle.exec_graph.specs.Meaning.{is_out, has_out, AllDiffer, OutsDiffer}
 use Rattle.exec_graph.specs.declared.graph.Place.{Place}
 use Rattle.exec_graph.specs.declared.graph.Node.{Node}
-use Rattle.exec_graph.specs.declared.graph.Node.TheVariants.{Source, Flatten, Pdo, Gbk, Barrier}
+use Rattle.exec_graph.specs.declared.graph.Node.TheVariants.{Pdo}
 use Rattle.exec_graph.specs.declared.graph.Entry.{Entry}
 use Rattle.graph_laws.specs.Joining.{reread}
 use Rattle.graph_laws.specs.Single.{HasSteps, IsOneStep}
@@ -135,15 +135,12 @@ ats_of (Grow l kids rest) d = (
 
 pub parts_mod : (k n : ℕ) (x : Node) → n < k
     → AllByRecursion (λ h. h.number % k ≡ n) (parts_of k n x)
-parts_mod k n (Source r) h = (small_mod k n h, tt)
-parts_mod k n (Flatten ins) h = (small_mod k n h, tt)
 parts_mod k n (Pdo c f) h = by f
   where
     by : (f : Forest) → AllByRecursion (λ (h : Entry). h.number % k ≡ n) (parts k n c f)
     by Bare = tt
     by (Grow l kids rest) = (number_mod k n l.at h, by rest)
-parts_mod k n (Gbk c o l m) h = (small_mod k n h, tt)
-parts_mod k n (Barrier ins o l a) h = (small_mod k n h, tt)
+parts_mod k n _ h = (small_mod k n h, tt)
 
 -- What holds of each output's Pdo.
 pub parts_each : (P : Entry → Type 0) (k n : ℕ) (c : Place) (f : Forest)
@@ -176,11 +173,8 @@ row_differ k n i c (Grow l kids rest) h r = (
 
 differ_node : (k n : ℕ) (x : Node) → n < k → HasSteps IsOneStep x → (r : Place → Place)
     → AllDiffer (parts_of k n (reread r x))
-differ_node k n (Source s) h a r = (tt, tt)
-differ_node k n (Flatten ins) h a r = (tt, tt)
 differ_node k n (Pdo c f) h a r = row_differ k n 0 (r c) f h (row_of f a)
-differ_node k n (Gbk c o l m) h a r = (tt, tt)
-differ_node k n (Barrier ins o l d) h a r = (tt, tt)
+differ_node k n _ h a r = (tt, tt)
 
 differ_append : (xs ys : List Entry) → AllDiffer xs → AllDiffer ys
     → AllByRecursion (λ x. AllByRecursion (λ y. y.number ≡ x.number → ⊥) ys) xs

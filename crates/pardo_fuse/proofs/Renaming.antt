@@ -53,8 +53,6 @@ by_forest c h s (Grow l kids rest) ys =
 by_left : (b : Cut) (c : Place) (n : ℕ) (x : Node) (ys : List Name) (hs : List Entry)
     → by_name ys c ≡ moved_to hs c
     → by_name (left_names b n x ++ ys) c ≡ moved_to (kept_of b n x ++ hs) c
-by_left b c n (Source r) ys hs e = e
-by_left b c n (Flatten ins) ys hs e = e
 by_left b c n (Pdo d f) ys hs e = by (leads b n d)
   where
     by : (r : Bool) → by_name (cond r (names_from n 0 (forest_over b d)) [] ++ ys) c
@@ -64,8 +62,7 @@ by_left b c n (Pdo d f) ys hs e = by (leads b n d)
         ∙ ap (cond (has_out (code c) (forest_over b d))
         (place n (number_in 0 (forest_over b d) (code c)))) e
     by false = e
-by_left b c n (Gbk d o l k) ys hs e = e
-by_left b c n (Barrier ins o l a) ys hs e = e
+by_left b c n _ ys hs e = e
 
 names_place : (b : Cut) (es : List Entry) (c : Place)
     → by_name (flat_map (λ e. left_names b e.number e.node) es) c

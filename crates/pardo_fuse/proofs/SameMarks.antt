@@ -7,7 +7,7 @@ use Rattle.exec_graph.specs.Meaning.{node_at}
 use Rattle.exec_graph.specs.Readers.{among, readers, same_place}
 use Rattle.exec_graph.specs.declared.graph.Place.{Place}
 use Rattle.exec_graph.specs.declared.graph.Node.{Node}
-use Rattle.exec_graph.specs.declared.graph.Node.TheVariants.{Source, Flatten, Pdo, Gbk, Barrier}
+use Rattle.exec_graph.specs.declared.graph.Node.TheVariants.{Pdo}
 use Rattle.exec_graph.specs.declared.graph.Entry.{Entry}
 use Rattle.exec_graph.specs.declared.graph.Graph.{Graph}
 use Rattle.exec_graph.specs.declared.graph.Blocked.{Blocked}
@@ -50,9 +50,9 @@ module _ (g : Graph) (m n : List Place) (inner : Place → Bool) where
   turn_same t u e [] = refl
   turn_same t u e (k ∷ ns) = ap (t k) (turn_same t u e ns) ∙ e k (in_turn u ns)
 
-  over_same : (k : ℕ) → ((ns : List ℕ) → hanging left k ns ≡ hanging right k ns) → (j : ℕ)
-      (o : Option ℕ) → hanging left k (kids_on left j o) ≡ hanging right k (kids_on right j o)
-  over_same k e j o = ap (hanging left k) (kids_at j o) ∙ e (kids_on right j o)
+  over_same : {Y : Type 0} (f h : List ℕ → Y) → ((ns : List ℕ) → f ns ≡ h ns) → (j : ℕ)
+      (o : Option ℕ) → f (kids_on left j o) ≡ h (kids_on right j o)
+  over_same f h e j o = ap f (kids_at j o) ∙ e (kids_on right j o)
 
   hanging_same : (k : ℕ) (ns : List ℕ) → hanging left k ns ≡ hanging right k ns
   unfolding hanging
@@ -64,45 +64,35 @@ module _ (g : Graph) (m n : List Place) (inner : Place → Bool) where
       (step_in (node_at g.nodes j)) rest)
       (λ j rest. hung_same j (λ o. hanging left k (kids_on left j o))
       (λ o. hanging right k (kids_on right j o))
-      (λ i. λ o. over_same k (λ ms. hanging_same k ms) j o i) (step_in (node_at g.nodes j))
-      rest) ns
+      (λ i. λ o. over_same (hanging left k) (hanging right k) (λ ms. hanging_same k ms) j o i)
+      (step_in (node_at g.nodes j)) rest) ns
 
   kept_same : (k : ℕ) (x : Node) → kept_of left k x ≡ kept_of right k x
-  kept_same k (Source r) = refl
-  kept_same k (Flatten ins) = refl
   kept_same k (Pdo c f) =
       ap (λ (h : Forest). let e : Entry = record { number = k; node = Pdo c h } in
       cond (leads right k c) (e ∷ []) []) (hanging_same (length g.nodes) (readers g.nodes c))
-  kept_same k (Gbk c o l h) = refl
-  kept_same k (Barrier ins o l h) = refl
+  kept_same k _ = refl
 
   nodes_same : kept_nodes left ≡ kept_nodes right
   nodes_same = λ i. flat_map (λ (e : Entry). kept_same e.number e.node i) g.nodes
-
-  above_same : (k : ℕ) → ((ns : List ℕ) → members left k ns ≡ members right k ns) → (j : ℕ)
-      (o : Option ℕ) → members left k (kids_on left j o) ≡ members right k (kids_on right j o)
-  above_same k e j o = ap (members left k) (kids_at j o) ∙ e (kids_on right j o)
 
   members_same : (k : ℕ) (ns : List ℕ) → members left k ns ≡ members right k ns
   unfolding members
   members_same zero ns = refl
   members_same (suc k) ns =
       λ i. flat_map (λ (j : ℕ).
-      j ∷ over_outs (λ o. above_same k (λ ms. members_same k ms) j o i)
+      j ∷ over_outs (λ o. over_same (members left k) (members right k)
+      (λ ms. members_same k ms) j o i)
       (step_in (node_at g.nodes j))) ns
 
   least_same : (k : ℕ) → least_of left k ≡ least_of right k
   least_same k = by (node_at g.nodes k)
     where
       by : (o : Option Node) → least_at left k o ≡ least_at right k o
-      by None = refl
-      by (Some (Source r)) = refl
-      by (Some (Flatten ins)) = refl
       by (Some (Pdo c f)) =
           ap (λ (ms : List ℕ). cond (leads right k c) (least k ms) k)
           (members_same (length g.nodes) (readers g.nodes c))
-      by (Some (Gbk c o l h)) = refl
-      by (Some (Barrier ins o l h)) = refl
+      by _ = refl
 
 -- ---- lists that have the same collections
 

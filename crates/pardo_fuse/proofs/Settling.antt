@@ -1,11 +1,11 @@
 -- Nothing is left to fuse in the fused graph.
-use Rattle.std.proofs.Common.{◌≡◌, ℕ, Bool, true, false, cond, ◌||◌, ◌&&◌, List, [], ◌∷◌, map, Option, Some, None, refl, sym, ap, ◌∙◌}
+use Rattle.std.proofs.Common.{◌≡◌, ℕ, Bool, true, false, cond, ◌||◌, ◌&&◌, List, [], ◌∷◌, map, Option, Some, refl, sym, ap, ◌∙◌}
 use Rattle.std.proofs.lemmas.Bool.{eqb-true, false≢true}
 use Rattle.std.specs.List.{AllByRecursion}
 use Rattle.exec_graph.specs.Forests.{Forest, numbered}
 use Rattle.exec_graph.specs.declared.graph.Place.{Place}
 use Rattle.exec_graph.specs.declared.graph.Node.{Node}
-use Rattle.exec_graph.specs.declared.graph.Node.TheVariants.{Source, Flatten, Pdo, Gbk, Barrier}
+use Rattle.exec_graph.specs.declared.graph.Node.TheVariants.{Pdo}
 use Rattle.exec_graph.specs.declared.graph.Entry.{Entry}
 use Rattle.exec_graph.specs.Meaning.{node_at}
 use Rattle.exec_graph.proofs.Entries.{all_found}
@@ -41,8 +41,6 @@ Led b h = (c : Place) (f : Forest) → h.node ≡ Pdo c f → IsLeader b h.numbe
 
 left_led : (b : Cut) (n : ℕ) (x : Node) → node_at b.graph.nodes n ≡ Some x
     → AllByRecursion (Led b) (left_of b n x)
-left_led b n (Source r) at = (λ c f e. let bad : ⊥ = cc in absurd bad, tt)
-left_led b n (Flatten ins) at = (λ c f e. let bad : ⊥ = cc in absurd bad, tt)
 left_led b n (Pdo d g) at =
     all_cond (Led b) (leads b n d) (record { number = n; node = Pdo d (forest_of b d) })
     (λ i c f e.
@@ -56,8 +54,7 @@ left_led b n (Pdo d g) at =
       },
       sym q ∙ ap (forest_of b) p,
     ))
-left_led b n (Gbk d o l k) at = (λ c f e. let bad : ⊥ = cc in absurd bad, tt)
-left_led b n (Barrier ins o l a) at = (λ c f e. let bad : ⊥ = cc in absurd bad, tt)
+left_led b n _ at = (λ c f e. let bad : ⊥ = cc in absurd bad, tt)
 
 pub record IsLed (b : Cut) (n : ℕ) (d : Place) (h : Forest) : Type 0 where
   pub from : Place
@@ -69,12 +66,8 @@ pub record IsLed (b : Cut) (n : ℕ) (d : Place) (h : Forest) : Type 0 where
 done_pdo : (r : Place → Place) (o : Option Node) (d : Place) (h : Forest) → done_node r o
     ≡ Some (Pdo d h) → (c : Place) × (f : Forest) × (o ≡ Some (Pdo c f)) × (r c
     ≡ d) × (numbered 0 f ≡ h)
-done_pdo r None d h e = let bad : ⊥ = cc in absurd bad
-done_pdo r (Some (Source s)) d h e = let bad : ⊥ = cc in absurd bad
-done_pdo r (Some (Flatten ins)) d h e = let bad : ⊥ = cc in absurd bad
 done_pdo r (Some (Pdo c f)) d h e = (c, f, refl, cc, cc)
-done_pdo r (Some (Gbk c o l k)) d h e = let bad : ⊥ = cc in absurd bad
-done_pdo r (Some (Barrier ins o l a)) d h e = let bad : ⊥ = cc in absurd bad
+done_pdo r _ d h e = let bad : ⊥ = cc in absurd bad
 
 pub led : (b : Cut) → (can : CanFuse b) → (n : ℕ) (d : Place) (h : Forest)
     → node_at (nodes_now b) n ≡ Some (Pdo d h) → IsLed b n d h
@@ -135,12 +128,8 @@ done_pdos b n can h = ap is_pdo (at_finished (now b) (joined_nodes b) n)
     ∙ by (node_at (joined_nodes b) n) refl
   where
     by : (o : Option Node) → node_at (joined_nodes b) n ≡ o → is_pdo (done_node (now b) o) ≡ false
-    by None e = refl
-    by (Some (Source s)) e = refl
-    by (Some (Flatten ins)) e = refl
     by (Some (Pdo c f)) e = absurd (false≢true (sym h ∙ joined_pdos b n c f can e))
-    by (Some (Gbk c o l k)) e = refl
-    by (Some (Barrier ins o l a)) e = refl
+    by _ e = refl
 
 marked_by : (m : Bool) → cond m false true ≡ false → m ≡ true
 marked_by true h = refl

@@ -7,7 +7,7 @@ use Rattle.exec_graph.specs.declared.graph.Place.{Place}
 use Rattle.exec_graph.specs.declared.graph.Blocked.{Blocked}
 use Rattle.exec_graph.specs.declared.graph.Graph.{Graph}
 use Rattle.exec_graph.specs.declared.graph.Node.{Node}
-use Rattle.exec_graph.specs.declared.graph.Node.TheVariants.{Source, Flatten, Pdo, Gbk, Barrier}
+use Rattle.exec_graph.specs.declared.graph.Node.TheVariants.{Pdo}
 use Rattle.exec_graph.specs.declared.graph.Entry.{Entry}
 use Rattle.exec_graph.proofs.Solving.{each_found}
 use Rattle.graph_laws.specs.Kids.{kept_by}
@@ -65,8 +65,6 @@ lead_short b can m n c f h l =
 
 node_short : (a : Blocked) → IsFusible a → (n : ℕ) (x : Node) → node_at a.graph.nodes n ≡ Some x
     → LeadsShort (cut_of a) n x
-node_short a fu n (Source r) h = tt
-node_short a fu n (Flatten ins) h = tt
 node_short a fu n (Pdo c f) h = λ l.
     let g : Graph = a.graph in
     let can : CanPart g = can_part a fu in
@@ -79,8 +77,7 @@ node_short a fu n (Pdo c f) h = λ l.
     (forest_matches a fu c t) in
     let k = labels_kept (keeps_output p) (all_of p (part_place g c)) in
     omega arith
-node_short a fu n (Gbk c o l k) h = tt
-node_short a fu n (Barrier ins o l d) h = tt
+node_short a fu n _ h = tt
 
 pub all_short : (a : Blocked) → IsFusible a → AllShort (cut_of a) a.graph.nodes
 all_short a fu = Each-weaker (λ (e : Entry). node_at a.graph.nodes e.number ≡ Some e.node)

@@ -7,7 +7,7 @@ use Rattle.exec_graph.specs.Meaning.{node_at, reads, place, has_out, gives_at, I
 use Rattle.exec_graph.specs.Readers.{among, any_node, calls_on, collects, is_read, readers, same_place}
 use Rattle.exec_graph.specs.declared.graph.Place.{Place}
 use Rattle.exec_graph.specs.declared.graph.Node.{Node}
-use Rattle.exec_graph.specs.declared.graph.Node.TheVariants.{Source, Flatten, Pdo, Gbk, Barrier}
+use Rattle.exec_graph.specs.declared.graph.Node.TheVariants.{Pdo}
 use Rattle.exec_graph.specs.declared.graph.Entry.{Entry}
 use Rattle.exec_graph.specs.declared.graph.Graph.{Graph}
 use Rattle.exec_graph.specs.declared.graph.Blocked.{Blocked}
@@ -15,11 +15,11 @@ use Rattle.exec_graph.proofs.Rooted.{read_either}
 use Rattle.graph_laws.specs.Joining.{reread}
 use Rattle.graph_laws.specs.Single.{HasSteps, IsOneStep}
 use Rattle.pardo_fuse.specs.Readers.{cut_of, is_inner, is_kept, is_outer, is_pdo, is_unmarked}
-use Rattle.pardo_fuse.specs.Parting.{part_number, sole, parts, parts_of, part_at, part_place, parted_nodes, parted_graph, parted}
+use Rattle.pardo_fuse.specs.Parting.{part_number, parts, parts_of, part_place, parted_nodes, parted_graph, parted}
 use Rattle.pardo_fuse.specs.Fusing.{is_first, kids_on, leads, step_in}
 use Rattle.pardo_fuse.proofs.Finding.{any_append}
 use Rattle.pardo_fuse.proofs.Parting.{EachLabel, IsRow, all_parts, first_number, label_both, labels_has, row_of}
-use Rattle.pardo_fuse.proofs.Unparting.{CanPart, at_out, label_found, other_found, part_label, part_same, step_at_node}
+use Rattle.pardo_fuse.proofs.Unparting.{CanPart, kind_part, part_label, pdo_reread, step_at_node}
 use Rattle.pardo_fuse.proofs.Sites.{all_sites, among_by, any_alike, any_no, calls_by, calls_never, calls_same, collects_all, collects_by, collects_never, collects_same, found_all, missed, never, no_node, none_any, outputs_of, readers_none, readers_part, same_parts, Tells}
 
 -- ---- what is kept
@@ -41,12 +41,9 @@ parts_called q k n d (Grow l kids rest) z true e = rw e refl
 node_calls : (g : Graph) (q : Place) (t : Place → Bool) → Tells g q t → (n : ℕ) (x : Node)
     → HasSteps IsOneStep x → AllByRecursion (IsThere g.nodes) (reads x)
     → any_node (calls_on q) (parts_of g.next n (reread (part_place g) x)) ≡ calls_by t x
-node_calls g q t h n (Source r) s a = refl
-node_calls g q t h n (Flatten ins) s a = refl
 node_calls g q t h n (Pdo d f) s a =
     parts_called q g.next n (part_place g d) f (filled f s) (t d) (h d a.0)
-node_calls g q t h n (Gbk d o l k) s a = refl
-node_calls g q t h n (Barrier ins o l d) s a = refl
+node_calls g q t h n _ s a = refl
 
 calls_all : (g : Graph) (q : Place) (t : Place → Bool) → Tells g q t → (es : List Entry)
     → AllByRecursion (λ (e : Entry). HasSteps IsOneStep e.node) es
@@ -81,38 +78,9 @@ among_part g can c t ds a =
     among_by g (part_place g c) (same_place c) (λ d u. same_parts g can c d t u) ds a
 
 -- A Pdo's outputs are a Pdo's.
-pdo_by : (g : Graph) → CanPart g → (c : Place) → IsThere g.nodes c → (o : Option Node)
-    → node_at g.nodes c.node ≡ o
-    → is_pdo (node_at (parted_nodes g) (part_place g c).node) ≡ is_pdo o
-pdo_by g can c t None at = let bad : ⊥ =
-    false≢true (sym (ap (λ (o : Option Node). gives_at o c.out) at) ∙ t) in absurd bad
-pdo_by g can c t (Some (Source r)) at =
-    ap (λ (d : Place). is_pdo (node_at (parted_nodes g) d.node)) (part_same g c (Source r) at refl)
-    ∙ ap is_pdo (other_found g can c.node (Source r) at refl)
-pdo_by g can c t (Some (Flatten ins)) at =
-    ap (λ (d : Place). is_pdo (node_at (parted_nodes g) d.node))
-    (part_same g c (Flatten ins) at refl)
-    ∙ ap is_pdo (other_found g can c.node (Flatten ins) at refl)
-pdo_by g can c t (Some (Pdo d f)) at =
-    let has : has_out c.out f ≡ true = sym (ap (λ (o : Option Node). gives_at o c.out) at) ∙ t in
-    let row = row_of f (step_at_node g can c.node d f at) in
-    let i = at_out (λ l. node_at (parted_nodes g) (part_number g.next c.node l.at)
-    ≡ Some (Pdo (part_place g d) (sole l))) 0 c.out f row (label_found g can c.node d f at) has in
-    ap (λ (o : Option Node). is_pdo (node_at (parted_nodes g) (part_at g.next c o).node)) at
-    ∙ ap (λ (x : ℕ). is_pdo (node_at (parted_nodes g) (part_number g.next c.node x))) i.at
-    ∙ ap is_pdo i.holds
-pdo_by g can c t (Some (Gbk d o l k)) at =
-    ap (λ (d : Place). is_pdo (node_at (parted_nodes g) d.node))
-    (part_same g c (Gbk d o l k) at refl)
-    ∙ ap is_pdo (other_found g can c.node (Gbk d o l k) at refl)
-pdo_by g can c t (Some (Barrier ins o l a)) at =
-    ap (λ (d : Place). is_pdo (node_at (parted_nodes g) d.node))
-    (part_same g c (Barrier ins o l a) at refl)
-    ∙ ap is_pdo (other_found g can c.node (Barrier ins o l a) at refl)
-
 pub pdo_part : (g : Graph) → CanPart g → (c : Place) → IsThere g.nodes c
     → is_pdo (node_at (parted_nodes g) (part_place g c).node) ≡ is_pdo (node_at g.nodes c.node)
-pdo_part g can c t = pdo_by g can c t (node_at g.nodes c.node) refl
+pdo_part = kind_part is_pdo pdo_reread (λ c d f h. refl)
 
 -- The graph can be parted, and what is marked is there.
 pub record CanMark (a : Blocked) : Type 0 where
@@ -138,34 +106,33 @@ and_none : (b : Bool) → (b && false) ≡ false
 and_none true = refl
 and_none false = refl
 
+-- What is of no former collection is read by nothing.
+record IsUnread (g : Graph) (q : Place) : Type 0 where
+  collected : any_node (collects q) (parted_nodes g) ≡ false
+  told : among q (map (part_place g) g.outputs) ≡ false
+  called : any_node (calls_on q) (parted_nodes g) ≡ false
+
+unread : (g : Graph) → CanPart g → (q : Place) → Tells g q never → IsUnread g q
+unread g can q h = record {
+  collected = collects_all g q never h g.nodes can.ok.there
+      ∙ any_alike (collects_by never) no_node collects_never g.nodes ∙ any_no g.nodes;
+  told = among_by g q never h g.outputs can.ok.told ∙ none_any g.outputs;
+  called = calls_all g q never h g.nodes can.steps can.ok.there
+      ∙ any_alike (calls_by never) no_node calls_never g.nodes ∙ any_no g.nodes;
+}
+
 pub kept_none : (a : Blocked) → CanMark a → (q : Place) → Tells a.graph q never
     → is_kept (cut_of (parted a)) q ≡ false
 kept_none a m q h =
-    let g : Graph = a.graph in
-    let collected : any_node (collects q) (parted_nodes g) ≡ false =
-    collects_all g q never h g.nodes m.can.ok.there
-    ∙ any_alike (collects_by never) no_node collects_never g.nodes ∙ any_no g.nodes in
-    let told : among q (map (part_place g) g.outputs) ≡ false =
-    among_by g q never h g.outputs m.can.ok.told ∙ none_any g.outputs in
-    let called : any_node (calls_on q) (parted_nodes g) ≡ false =
-    calls_all g q never h g.nodes m.can.steps m.can.ok.there
-    ∙ any_alike (calls_by never) no_node calls_never g.nodes ∙ any_no g.nodes in
-    rw (collected, told, called) (and_none (is_outer (cut_of (parted a)) q))
+    let u = unread a.graph m.can q h in
+    rw (u.collected, u.told, u.called) (and_none (is_outer (cut_of (parted a)) q))
 
 -- Nor is it read.
 pub read_none : (a : Blocked) → CanMark a → (q : Place) → Tells a.graph q never
     → is_read (parted_graph a.graph) q ≡ false
 read_none a m q h =
-    let g : Graph = a.graph in
-    let collected : any_node (collects q) (parted_nodes g) ≡ false =
-    collects_all g q never h g.nodes m.can.ok.there
-    ∙ any_alike (collects_by never) no_node collects_never g.nodes ∙ any_no g.nodes in
-    let told : among q (map (part_place g) g.outputs) ≡ false =
-    among_by g q never h g.outputs m.can.ok.told ∙ none_any g.outputs in
-    let called : any_node (calls_on q) (parted_nodes g) ≡ false =
-    calls_all g q never h g.nodes m.can.steps m.can.ok.there
-    ∙ any_alike (calls_by never) no_node calls_never g.nodes ∙ any_no g.nodes in
-    sym (read_either (parted_graph g) q) ∙ rw (collected, told, called) refl
+    let u = unread a.graph m.can q h in
+    sym (read_either (parted_graph a.graph) q) ∙ rw (u.collected, u.told, u.called) refl
 
 -- ---- who leads
 
@@ -190,11 +157,8 @@ IsPdoAt g m = (c : Place) × (f : Forest) × (node_at g.nodes m ≡ Some (Pdo c 
 
 reader_pdo : (g : Graph) (d : Place) (m : ℕ) (x : Node) → node_at g.nodes m ≡ Some x
     → calls_on d x ≡ true → IsPdoAt g m
-reader_pdo g d m (Source r) at h = absurd (false≢true h)
-reader_pdo g d m (Flatten ins) at h = absurd (false≢true h)
 reader_pdo g d m (Pdo c f) at h = (c, f, at)
-reader_pdo g d m (Gbk c o l k) at h = absurd (false≢true h)
-reader_pdo g d m (Barrier ins o l a) at h = absurd (false≢true h)
+reader_pdo g d m _ at h = absurd (false≢true h)
 
 pub readers_pdos : (g : Graph) (d : Place) (es : List Entry)
     → AllByRecursion (λ (e : Entry). node_at g.nodes e.number ≡ Some e.node) es

@@ -82,11 +82,8 @@ missed g can n c f at = label_weaker (λ l. out_at l.at f ≡ l.out)
 -- ---- who reads
 
 abbrev pub calls_by : (Place → Bool) → Node → Bool
-calls_by t (Source r) = false
-calls_by t (Flatten ins) = false
 calls_by t (Pdo d f) = t d
-calls_by t (Gbk d o l k) = false
-calls_by t (Barrier ins o l a) = false
+calls_by t _ = false
 
 abbrev pub collects_by : (Place → Bool) → Node → Bool
 collects_by t (Source r) = false
@@ -146,7 +143,7 @@ collects_all g q t h (e ∷ es) a =
     (node_collects g q t h e.number e.node a.0)
     ∙ ap (λ (b : Bool). collects_by t e.node || b) (collects_all g q t h es a.1)
 
-parts_readers : (q : Place) (k n : ℕ) (d : Place) (f : Forest) (b : Bool) → same_place q d ≡ b
+pub parts_readers : (q : Place) (k n : ℕ) (d : Place) (f : Forest) (b : Bool) → same_place q d ≡ b
     → those (calls_on q) (parts k n d f) ≡ cond b (outputs_of k n f) []
 parts_readers q k n d Bare true e = refl
 parts_readers q k n d Bare false e = refl
@@ -163,14 +160,11 @@ node_readers : (g : Graph) (q : Place) (t : Place → Bool) → Tells g q t → 
     → node_at g.nodes n ≡ Some x → AllByRecursion (IsThere g.nodes) (reads x)
     → those (calls_on q) (parts_of g.next n (reread (part_place g) x))
     ≡ cond (calls_by t x) (sites g n) []
-node_readers g q t h n (Source r) at a = refl
-node_readers g q t h n (Flatten ins) at a = refl
 node_readers g q t h n (Pdo d f) at a =
     parts_readers q g.next n (part_place g d) f (same_place q (part_place g d)) refl
     ∙ ap (λ (b : Bool). cond b (outputs_of g.next n f) []) (h d a.0)
     ∙ ap (λ (o : Option Node). cond (t d) (outputs_of g.next n (step_in o)) []) (sym at)
-node_readers g q t h n (Gbk d o l k) at a = refl
-node_readers g q t h n (Barrier ins o l d) at a = refl
+node_readers g q t h n _ at a = refl
 
 readers_all : (g : Graph) (q : Place) (t : Place → Bool) → Tells g q t → (es : List Entry)
     → AllByRecursion (λ (e : Entry). node_at g.nodes e.number ≡ Some e.node) es
@@ -194,17 +188,11 @@ readers_all g q t h (e ∷ es) f a =
 
 pub calls_same : (c : Place) (x : Node) → calls_by (same_place c) x ≡ calls_on c x
 calls_same c (Source r) = refl
-calls_same c (Flatten ins) = refl
-calls_same c (Pdo d f) = refl
-calls_same c (Gbk d o l k) = refl
-calls_same c (Barrier ins o l a) = refl
+calls_same c _ = refl
 
 pub collects_same : (c : Place) (x : Node) → collects_by (same_place c) x ≡ collects c x
 collects_same c (Source r) = refl
-collects_same c (Flatten ins) = refl
-collects_same c (Pdo d f) = refl
-collects_same c (Gbk d o l k) = refl
-collects_same c (Barrier ins o l a) = refl
+collects_same c _ = refl
 
 abbrev pub never : Place → Bool
 never d = false
@@ -215,17 +203,12 @@ none_any (d ∷ ds) = none_any ds
 
 pub calls_never : (x : Node) → calls_by never x ≡ false
 calls_never (Source r) = refl
-calls_never (Flatten ins) = refl
-calls_never (Pdo d f) = refl
-calls_never (Gbk d o l k) = refl
-calls_never (Barrier ins o l a) = refl
+calls_never _ = refl
 
 pub collects_never : (x : Node) → collects_by never x ≡ false
-collects_never (Source r) = refl
 collects_never (Flatten ins) = none_any ins
-collects_never (Pdo d f) = refl
-collects_never (Gbk d o l k) = refl
 collects_never (Barrier ins o l a) = none_any ins
+collects_never _ = refl
 
 those_alike : (t u : Node → Bool) → ((x : Node) → t x ≡ u x) → (es : List Entry)
     → those t es ≡ those u es

@@ -5,6 +5,7 @@ use Rattle.std.specs.List.{AllByRecursion}
 use Rattle.flume_value.proofs.EachLemmas.{Each-weaker, Each-both}
 use Rattle.exec_graph.specs.Forests.{Label, Forest, Bare, Grow, new_out}
 use Rattle.exec_graph.specs.Meaning.{node_at, reads, is_out, has_out, gives, gives_at, place, AllDiffer, HasOuts, IsThere, IsSound, IsRankedBy}
+use Rattle.exec_graph.specs.Wellformed.{is_lifted}
 use Rattle.exec_graph.specs.declared.graph.Place.{Place}
 use Rattle.exec_graph.specs.declared.graph.Node.{Node}
 use Rattle.exec_graph.specs.declared.graph.Node.TheVariants.{Source, Flatten, Pdo, Gbk, Barrier}
@@ -63,11 +64,7 @@ at_out P i j (Grow l kids rest) r a h = by (is_out l.out j) refl
 -- ---- back to the former collection
 abbrev pub back_at : ℕ → Place → Option Node → Place
 back_at k c (Some (Pdo d f)) = place (c.node % k) (label_old (out_at (c.node / k) f))
-back_at k c (Some (Source r)) = c
-back_at k c (Some (Flatten ins)) = c
-back_at k c (Some (Gbk d o l m)) = c
-back_at k c None = c
-back_at k c (Some (Barrier ins o l a)) = c
+back_at k c _ = c
 
 abbrev pub back : Graph → Place → Place
 back g c = back_at g.next c (node_at g.nodes (c.node % g.next))
@@ -102,11 +99,8 @@ back_label g can n c f at = label_weaker (λ l. out_at l.at f ≡ l.out)
     (outs_at 0 f (row_of f (step_at_node g can n c f at)))
 
 back_other : (k : ℕ) (c : Place) (x : Node) → is_pdo (Some x) ≡ false → back_at k c (Some x) ≡ c
-back_other k c (Source r) h = refl
-back_other k c (Flatten ins) h = refl
 back_other k c (Pdo d f) h = absurd (false≢true (sym h))
-back_other k c (Gbk d o l m) h = refl
-back_other k c (Barrier ins o l a) h = refl
+back_other k c _ h = refl
 
 pub back_same : (g : Graph) → CanPart g → (n j : ℕ) (x : Node) → node_at g.nodes n ≡ Some x
     → is_pdo (Some x) ≡ false → back g (place n j) ≡ place n j
@@ -116,11 +110,8 @@ back_same g can n j x at h =
     ∙ back_other g.next (place n j) x h
 
 part_other : (k : ℕ) (c : Place) (x : Node) → is_pdo (Some x) ≡ false → part_at k c (Some x) ≡ c
-part_other k c (Source r) h = refl
-part_other k c (Flatten ins) h = refl
 part_other k c (Pdo d f) h = absurd (false≢true (sym h))
-part_other k c (Gbk d o l m) h = refl
-part_other k c (Barrier ins o l a) h = refl
+part_other k c _ h = refl
 
 pub part_same : (g : Graph) → (c : Place) (x : Node) → node_at g.nodes c.node ≡ Some x
     → is_pdo (Some x) ≡ false → part_place g c ≡ c
@@ -177,11 +168,8 @@ label_found g can n c f at =
 other_first : (P : Entry → Type 0) (k n : ℕ) (r : Place → Place) (x : Node)
     → is_pdo (Some x) ≡ false → AllByRecursion P (parts_of k n (reread r x))
     → P (record { number = n; node = reread r x })
-other_first P k n r (Source s) h a = a.0
-other_first P k n r (Flatten ins) h a = a.0
 other_first P k n r (Pdo c f) h a = absurd (false≢true (sym h))
-other_first P k n r (Gbk c o l m) h a = a.0
-other_first P k n r (Barrier ins o l d) h a = a.0
+other_first P k n r _ h a = a.0
 
 pub other_found : (g : Graph) → CanPart g → (n : ℕ) (x : Node) → node_at g.nodes n ≡ Some x
     → is_pdo (Some x) ≡ false → node_at (parted_nodes g) n ≡ Some (reread (part_place g) x)
@@ -200,10 +188,7 @@ pub record IsParted (g : Graph) (c : Place) : Type 0 where
 gives_same : (r : Place → Place) (x : Node) (j : ℕ) → is_pdo (Some x) ≡ false
     → gives (reread r x) j ≡ gives x j
 gives_same r (Source s) j h = refl
-gives_same r (Flatten ins) j h = refl
-gives_same r (Pdo c f) j h = refl
-gives_same r (Gbk c o l m) j h = refl
-gives_same r (Barrier ins o l a) j h = refl
+gives_same r _ j h = refl
 
 parted_pdo : (g : Graph) → CanPart g → (c d : Place) (f : Forest)
     → node_at g.nodes c.node ≡ Some (Pdo d f) → has_out c.out f ≡ true → IsParted g c
@@ -242,14 +227,44 @@ parted_other g can c x at t h =
 
 parted_by : (g : Graph) → CanPart g → (c : Place) (x : Node) → node_at g.nodes c.node ≡ Some x
     → gives x c.out ≡ true → IsParted g c
-parted_by g can c (Source r) at t = parted_other g can c (Source r) at t refl
-parted_by g can c (Flatten ins) at t = parted_other g can c (Flatten ins) at t refl
 parted_by g can c (Pdo d f) at t = parted_pdo g can c d f at t
-parted_by g can c (Gbk d o l m) at t = parted_other g can c (Gbk d o l m) at t refl
-parted_by g can c (Barrier ins o l a) at t = parted_other g can c (Barrier ins o l a) at t refl
+parted_by g can c x at t = parted_other g can c x at t refl
 
 pub is_parted : (g : Graph) → CanPart g → (c : Place) → IsThere g.nodes c → IsParted g c
 is_parted g can c t = let x = there_found g.nodes c t in parted_by g can c x.0 x.1 x.2
+
+-- ---- what kind a collection is of
+
+pub lifted_reread : (r : Place → Place) (z : Node)
+    → is_lifted (Some (reread r z)) ≡ is_lifted (Some z)
+lifted_reread r (Gbk c o l None) = refl
+lifted_reread r _ = refl
+
+pub pdo_reread : (r : Place → Place) (z : Node) → is_pdo (Some (reread r z)) ≡ is_pdo (Some z)
+pdo_reread r (Source s) = refl
+pdo_reread r _ = refl
+
+-- its part is of the same kind, where all Pdos are of one
+pub kind_part : (t : Option Node → Bool)
+    → ((r : Place → Place) (x : Node) → t (Some (reread r x)) ≡ t (Some x))
+    → ((c d : Place) (f h : Forest) → t (Some (Pdo c f)) ≡ t (Some (Pdo d h)))
+    → (g : Graph) → CanPart g → (c : Place) → IsThere g.nodes c
+    → t (node_at (parted_nodes g) (part_place g c).node) ≡ t (node_at g.nodes c.node)
+kind_part t same pdos g can c there =
+    let x = there_found g.nodes c there in by x.0 x.1 x.2
+  where
+    by : (x : Node) → node_at g.nodes c.node ≡ Some x → gives x c.out ≡ true
+        → t (node_at (parted_nodes g) (part_place g c).node) ≡ t (node_at g.nodes c.node)
+    by (Pdo d f) at has =
+        let i = at_out (λ l. node_at (parted_nodes g) (part_number g.next c.node l.at)
+        ≡ Some (Pdo (part_place g d) (sole l))) 0 c.out f
+        (row_of f (step_at_node g can c.node d f at)) (label_found g can c.node d f at) has in
+        ap (λ (o : Option Node). t (node_at (parted_nodes g) (part_at g.next c o).node)) at
+        ∙ ap (λ (n : ℕ). t (node_at (parted_nodes g) (part_number g.next c.node n))) i.at
+        ∙ ap t i.holds ∙ pdos (part_place g d) d (sole i.label) f ∙ sym (ap t at)
+    by x at has =
+        ap (λ (d : Place). t (node_at (parted_nodes g) d.node)) (part_same g c x at refl)
+        ∙ ap t (other_found g can c.node x at refl) ∙ same (part_place g) x ∙ sym (ap t at)
 
 -- ---- the parts are sound
 
@@ -274,13 +289,11 @@ parts_read : (Q : ℕ → Place → Type 0) (k n : ℕ) (x : Node) → n < k
     → ((m : ℕ) → m % k ≡ n → AllByRecursion (Q m) (reads x))
     → AllByRecursion (λ (h : Entry). AllByRecursion (Q h.number) (reads h.node)) (parts_of k n x)
 parts_read Q k n (Source r) h f = (tt, tt)
-parts_read Q k n (Flatten ins) h f = (f n (small_mod k n h), tt)
 parts_read Q k n (Pdo c g) h f =
     parts_each (λ (d : Entry). AllByRecursion (Q d.number) (reads d.node)) k n c g
     (each_label (λ l. Q (part_number k n l.at) c × (Unit {0}))
     (λ l. ((f (part_number k n l.at) (number_mod k n l.at h)).0, tt)) g)
-parts_read Q k n (Gbk c o l m) h f = (f n (small_mod k n h), tt)
-parts_read Q k n (Barrier ins o l a) h f = (f n (small_mod k n h), tt)
+parts_read Q k n _ h f = (f n (small_mod k n h), tt)
 
 there_node : (g : Graph) → CanPart g → (n : ℕ) (x : Node) → node_at g.nodes n ≡ Some x
     → AllByRecursion (IsThere g.nodes) (reads x)
@@ -289,12 +302,9 @@ there_node g can n x at = all_found (λ (e : Entry). AllByRecursion (IsThere g.n
 
 parts_outs : (k n : ℕ) (x : Node) (r : Place → Place)
     → AllByRecursion (λ (h : Entry). HasOuts h.node) (parts_of k n (reread r x))
-parts_outs k n (Source s) r = (tt, tt)
-parts_outs k n (Flatten ins) r = (tt, tt)
 parts_outs k n (Pdo c f) r = parts_each (λ (h : Entry). HasOuts h.node) k n (r c) f
     (each_label (λ l. HasOuts (Pdo (r c) (sole l))) (λ l. numbered_differ 0 (Grow l Bare Bare)) f)
-parts_outs k n (Gbk c o l m) r = (tt, tt)
-parts_outs k n (Barrier ins o l a) r = (tt, tt)
+parts_outs k n _ r = (tt, tt)
 
 -- A rank of the former nodes ranks their parts.
 pub parts_ranked : (g : Graph) → CanPart g → (r : ℕ → ℕ) → IsRankedBy r g.nodes → (n : ℕ) (x : Node)
@@ -363,12 +373,9 @@ first_is (Some j) = refl
 
 parts_single : (k n : ℕ) (x : Node) (r : Place → Place)
     → AllByRecursion (λ (h : Entry). HasOneStep h.node) (parts_of k n (reread r x))
-parts_single k n (Source s) r = (tt, tt)
-parts_single k n (Flatten ins) r = (tt, tt)
 parts_single k n (Pdo c f) r = parts_each (λ (h : Entry). HasOneStep h.node) k n (r c) f
     (each_label (λ l. HasOneStep (Pdo (r c) (sole l))) (λ l. first_is l.out) f)
-parts_single k n (Gbk c o l m) r = (tt, tt)
-parts_single k n (Barrier ins o l a) r = (tt, tt)
+parts_single k n _ r = (tt, tt)
 
 pub HasOneStep-parted : (g : Graph) → AllDiffer g.nodes
     → AllByRecursion (λ (h : Entry). HasOneStep h.node) (parted_nodes g)

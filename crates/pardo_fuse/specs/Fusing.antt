@@ -11,7 +11,7 @@ use Rattle.graph_laws.specs.Kids.{number_in}
 use Rattle.exec_graph.specs.Places.{code}
 use Rattle.exec_graph.specs.declared.graph.Place.{Place}
 use Rattle.exec_graph.specs.declared.graph.Node.{Node}
-use Rattle.exec_graph.specs.declared.graph.Node.TheVariants.{Source, Flatten, Pdo, Gbk, Barrier}
+use Rattle.exec_graph.specs.declared.graph.Node.TheVariants.{Pdo}
 use Rattle.exec_graph.specs.declared.graph.Entry.{Entry}
 use Rattle.exec_graph.specs.declared.graph.Blocked.{Blocked}
 use Rattle.pardo_fuse.specs.Readers.{Cut, cut_of, readers, is_inner, is_kept}
@@ -35,12 +35,8 @@ hung b n over (Grow l kids more) rest =
     Grow (with_out (named b n l.out) l) (over l.out) (hung b n over more rest)
 
 abbrev pub step_in : Option Node → Forest
-step_in None = Bare
-step_in (Some (Source r)) = Bare
-step_in (Some (Flatten ins)) = Bare
 step_in (Some (Pdo c f)) = f
-step_in (Some (Gbk c o l k)) = Bare
-step_in (Some (Barrier ins o l a)) = Bare
+step_in _ = Bare
 
 abbrev pub in_turn : (ℕ → Forest → Forest) → List ℕ → Forest
 in_turn tree [] = Bare
@@ -83,14 +79,9 @@ abbrev pub leads : Cut → ℕ → Place → Bool
 leads b n c = cond (is_inner b c) false (is_first n (readers b.graph.nodes c))
 
 abbrev pub kept_of : Cut → ℕ → Node → List Entry
-kept_of b n (Source r) = record { number = n; node = Source r } ∷ []
-kept_of b n (Flatten ins) = record { number = n; node = Flatten ins } ∷ []
-kept_of b n (Pdo c f) = cond (leads b n c) (record {
-  number = n;
-  node = Pdo c (forest_over b c);
-} ∷ []) []
-kept_of b n (Gbk c o l k) = record { number = n; node = Gbk c o l k } ∷ []
-kept_of b n (Barrier ins o l a) = record { number = n; node = Barrier ins o l a } ∷ []
+kept_of b n (Pdo c f) =
+    cond (leads b n c) (record { number = n; node = Pdo c (forest_over b c) } ∷ []) []
+kept_of b n x = record { number = n; node = x } ∷ []
 
 abbrev pub kept_nodes : Cut → List Entry
 kept_nodes b = flat_map (λ e. kept_of b e.number e.node) b.graph.nodes
@@ -98,18 +89,12 @@ kept_nodes b = flat_map (λ e. kept_of b e.number e.node) b.graph.nodes
 -- ---- outputs get the numbers from 0 in preorder, and what reads them reads these
 
 abbrev pub holds_out : ℕ → Node → Bool
-holds_out n (Source r) = false
-holds_out n (Flatten ins) = false
 holds_out n (Pdo c f) = has_out n f
-holds_out n (Gbk c o l k) = false
-holds_out n (Barrier ins o l a) = false
+holds_out n _ = false
 
 abbrev pub out_number : ℕ → Node → ℕ
-out_number n (Source r) = 0
-out_number n (Flatten ins) = 0
 out_number n (Pdo c f) = number_in 0 f n
-out_number n (Gbk c o l k) = 0
-out_number n (Barrier ins o l a) = 0
+out_number n _ = 0
 
 -- where a former collection is now
 abbrev pub moved_to : List Entry → Place → Place
@@ -118,28 +103,26 @@ moved_to (h ∷ hs) c = cond (holds_out (code c) h.node) (place h.number (out_nu
     (moved_to hs c)
 
 abbrev pub with_numbers : Node → Node
-with_numbers (Source r) = Source r
-with_numbers (Flatten ins) = Flatten ins
 with_numbers (Pdo c f) = Pdo c (numbered 0 f)
-with_numbers (Gbk c o l k) = Gbk c o l k
-with_numbers (Barrier ins o l a) = Barrier ins o l a
+with_numbers x = x
 
 abbrev pub finished : (Place → Place) → Entry → Entry
 finished r h = record { number = h.number; node = reread r (with_numbers h.node) }
 
-abbrev pub moved_all : List Entry → Cut → Blocked
-moved_all hs b =
+-- the nodes that are left, where former collections are elsewhere
+abbrev pub moved_by : (Place → Place) → List Entry → Cut → Blocked
+moved_by r hs b =
     record {
       graph = record {
-        nodes = map (finished (moved_to hs)) hs;
-        outputs = map (moved_to hs) b.graph.outputs;
+        nodes = map (finished r) hs;
+        outputs = map r b.graph.outputs;
         next = b.graph.next;
       };
-      marks = map (moved_to hs) b.marks;
+      marks = map r b.marks;
     }
 
 unfoldable pub joined_by : Cut → Blocked
-joined_by b = moved_all (kept_nodes b) b
+joined_by b = moved_by (moved_to (kept_nodes b)) (kept_nodes b) b
 
 -- what is fused, each Pdo under the number of the first that reads its collection
 abbrev pub fused_by_parents : Blocked → Blocked
@@ -171,12 +154,8 @@ least n (q ∷ qs) = least (lesser n q) qs
 
 -- the least number of those that become one with the node n, which leads them
 abbrev pub least_at : Cut → ℕ → Option Node → ℕ
-least_at b n None = n
-least_at b n (Some (Source r)) = n
-least_at b n (Some (Flatten ins)) = n
 least_at b n (Some (Pdo c f)) = cond (leads b n c) (least n (members_over b c)) n
-least_at b n (Some (Gbk c o l k)) = n
-least_at b n (Some (Barrier ins o l a)) = n
+least_at b n _ = n
 
 abbrev pub least_of : Cut → ℕ → ℕ
 least_of b n = least_at b n (node_at b.graph.nodes n)

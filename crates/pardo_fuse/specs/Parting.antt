@@ -1,12 +1,12 @@
 -- A graph with the outputs of its steps apart: each output of a Pdo's step is a Pdo of its own, a
 -- part, with a step of that one output. The parts read what the Pdo read, one after another.
-use Rattle.std.specs.Prelude.{ℕ, ◌+◌, ◌*◌, cond, List, [], ◌∷◌, map, Option, Some, None}
+use Rattle.std.specs.Prelude.{ℕ, ◌+◌, ◌*◌, cond, List, [], ◌∷◌, map, Option, Some}
 use Rattle.std.specs.List.{flat_map}
 use Rattle.exec_graph.specs.Forests.{Label, Forest, Bare, Grow, new_label}
 use Rattle.exec_graph.specs.Meaning.{place, is_out, node_at}
 use Rattle.exec_graph.specs.declared.graph.Place.{Place}
 use Rattle.exec_graph.specs.declared.graph.Node.{Node}
-use Rattle.exec_graph.specs.declared.graph.Node.TheVariants.{Source, Flatten, Pdo, Gbk, Barrier}
+use Rattle.exec_graph.specs.declared.graph.Node.TheVariants.{Pdo}
 use Rattle.exec_graph.specs.declared.graph.Entry.{Entry}
 use Rattle.exec_graph.specs.declared.graph.Graph.{Graph}
 use Rattle.exec_graph.specs.declared.graph.Blocked.{Blocked}
@@ -28,11 +28,8 @@ parts k n c (Grow l kids rest) =
 
 -- what a node becomes
 abbrev pub parts_of : ℕ → ℕ → Node → List Entry
-parts_of k n (Source r) = record { number = n; node = Source r } ∷ []
-parts_of k n (Flatten ins) = record { number = n; node = Flatten ins } ∷ []
 parts_of k n (Pdo c f) = parts k n c f
-parts_of k n (Gbk c o l m) = record { number = n; node = Gbk c o l m } ∷ []
-parts_of k n (Barrier ins o l a) = record { number = n; node = Barrier ins o l a } ∷ []
+parts_of k n x = record { number = n; node = x } ∷ []
 
 -- the place of the output of that number among those of its step
 abbrev pub at_of : ℕ → Forest → ℕ
@@ -42,11 +39,7 @@ at_of j (Grow l kids rest) = cond (is_out l.out j) l.at (at_of j rest)
 -- where a collection is then
 abbrev pub part_at : ℕ → Place → Option Node → Place
 part_at k c (Some (Pdo d f)) = place (part_number k c.node (at_of c.out f)) 0
-part_at k c (Some (Source r)) = c
-part_at k c (Some (Flatten ins)) = c
-part_at k c (Some (Gbk d o l m)) = c
-part_at k c None = c
-part_at k c (Some (Barrier ins o l a)) = c
+part_at k c _ = c
 
 abbrev pub part_place : Graph → Place → Place
 part_place g c = part_at g.next c (node_at g.nodes c.node)

@@ -1,20 +1,16 @@
 -- Who reads a collection, in a graph with marked collections.
-use Rattle.std.specs.Prelude.{◌&&◌, ◌||◌, Bool, true, false, cond, List, Option, Some, None}
+use Rattle.std.specs.Prelude.{◌&&◌, ◌||◌, Bool, true, false, cond, List, Option, Some}
 use Rattle.exec_graph.specs.Meaning.{node_at}
 use Rattle.exec_graph.specs.declared.graph.Place.{Place}
 use Rattle.exec_graph.specs.declared.graph.Node.{Node}
-use Rattle.exec_graph.specs.declared.graph.Node.TheVariants.{Source, Flatten, Pdo, Gbk, Barrier}
+use Rattle.exec_graph.specs.declared.graph.Node.TheVariants.{Pdo}
 use Rattle.exec_graph.specs.declared.graph.Graph.{Graph}
 use Rattle.exec_graph.specs.declared.graph.Blocked.{Blocked}
 pub use Rattle.exec_graph.specs.Readers.{same_place, among, calls_on, collects, any_node, those, readers}
 
 abbrev pub is_pdo : Option Node → Bool
-is_pdo None = false
-is_pdo (Some (Source r)) = false
-is_pdo (Some (Flatten ins)) = false
 is_pdo (Some (Pdo c f)) = true
-is_pdo (Some (Gbk c o l k)) = false
-is_pdo (Some (Barrier ins o l a)) = false
+is_pdo _ = false
 
 abbrev pub is_marked : Blocked → Place → Bool
 is_marked b c = among c b.marks

@@ -1,6 +1,6 @@
 -- Fusing where each Pdo has one step with one output: a collection is then told by its Pdo's number
 -- alone, and an output that is kept has this number for a name.
-use Rattle.std.specs.Prelude.{◌≡◌, ℕ, Bool, true, false, cond, List, [], ◌∷◌, map, length, Option, Some, None}
+use Rattle.std.specs.Prelude.{◌≡◌, ℕ, Bool, true, false, cond, List, [], ◌∷◌, length, Option, Some, None}
 use Rattle.std.proofs.Common.{zero, suc}
 use Rattle.std.specs.List.{AllByRecursion, flat_map}
 use Rattle.exec_graph.specs.Forests.{Label, Forest, Bare, Grow, with_out}
@@ -9,11 +9,11 @@ use Rattle.exec_graph.specs.Meaning.{IsSound, IsThere, place, node_at}
 use Rattle.graph_laws.specs.Kids.{kept_by, out_kept}
 use Rattle.exec_graph.specs.declared.graph.Place.{Place}
 use Rattle.exec_graph.specs.declared.graph.Node.{Node}
-use Rattle.exec_graph.specs.declared.graph.Node.TheVariants.{Source, Flatten, Pdo, Gbk, Barrier}
+use Rattle.exec_graph.specs.declared.graph.Node.TheVariants.{Pdo}
 use Rattle.exec_graph.specs.declared.graph.Entry.{Entry}
 use Rattle.exec_graph.specs.declared.graph.Blocked.{Blocked}
 use Rattle.pardo_fuse.specs.Readers.{Cut, readers, is_inner, is_kept, is_pdo}
-use Rattle.pardo_fuse.specs.Fusing.{finished, holds_out, leads, out_number}
+use Rattle.pardo_fuse.specs.Fusing.{holds_out, leads, moved_by, out_number}
 
 -- ---- what can be fused so
 
@@ -29,11 +29,8 @@ IsSingle (Grow l Bare (Grow m kids rest)) = ⊥
 IsSingle (Grow l (Grow m kids rest) others) = ⊥
 
 abbrev pub HasOneStep : Node → Type 0
-HasOneStep (Source r) = Unit {0}
-HasOneStep (Flatten ins) = Unit {0}
 HasOneStep (Pdo c f) = IsSingle f
-HasOneStep (Gbk c o l k) = Unit {0}
-HasOneStep (Barrier ins o l a) = Unit {0}
+HasOneStep _ = Unit {0}
 
 -- the graph is ok, and each Pdo has one step with one output
 pub record CanFuse (b : Cut) : Type 0 where
@@ -56,12 +53,8 @@ first_label Bare = blank
 first_label (Grow l kids rest) = l
 
 abbrev pub step_of : Option Node → Label
-step_of None = blank
-step_of (Some (Source r)) = blank
-step_of (Some (Flatten ins)) = blank
 step_of (Some (Pdo c f)) = first_label f
-step_of (Some (Gbk c o l k)) = blank
-step_of (Some (Barrier ins o l a)) = blank
+step_of _ = blank
 
 -- the step of the Pdo n, under the Pdo's number
 abbrev pub step_at : Cut → ℕ → Label
@@ -103,14 +96,9 @@ forest_of b c = kept_by (keeps_output b) (trees b (length b.graph.nodes) (reader
 -- ---- the nodes that are left
 
 abbrev pub left_of : Cut → ℕ → Node → List Entry
-left_of b n (Source r) = record { number = n; node = Source r } ∷ []
-left_of b n (Flatten ins) = record { number = n; node = Flatten ins } ∷ []
-left_of b n (Pdo c f) = cond (leads b n c) (record {
-  number = n;
-  node = Pdo c (forest_of b c);
-} ∷ []) []
-left_of b n (Gbk c o l k) = record { number = n; node = Gbk c o l k } ∷ []
-left_of b n (Barrier ins o l a) = record { number = n; node = Barrier ins o l a } ∷ []
+left_of b n (Pdo c f) =
+    cond (leads b n c) (record { number = n; node = Pdo c (forest_of b c) } ∷ []) []
+left_of b n x = record { number = n; node = x } ∷ []
 
 abbrev pub joined_nodes : Cut → List Entry
 joined_nodes b = flat_map (λ e. left_of b e.number e.node) b.graph.nodes
@@ -123,16 +111,5 @@ new_place [] c = c
 new_place (h ∷ hs) c = cond (holds_out c.node h.node) (place h.number (out_number c.node h.node))
     (new_place hs c)
 
-abbrev pub renamed : List Entry → Cut → Blocked
-renamed hs b =
-    record {
-      graph = record {
-        nodes = map (finished (new_place hs)) hs;
-        outputs = map (new_place hs) b.graph.outputs;
-        next = b.graph.next;
-      };
-      marks = map (new_place hs) b.marks;
-    }
-
 unfoldable pub fused_by : Cut → Blocked
-fused_by b = renamed (joined_nodes b) b
+fused_by b = moved_by (new_place (joined_nodes b)) (joined_nodes b) b

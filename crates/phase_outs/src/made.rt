@@ -48,9 +48,8 @@ pub(crate) fn made_outs<O: Drop>(
 {
     let mut made = PhaseOuts::new(alloc);
     for won in kept {
-        let task = won.task();
-        let attempt = won.attempt();
-        match won.into_out() {
+        let KeptOut { task, attempt, out } = won;
+        match out {
             Ok(out) => made.add(out, attempt)?,
             Err(trap) => return Err(PhaseStop::Trap { task, trap }),
         }

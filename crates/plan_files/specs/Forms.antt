@@ -48,40 +48,22 @@ number_of d = option_and_then small (option_and_then as_u64 (as_number d))
 abbrev pub numbers_of : Data → Option (List ℕ)
 numbers_of d = option_and_then (all_of number_of) (as_array d)
 
-abbrev pub merge_at : List ℕ → Option Rewrite
-merge_at (outer ∷ (inner ∷ [])) = Some (Merge outer inner)
-merge_at _ = None
-
-abbrev pub sink_at : List ℕ → Option Rewrite
-sink_at (flatten ∷ (pdo ∷ [])) = Some (Sink flatten pdo)
-sink_at _ = None
-
-abbrev pub lift_at : List ℕ → Option Rewrite
-lift_at (group ∷ []) = Some (Lift group)
-lift_at _ = None
-
-abbrev pub kid_at : List ℕ → Option Rewrite
-kid_at (keeper ∷ (output ∷ (reader ∷ []))) = Some (Kid keeper output reader)
-kid_at _ = None
-
-abbrev pub sibling_at : List ℕ → Option Rewrite
-sibling_at (keeper ∷ (other ∷ [])) = Some (Sibling keeper other)
-sibling_at _ = None
-
-abbrev pub mark_at : List ℕ → Option Rewrite
-mark_at (node ∷ (output ∷ [])) = Some (Mark node output)
-mark_at _ = None
+-- the rewrite of that name at two numbers
+abbrev pub rewrite_at_two : List ℕ → ℕ → ℕ → Option Rewrite
+rewrite_at_two op first second =
+    if bytes_eq op (codes "merge") then Some (Merge first second)
+    else if bytes_eq op (codes "sink") then Some (Sink first second)
+    else if bytes_eq op (codes "sibling") then Some (Sibling first second)
+    else if bytes_eq op (codes "mark") then Some (Mark first second)
+    else None
 
 -- the rewrite of that name at these numbers
 abbrev pub rewrite_at : List ℕ → List ℕ → Option Rewrite
-rewrite_at op at =
-    if bytes_eq op (codes "merge") then merge_at at
-    else if bytes_eq op (codes "sink") then sink_at at
-    else if bytes_eq op (codes "lift") then lift_at at
-    else if bytes_eq op (codes "kid") then kid_at at
-    else if bytes_eq op (codes "sibling") then sibling_at at
-    else if bytes_eq op (codes "mark") then mark_at at
-    else None
+rewrite_at op (group ∷ []) = if bytes_eq op (codes "lift") then Some (Lift group) else None
+rewrite_at op (first ∷ (second ∷ [])) = rewrite_at_two op first second
+rewrite_at op (keeper ∷ (output ∷ (reader ∷ []))) =
+    if bytes_eq op (codes "kid") then Some (Kid keeper output reader) else None
+rewrite_at op _ = None
 
 -- numbers and a name
 abbrev pub rewrite_from : Data × Data → Option Rewrite

@@ -7,7 +7,7 @@ ghost use Rattle.plan_files.specs.Reads.{Parses, IsReadAs};
 
 use crate::file::{FileFault, PlanFile};
 use crate::plan_text::text_in;
-use crate::rewrites::{count_in, rewrites_in};
+use crate::rewrites::{rewrites_in, two_in};
 use serde_json::{Error, Value};
 use std::alloc::{AllocError, Global};
 
@@ -55,12 +55,9 @@ fn formed(alloc: Global, value: &Value) -> Result<PlanFile, FileFault>
 fn file_in(alloc: Global, value: &Value) -> Result<Option<PlanFile>, AllocError>
     ensures { IfOk result (λ found. found ≡ spec.file_of (view value.now)) }
 {
-    if count_in(value) != 2 {
-        return Ok(None);
-    }
-    match (value.get("plan"), value.get("rewrites")) {
-        (Some(plan), Some(rewrites)) => file_from(alloc, plan, rewrites),
-        _ => Ok(None),
+    match two_in(value, "plan", "rewrites") {
+        Some((plan, rewrites)) => file_from(alloc, plan, rewrites),
+        None => Ok(None),
     }
 }
 

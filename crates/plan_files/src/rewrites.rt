@@ -1,5 +1,5 @@
 // Rewrites in JSON values.
-ghost use Rattle.std.specs.Prelude.{◌≡◌, IfOk, option_and_then};
+ghost use Rattle.std.specs.Prelude.{◌≡◌, ◌∷◌, [], IfOk, option_and_then};
 ghost use Rattle.std.specs.Option.{option_map};
 ghost use Rattle.serde_json.specs.Find.{as_object, as_str};
 ghost use Rattle.serde_json.specs.View.{items_view, view};
@@ -12,12 +12,30 @@ use serde_json::Value;
 use std::alloc::{AllocError, Global};
 
 /// How many members an object has.
-pub(crate) fn count_in(value: &Value) -> usize
+fn count_in(value: &Value) -> usize
     ensures { result ≡ spec.count_in (as_object (view value.now)) }
 {
     match value.as_object() {
         Some(members) => members.len(),
         None => 0,
+    }
+}
+
+/// The two members of those names of an object that has no other.
+pub(crate) fn two_in<'a>(
+    value: &'a Value,
+    first: &str,
+    second: &str,
+) -> Option<(&'a Value, &'a Value)>
+    ensures { option_map (λ both. (view both.0.now, view both.1.now)) result
+        ≡ spec.two_of first.now second.now (view value.now) }
+{
+    if count_in(value) != 2 {
+        return None;
+    }
+    match (value.get(first), value.get(second)) {
+        (Some(first), Some(second)) => Some((first, second)),
+        _ => None,
     }
 }
 
@@ -50,12 +68,9 @@ fn rewrites_among(alloc: Global, values: &[Value]) -> Result<Option<Pile<Rewrite
 fn rewrite_in(alloc: Global, value: &Value) -> Result<Option<Rewrite>, AllocError>
     ensures { IfOk result (λ found. found ≡ spec.rewrite_of (view value.now)) }
 {
-    if count_in(value) != 2 {
-        return Ok(None);
-    }
-    match (value.get("at"), value.get("op")) {
-        (Some(at), Some(op)) => rewrite_from(alloc, at, op),
-        _ => Ok(None),
+    match two_in(value, "at", "op") {
+        Some((at, op)) => rewrite_from(alloc, at, op),
+        None => Ok(None),
     }
 }
 
@@ -82,82 +97,56 @@ fn rewrite_with(op: &Value, at: &[u32]) -> Option<Rewrite>
 fn rewrite_at(name: &str, at: &[u32]) -> Option<Rewrite>
     ensures { result ≡ spec.rewrite_at name.now at.now }
 {
+    match at {
+        [group] => lift_at(name, *group),
+        [first, second] => rewrite_at_two(name, *first, *second),
+        [keeper, output, reader] => kid_at(name, *keeper, *output, *reader),
+        _ => None,
+    }
+}
+
+fn lift_at(name: &str, group: u32) -> Option<Rewrite>
+    ensures { result ≡ spec.rewrite_at name.now (group ∷ []) }
+{
     match name {
-        "merge" => merge_at(at),
-        "sink" => sink_at(at),
-        "lift" => lift_at(at),
-        "kid" => kid_at(at),
-        "sibling" => sibling_at(at),
-        "mark" => mark_at(at),
+        "lift" => Some(Rewrite::Lift { group }),
         _ => None,
     }
 }
 
-fn merge_at(at: &[u32]) -> Option<Rewrite>
-    ensures { result ≡ spec.merge_at at.now }
+/// The rewrite of that name at two numbers, if there is one.
+fn rewrite_at_two(name: &str, first: u32, second: u32) -> Option<Rewrite>
+    ensures { result ≡ spec.rewrite_at_two name.now first second }
 {
-    match at {
-        [outer, inner] => Some(Rewrite::Merge {
-            outer: *outer,
-            inner: *inner,
+    match name {
+        "merge" => Some(Rewrite::Merge {
+            outer: first,
+            inner: second,
+        }),
+        "sink" => Some(Rewrite::Sink {
+            flatten: first,
+            pdo: second,
+        }),
+        "sibling" => Some(Rewrite::Sibling {
+            keeper: first,
+            other: second,
+        }),
+        "mark" => Some(Rewrite::Mark {
+            node: first,
+            output: second,
         }),
         _ => None,
     }
 }
 
-fn sink_at(at: &[u32]) -> Option<Rewrite>
-    ensures { result ≡ spec.sink_at at.now }
+fn kid_at(name: &str, keeper: u32, output: u32, reader: u32) -> Option<Rewrite>
+    ensures { result ≡ spec.rewrite_at name.now (keeper ∷ (output ∷ (reader ∷ []))) }
 {
-    match at {
-        [flatten, pdo] => Some(Rewrite::Sink {
-            flatten: *flatten,
-            pdo: *pdo,
-        }),
-        _ => None,
-    }
-}
-
-fn lift_at(at: &[u32]) -> Option<Rewrite>
-    ensures { result ≡ spec.lift_at at.now }
-{
-    match at {
-        [group] => Some(Rewrite::Lift { group: *group }),
-        _ => None,
-    }
-}
-
-fn kid_at(at: &[u32]) -> Option<Rewrite>
-    ensures { result ≡ spec.kid_at at.now }
-{
-    match at {
-        [keeper, output, reader] => Some(Rewrite::Kid {
-            keeper: *keeper,
-            output: *output,
-            reader: *reader,
-        }),
-        _ => None,
-    }
-}
-
-fn sibling_at(at: &[u32]) -> Option<Rewrite>
-    ensures { result ≡ spec.sibling_at at.now }
-{
-    match at {
-        [keeper, other] => Some(Rewrite::Sibling {
-            keeper: *keeper,
-            other: *other,
-        }),
-        _ => None,
-    }
-}
-
-fn mark_at(at: &[u32]) -> Option<Rewrite>
-    ensures { result ≡ spec.mark_at at.now }
-{
-    match at {
-        [node, output] => Some(Rewrite::Mark {
-            node: *node,
-            output: *output,
+    match name {
+        "kid" => Some(Rewrite::Kid {
+            keeper,
+            output,
+            reader,
         }),
         _ => None,
     }

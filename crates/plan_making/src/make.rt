@@ -1,18 +1,17 @@
 // The plan of operations, made stage by stage.
 ghost use Rattle.std.specs.Prelude.{◌≡◌, ◌<◌, ◌^◌, ◌+◌, ◌++◌, length, map, IfOk, OnOk};
 ghost use Rattle.std.specs.List.{flat_map};
-ghost use Rattle.node_index.specs.Index.{IsIndex};
 ghost use Rattle.plan_laws.specs.Operations as spec;
 ghost use Rattle.plan_making.specs.Small.{IsSmall};
 ghost use Rattle.plan_making.specs.inner.Names.{name_in};
 
-use crate::names::{all_named, name_results};
+use crate::indexed::Nodes;
+use crate::names::{Names, all_named, name_results};
 use crate::results::gives_of;
 use crate::stages::stage_of;
 use exec_graph::{Entry, Graph, Node};
-use exec_plan::{Plan, PlanPlace, Stage};
+use exec_plan::{Plan, Stage};
 use flume_value::Pile;
-use node_index::index_of;
 use plan_laws::Operation;
 use std::alloc::{AllocError, Global};
 use std::collections::HashMap;
@@ -21,7 +20,7 @@ use std::collections::HashMap;
 #[derive(Drop)]
 struct Drawn {
     stages: Pile<Stage>,
-    names: HashMap<(u32, u32), PlanPlace>,
+    names: Names,
 }
 
 /// The plan of operations that are carried out one after another, over so many sources.
@@ -35,11 +34,10 @@ pub fn make_plan(
     ensures made { IfOk result (λ plan. plan
         ≡ spec.plan_of sources graph.now.nodes graph.now.outputs operations.now) }
 {
-    let nodes = graph.nodes.as_slice();
-    let index = index_of(alloc, nodes)?;
-    let Drawn { stages, names } = draw(alloc, nodes, &index, operations)?;
-    let outputs = all_named(alloc, nodes, &index, &names, graph.outputs.as_slice())?;
-    let objects = objects_of(alloc, nodes)?;
+    let nodes = Nodes::new(alloc, graph.nodes.as_slice())?;
+    let Drawn { stages, names } = draw(alloc, &nodes, operations)?;
+    let outputs = all_named(alloc, &nodes, &names, graph.outputs.as_slice())?;
+    let objects = objects_of(alloc, graph.nodes.as_slice())?;
     Ok(Plan {
         sources,
         objects,
@@ -49,14 +47,8 @@ pub fn make_plan(
 }
 
 /// The stages of the operations, in order.
-fn draw(
-    alloc: Global,
-    nodes: &[Entry],
-    index: &HashMap<u32, usize>,
-    operations: &[Operation],
-) -> Result<Drawn, AllocError>
-    requires index { IsIndex index.now nodes.now }
-    requires small { IsSmall nodes.now operations.now }
+fn draw(alloc: Global, nodes: &Nodes<'_>, operations: &[Operation]) -> Result<Drawn, AllocError>
+    requires { IsSmall nodes.now operations.now }
     ensures stages { IfOk result (λ drawn. drawn.stages
         ≡ spec.stages_of nodes.now 1 (spec.at_source nodes.now) operations.now) }
     ensures names { IfOk result (λ drawn. name_in nodes.now drawn.names
@@ -65,9 +57,9 @@ fn draw(
     let mut stages = Pile::new(alloc);
     let mut names = HashMap::new(alloc);
     for (i, operation) in operations.iter().enumerate() {
-        let stage = stage_of(alloc, nodes, index, &names, operation)?;
+        let stage = stage_of(alloc, nodes, &names, operation)?;
         stages.push(stage)?;
-        let gives = gives_of(alloc, nodes, index, operation)?;
+        let gives = gives_of(alloc, nodes, operation)?;
         name_results(i as u32 + 1, gives.as_slice(), &mut names)?;
     }
     Ok(Drawn { stages, names })

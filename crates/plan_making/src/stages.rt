@@ -1,7 +1,6 @@
 // The stage of an operation, with its input and output channels.
 ghost use Rattle.std.specs.Prelude.{◌≡◌, ◌<◌, ◌^◌, ◌++◌, length, map, IfOk, OnOk};
 ghost use Rattle.exec_graph.specs.Meaning.{node_at};
-ghost use Rattle.node_index.specs.Index.{IsIndex};
 ghost use Rattle.plan_laws.specs.Operations as operations;
 ghost use Rattle.plan_making.specs.Small.{IsClassNarrow, IsNarrow};
 ghost use Rattle.plan_making.specs.inner.Channels.{AreChannels};
@@ -9,15 +8,14 @@ ghost use Rattle.plan_making.specs.inner.Names.{name_in};
 
 use crate::channels::{Channels, channels_of, take_of};
 use crate::groups::push_groups;
-use crate::names::{all_named, named};
+use crate::indexed::Nodes;
+use crate::names::{Names, all_named, named};
 use crate::results::numbered_outs;
-use exec_graph::{Act, Does, Entry, Node, Output, Place, Roots, Step};
+use exec_graph::{Act, Does, Node, Output, Place, Roots, Step};
 use exec_plan::{InChannel, Mscr, OutChannel, PlanPlace, Stage};
 use flume_value::Pile;
-use node_index::find_node;
 use plan_laws::{Grouped, Key, Operation};
 use std::alloc::{AllocError, Global};
-use std::collections::HashMap;
 
 /// A node whose function is called for a script node, whose own bag it gives or not.
 #[derive(Clone, Copy)]
@@ -30,72 +28,33 @@ struct Call {
 /// The stage of an operation.
 pub(crate) fn stage_of(
     alloc: Global,
-    nodes: &[Entry],
-    index: &HashMap<u32, usize>,
-    names: &HashMap<(u32, u32), PlanPlace>,
+    nodes: &Nodes<'_>,
+    names: &Names,
     operation: &Operation,
 ) -> Result<Stage, AllocError>
-    requires index { IsIndex index.now nodes.now }
-    requires narrow { IsNarrow nodes.now operation.now }
+    requires { IsNarrow nodes.now operation.now }
     ensures { IfOk result (λ stage. stage
         ≡ operations.stage_of nodes.now (name_in nodes.now names.now) operation.now) }
 {
     match operation {
         Operation::Flat(number) => {
-            let takes = flat_takes(alloc, nodes, index, names, *number)?;
-            Ok(flat_stage(nodes, index, *number, takes))
+            let takes = all_named(alloc, nodes, names, nodes.flat_inputs(*number))?;
+            Ok(flat_stage(nodes, *number, takes))
         }
         Operation::Class(keys, groups, passes) => {
-            let mscr = class_stage(
-                alloc,
-                nodes,
-                index,
-                names,
-                keys.as_slice(),
-                groups.as_slice(),
-                passes.as_slice(),
-            )?;
-            Ok(Stage::Mscr(mscr))
+            let keys = keys.as_slice();
+            let inputs = inputs_of(alloc, nodes, names, keys)?;
+            let outputs = outputs_of(alloc, nodes, keys, groups.as_slice(), passes.as_slice())?;
+            Ok(Stage::Mscr(Mscr { inputs, outputs }))
         }
-    }
-}
-
-/// The collections that a Flatten takes.
-fn flat_takes(
-    alloc: Global,
-    nodes: &[Entry],
-    index: &HashMap<u32, usize>,
-    names: &HashMap<(u32, u32), PlanPlace>,
-    number: u32,
-) -> Result<Pile<PlanPlace>, AllocError>
-    requires { IsIndex index.now nodes.now }
-    ensures { IfOk result (λ takes. takes ≡ map (name_in nodes.now names.now)
-        (operations.flat_inputs (node_at nodes.now number))) }
-{
-    match find_node(nodes, index, number) {
-        Some(Node::Flatten(inputs)) => {
-            let takes = all_named(alloc, nodes, index, names, inputs.as_slice())?;
-            Ok(takes)
-        }
-        Some(Node::Barrier { inputs, .. }) => {
-            let takes = all_named(alloc, nodes, index, names, inputs.as_slice())?;
-            Ok(takes)
-        }
-        _ => Ok(Pile::new(alloc)),
     }
 }
 
 /// The stage of a Flatten, or of a barrier that gives an object.
-fn flat_stage(
-    nodes: &[Entry],
-    index: &HashMap<u32, usize>,
-    number: u32,
-    takes: Pile<PlanPlace>,
-) -> Stage
-    requires { IsIndex index.now nodes.now }
+fn flat_stage(nodes: &Nodes<'_>, number: u32, takes: Pile<PlanPlace>) -> Stage
     ensures { result ≡ operations.flat_stage (node_at nodes.now number) takes }
 {
-    match find_node(nodes, index, number) {
+    match nodes.find(number) {
         Some(
             Node::Barrier {
                 origin,
@@ -108,84 +67,41 @@ fn flat_stage(
     }
 }
 
-fn class_stage(
-    alloc: Global,
-    nodes: &[Entry],
-    index: &HashMap<u32, usize>,
-    names: &HashMap<(u32, u32), PlanPlace>,
-    keys: &[Key],
-    groups: &[Grouped],
-    passes: &[Place],
-) -> Result<Mscr, AllocError>
-    requires index { IsIndex index.now nodes.now }
-    requires narrow { IsClassNarrow nodes.now keys.now groups.now passes.now }
-    ensures inputs { IfOk result (λ mscr. mscr.inputs
-        ≡ map (operations.named (name_in nodes.now names.now))
-        (operations.channels_of nodes.now keys.now)) }
-    ensures outputs { IfOk result (λ mscr. mscr.outputs
-        ≡ operations.class_outs nodes.now keys.now groups.now passes.now) }
-{
-    let inputs = inputs_of(alloc, nodes, index, names, keys)?;
-    let outputs = outputs_of(alloc, nodes, index, keys, groups, passes)?;
-    Ok(Mscr { inputs, outputs })
-}
-
+/// The input channels of a class.
 fn inputs_of(
     alloc: Global,
-    nodes: &[Entry],
-    index: &HashMap<u32, usize>,
-    names: &HashMap<(u32, u32), PlanPlace>,
+    nodes: &Nodes<'_>,
+    names: &Names,
     keys: &[Key],
 ) -> Result<Pile<InChannel>, AllocError>
-    requires { IsIndex index.now nodes.now }
     ensures { IfOk result (λ inputs. inputs ≡ map (operations.named (name_in nodes.now names.now))
         (operations.channels_of nodes.now keys.now)) }
 {
     let mut inputs = Pile::new(alloc);
     for key in keys {
-        let channel = input_of(alloc, nodes, index, names, *key)?;
-        inputs.push(channel)?;
+        match key {
+            Key::Mapper(number) => inputs.push(mapper(alloc, nodes, names, *number)?)?,
+            Key::Whole(c) => inputs.push(whole(nodes, names, *c))?,
+        }
     }
     Ok(inputs)
-}
-
-fn input_of(
-    alloc: Global,
-    nodes: &[Entry],
-    index: &HashMap<u32, usize>,
-    names: &HashMap<(u32, u32), PlanPlace>,
-    key: Key,
-) -> Result<InChannel, AllocError>
-    requires { IsIndex index.now nodes.now }
-    ensures { IfOk result (λ channel. channel ≡ operations.named (name_in nodes.now names.now)
-        (operations.channel_of nodes.now key)) }
-{
-    match key {
-        Key::Mapper(number) => {
-            let channel = mapper(alloc, nodes, index, names, number)?;
-            Ok(channel)
-        }
-        Key::Whole(c) => Ok(whole(nodes, index, names, c)),
-    }
 }
 
 /// The channel of a mapper.
 fn mapper(
     alloc: Global,
-    nodes: &[Entry],
-    index: &HashMap<u32, usize>,
-    names: &HashMap<(u32, u32), PlanPlace>,
+    nodes: &Nodes<'_>,
+    names: &Names,
     number: u32,
 ) -> Result<InChannel, AllocError>
-    requires { IsIndex index.now nodes.now }
     ensures { IfOk result (λ channel. channel ≡ operations.named (name_in nodes.now names.now)
         (operations.pdo_channel number (node_at nodes.now number))) }
 {
-    match find_node(nodes, index, number) {
+    match nodes.find(number) {
         Some(Node::Pdo { input: c, roots }) => {
             let does = roots.copy(alloc)?;
             Ok(InChannel {
-                reads: named(nodes, index, names, *c),
+                reads: named(nodes, names, *c),
                 beside: None,
                 does: Some(does),
             })
@@ -203,12 +119,11 @@ fn mapper(
                 origin: *origin,
                 last: *last,
             };
-            let channel = side(alloc, nodes, index, names, call, *act, inputs.as_slice())?;
+            let channel = side(alloc, nodes, names, call, *act, inputs.as_slice())?;
             Ok(channel)
         }
         _ => Ok(whole(
             nodes,
-            index,
             names,
             Place {
                 node: number,
@@ -221,14 +136,12 @@ fn mapper(
 /// The channel of a step beside an object.
 fn side(
     alloc: Global,
-    nodes: &[Entry],
-    index: &HashMap<u32, usize>,
-    names: &HashMap<(u32, u32), PlanPlace>,
+    nodes: &Nodes<'_>,
+    names: &Names,
     call: Call,
     act: Act,
     inputs: &[Place],
 ) -> Result<InChannel, AllocError>
-    requires { IsIndex index.now nodes.now }
     ensures { IfOk result (λ channel. channel ≡ operations.named (name_in nodes.now names.now)
         (operations.side_channel call.node call.origin call.last act inputs.now)) }
 {
@@ -236,14 +149,14 @@ fn side(
         if inputs.len() == 2 {
             let does = one_call(alloc, call.origin, call.last, function)?;
             return Ok(InChannel {
-                reads: named(nodes, index, names, inputs[0]),
-                beside: Some(named(nodes, index, names, inputs[1])),
+                reads: named(nodes, names, inputs[0]),
+                beside: Some(named(nodes, names, inputs[1])),
                 does: Some(does),
             });
         }
     }
     let node = call.node;
-    Ok(whole(nodes, index, names, Place { node, out: 0 }))
+    Ok(whole(nodes, names, Place { node, out: 0 }))
 }
 
 /// One step that calls the function, and whose output is kept.
@@ -258,18 +171,12 @@ fn one_call(alloc: Global, origin: u32, last: bool, function: u32) -> Result<Roo
 }
 
 /// The channel of a collection as it is.
-fn whole(
-    nodes: &[Entry],
-    index: &HashMap<u32, usize>,
-    names: &HashMap<(u32, u32), PlanPlace>,
-    c: Place,
-) -> InChannel
-    requires { IsIndex index.now nodes.now }
+fn whole(nodes: &Nodes<'_>, names: &Names, c: Place) -> InChannel
     ensures { result
         ≡ operations.named (name_in nodes.now names.now) (operations.whole c) }
 {
     InChannel {
-        reads: named(nodes, index, names, c),
+        reads: named(nodes, names, c),
         beside: None,
         does: None,
     }
@@ -278,20 +185,18 @@ fn whole(
 /// The output channels of a class.
 fn outputs_of(
     alloc: Global,
-    nodes: &[Entry],
-    index: &HashMap<u32, usize>,
+    nodes: &Nodes<'_>,
     keys: &[Key],
     groups: &[Grouped],
     passes: &[Place],
 ) -> Result<Pile<OutChannel>, AllocError>
-    requires index { IsIndex index.now nodes.now }
-    requires narrow { IsClassNarrow nodes.now keys.now groups.now passes.now }
+    requires { IsClassNarrow nodes.now keys.now groups.now passes.now }
     ensures { IfOk result (λ outputs. outputs
         ≡ operations.class_outs nodes.now keys.now groups.now passes.now) }
 {
     let channels = channels_of(alloc, keys)?;
     let mut outputs = Vec::new(alloc);
-    push_groups(alloc, nodes, index, keys, &channels, groups, &mut outputs)?;
+    push_groups(alloc, nodes, keys, &channels, groups, &mut outputs)?;
     push_passes(keys, &channels, passes, &mut outputs)?;
     let outputs = numbered_outs(alloc, outputs)?;
     Ok(outputs)

@@ -4,7 +4,7 @@
 use Rattle.std.proofs.Common.{◌≡◌, ℕ, ◌⊎◌, Bool, true, false, List, [], ◌∷◌, ◌++◌, map, Option, Some, None, refl, sym, ap, ◌∙◌, subst, inl, inr}
 use Rattle.std.proofs.lemmas.Bool.{eqb-true, false≢true}
 use Rattle.std.specs.List.{AllByRecursion, flat_map}
-use Rattle.flume_value.proofs.EachLemmas.{Each-append, Each-weaker}
+use Rattle.flume_value.proofs.EachLemmas.{Each-append, Each-left, Each-right, Each-weaker}
 use Rattle.graph_laws.specs.of_exec_graph.Meaning.{node_at, place}
 use Rattle.graph_laws.specs.of_exec_graph.declared.graph.Place.{Place}
 use Rattle.graph_laws.specs.of_exec_graph.declared.graph.Node.{Node}
@@ -25,21 +25,11 @@ use Rattle.plan_rules.proofs.Runs.{class_works}
 abbrev pub Misses : List ℕ → ℕ → Type 0
 Misses ns n = AllByRecursion (λ k. n ≡ k → ⊥) ns
 
-each_left : {X : Type 0} (P : X → Type 0) (xs ys : List X) → AllByRecursion P (xs ++ ys)
-    → AllByRecursion P xs
-each_left P [] ys a = tt
-each_left P (x ∷ xs) ys a = (a.0, each_left P xs ys a.1)
-
-each_right : {X : Type 0} (P : X → Type 0) (xs ys : List X) → AllByRecursion P (xs ++ ys)
-    → AllByRecursion P ys
-each_right P [] ys a = a
-each_right P (x ∷ xs) ys a = each_right P xs ys a.1
-
 pub misses_left : (ns ks : List ℕ) (n : ℕ) → Misses (ns ++ ks) n → Misses ns n
-misses_left ns ks n a = each_left (λ k. n ≡ k → ⊥) ns ks a
+misses_left ns ks n a = Each-left (λ k. n ≡ k → ⊥) ns ks a
 
 misses_right : (ns ks : List ℕ) (n : ℕ) → Misses (ns ++ ks) n → Misses ks n
-misses_right ns ks n a = each_right (λ k. n ≡ k → ⊥) ns ks a
+misses_right ns ks n a = Each-right (λ k. n ≡ k → ⊥) ns ks a
 
 -- of numbers that differ, those in front are none of those behind
 differ_parts : (ns ks : List ℕ) → Differ (ns ++ ks) → AllByRecursion (Misses ks) ns
@@ -60,7 +50,7 @@ wholes_made : (es : List Entry) (made : List Place) (keys : List Key)
 wholes_made es made [] a = tt
 wholes_made es made (Mapper n ∷ ks) a =
     wholes_made es made ks
-    (each_right (λ c. IsIn c made) (reading_reads (channel_of es (Mapper n)))
+    (Each-right (λ c. IsIn c made) (reading_reads (channel_of es (Mapper n)))
     (flat_map reading_reads (channels_of es ks)) a)
 wholes_made es made (Whole c ∷ ks) a = (a.0, wholes_made es made ks a.1)
 
@@ -98,10 +88,10 @@ group_nodes : (P : ℕ → Type 0) (es : List Entry) (gs : List Grouped)
     → AllByRecursion (λ c. P c.node) (flat_map (group_gives es) gs)
 group_nodes P es [] a = tt
 group_nodes P es (g ∷ gs) a =
-    let here = each_left P (group_runs g) (flat_map group_runs gs) a in
+    let here = Each-left P (group_runs g) (flat_map group_runs gs) a in
     Each-append (λ c. P c.node) (group_gives es g) (flat_map (group_gives es) gs)
     (reduced_nodes P es g.gbk g.reducer here.0 here.1)
-    (group_nodes P es gs (each_right P (group_runs g) (flat_map group_runs gs) a))
+    (group_nodes P es gs (Each-right P (group_runs g) (flat_map group_runs gs) a))
 
 -- ---- one operation
 
@@ -147,8 +137,8 @@ gives_fresh es made (Class keys gs cs) later r h a f =
     let ms : List ℕ = flat_map key_runs keys in
     let ns : List ℕ = flat_map group_runs gs in
     Each-append (λ c. Misses later c.node) (flat_map (group_gives es) gs) cs
-    (group_nodes (Misses later) es gs (each_right (Misses later) ms ns a))
-    (pass_nodes (Misses later) es keys cs (each_left (Misses later) ms ns a)
+    (group_nodes (Misses later) es gs (Each-right (Misses later) ms ns a))
+    (pass_nodes (Misses later) es keys cs (Each-left (Misses later) ms ns a)
     (wholes_fresh es made keys later r f) h.2)
 
 -- ---- all operations
@@ -175,28 +165,16 @@ all_apart es made (o ∷ os) r h d f =
 -- ---- sources, which no operation carries out
 
 abbrev is_source : Option Node → Bool
-is_source None = false
 is_source (Some (Source r)) = true
-is_source (Some (Flatten ins)) = false
-is_source (Some (Pdo c f)) = false
-is_source (Some (Gbk c o l k)) = false
-is_source (Some (Barrier ins o l a)) = false
+is_source _ = false
 
 work_is_none : (o : Option Node) → works_at o ≡ true → is_source o ≡ false
-work_is_none None h = refl
 work_is_none (Some (Source r)) h = absurd (false≢true h)
-work_is_none (Some (Flatten ins)) h = refl
-work_is_none (Some (Pdo c f)) h = refl
-work_is_none (Some (Gbk c o l k)) h = refl
-work_is_none (Some (Barrier ins o l a)) h = refl
+work_is_none _ h = refl
 
 flat_is_none : (o : Option Node) → IsFlat o → is_source o ≡ false
-flat_is_none None h = refl
 flat_is_none (Some (Source r)) h = absurd h
-flat_is_none (Some (Flatten ins)) h = refl
-flat_is_none (Some (Pdo c f)) h = refl
-flat_is_none (Some (Gbk c o l k)) h = refl
-flat_is_none (Some (Barrier ins o l a)) h = refl
+flat_is_none _ h = refl
 
 runs_are_none : (es : List Entry) (os : List Operation) → AllByRecursion (IsHonest es) os
     → AllByRecursion (λ k. is_source (node_at es k) ≡ false) (flat_map runs os)

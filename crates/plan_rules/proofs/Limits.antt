@@ -26,12 +26,8 @@ use Rattle.plan_rules.proofs.Widths.{length_map}
 
 gbk_weighs : (es : List Entry) (keys : List Key) (o : Option Node) → TakesInputs es keys o
     → outs_count o ≡ 1
-gbk_weighs es keys None t = absurd t
-gbk_weighs es keys (Some (Source r)) t = absurd t
-gbk_weighs es keys (Some (Flatten ins)) t = absurd t
-gbk_weighs es keys (Some (Pdo c f)) t = absurd t
 gbk_weighs es keys (Some (Gbk c o l k)) t = refl
-gbk_weighs es keys (Some (Barrier ins o l a)) t = absurd t
+gbk_weighs es keys _ t = absurd t
 
 outs_weigh : (o : Option Node) → length (outs_at o) ≤ outs_count o
 outs_weigh None = omega arith

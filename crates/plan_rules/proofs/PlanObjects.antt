@@ -3,7 +3,7 @@ use Rattle.std.proofs.Common.{◌≡◌, ℕ, ◌+◌, ◌-◌, ◌⊎◌, Bool,
 use Rattle.std.specs.List.{AllByRecursion as Each, flat_map, list_all, slice_get}
 use Rattle.std.proofs.lemmas.Bool.{eqb-true}
 use Rattle.flume_value.proofs.BoolLemmas.{and_both}
-use Rattle.flume_value.proofs.EachLemmas.{Each-weaker}
+use Rattle.flume_value.proofs.EachLemmas.{Each-append, Each-left, Each-right, Each-weaker}
 use Rattle.graph_laws.specs.of_exec_graph.Meaning.{node_at, place}
 use Rattle.graph_laws.specs.of_exec_graph.Readers.{same_place}
 use Rattle.graph_laws.specs.of_exec_graph.Objects.{gives_object, takes_such}
@@ -50,12 +50,9 @@ act_object (Singleton k) h = refl
 
 flat_object : (o : Option Node) (takes : List PlanPlace) → IsFlat o
     → is_operate (Some (flat_stage o takes)) ≡ is_object o
-flat_object None takes h = absurd h
-flat_object (Some (Source s)) takes h = absurd h
 flat_object (Some (Flatten ins)) takes h = refl
-flat_object (Some (Pdo c f)) takes h = absurd h
-flat_object (Some (Gbk c o l k)) takes h = absurd h
 flat_object (Some (Barrier ins o l a)) takes h = sym (act_object a h)
+flat_object _ takes h = absurd h
 
 stage_object : (es : List Entry) (f : Place → PlanPlace) (o : Operation) → IsHonest es o
     → is_operate (Some (stage_of es f o)) ≡ gives_objects es o
@@ -68,21 +65,13 @@ map_outs es r [] b h = tt
 map_outs es r (j ∷ js) b h = (h, map_outs es r js b h)
 
 reads_object : (d : Place) (o : Option Node) → IsPdoOn d o → is_object o ≡ false
-reads_object d None h = absurd h
-reads_object d (Some (Source s)) h = absurd h
-reads_object d (Some (Flatten ins)) h = absurd h
 reads_object d (Some (Pdo c f)) h = refl
-reads_object d (Some (Gbk c o l k)) h = absurd h
-reads_object d (Some (Barrier ins o l a)) h = absurd h
+reads_object d _ h = absurd h
 
 takes_object : (es : List Entry) (keys : List Key) (o : Option Node) → TakesInputs es keys o
     → is_object o ≡ false
-takes_object es keys None h = absurd h
-takes_object es keys (Some (Source s)) h = absurd h
-takes_object es keys (Some (Flatten ins)) h = absurd h
-takes_object es keys (Some (Pdo c f)) h = absurd h
 takes_object es keys (Some (Gbk c o l k)) h = refl
-takes_object es keys (Some (Barrier ins o l a)) h = absurd h
+takes_object es keys _ h = absurd h
 
 reduced_objects : (es : List Entry) (n : ℕ) (r : Option ℕ) → is_object (node_at es n) ≡ false
     → IsReducer es n r → Each (λ c. is_object_at es c ≡ false) (reduced es n r)
@@ -90,17 +79,12 @@ reduced_objects es n None g h = (g, tt)
 reduced_objects es n (Some r) g h =
     map_outs es r (outs_at (node_at es r)) false (reads_object (place n 0) (node_at es r) h)
 
-append_each : {X : Type 0} (P : X → Type 0) (xs ys : List X) → Each P xs → Each P ys
-    → Each P (xs ++ ys)
-append_each P [] ys a b = b
-append_each P (x ∷ xs) ys a b = (a.0, append_each P xs ys a.1 b)
-
 groups_objects : (es : List Entry) (keys : List Key) (gs : List Grouped)
     → Each (IsGroupedOk es keys) gs
     → Each (λ c. is_object_at es c ≡ false) (flat_map (group_gives es) gs)
 groups_objects es keys [] h = tt
 groups_objects es keys (g ∷ gs) h =
-    append_each (λ c. is_object_at es c ≡ false) (group_gives es g) (flat_map (group_gives es) gs)
+    Each-append (λ c. is_object_at es c ≡ false) (group_gives es g) (flat_map (group_gives es) gs)
     (reduced_objects es g.gbk g.reducer (takes_object es keys (node_at es g.gbk) h.0.0) h.0.1)
     (groups_objects es keys gs h.1)
 
@@ -108,7 +92,7 @@ given_objects : (es : List Entry) (o : Operation) → IsHonest es o → PassesCo
     → Each (λ c. is_object_at es c ≡ gives_objects es o) (gives_of es o)
 given_objects es (Flat n) h p = (refl, tt)
 given_objects es (Class keys gs cs) h p =
-    append_each (λ c. is_object_at es c ≡ false) (flat_map (group_gives es) gs) cs
+    Each-append (λ c. is_object_at es c ≡ false) (flat_map (group_gives es) gs) cs
     (groups_objects es keys gs h.1) p
 
 -- ---- where collections are named
@@ -190,14 +174,6 @@ pdo_object objects all es f n (Some (Gbk c o l k)) h g a = absurd h
 pdo_object objects all es f n (Some (Barrier ins o l d)) h g a =
     side_object objects all es f n o l d ins h (g (Barrier ins o l d) refl) a
 
-left_each : {X : Type 0} (P : X → Type 0) (xs ys : List X) → Each P (xs ++ ys) → Each P xs
-left_each P [] ys a = tt
-left_each P (x ∷ xs) ys a = (a.0, left_each P xs ys a.1)
-
-right_each : {X : Type 0} (P : X → Type 0) (xs ys : List X) → Each P (xs ++ ys) → Each P ys
-right_each P [] ys a = a
-right_each P (x ∷ xs) ys a = right_each P xs ys a.1
-
 channels_have : (objects : List ℕ) (all : List Stage) (es : List Entry) (f : Place → PlanPlace)
     (ks : List Key) → Each (IsKeyOk es) ks
     → ((n : ℕ) (x : Node) → node_at es n ≡ Some x → has_objects es x ≡ true)
@@ -216,8 +192,8 @@ channels_have objects all es f (Mapper n ∷ ks) ok g a =
     (list_all (λ (c : InChannel). has_object objects all c.beside)
     (map (named f) (channels_of es ks)))
     (pdo_object objects all es f n (node_at es n) ok.0 (λ x e. g n x e)
-    (left_each P (reading_reads r) more a))
-    (channels_have objects all es f ks ok.1 g (right_each P (reading_reads r) more a))
+    (Each-left P (reading_reads r) more a))
+    (channels_have objects all es f ks ok.1 g (Each-right P (reading_reads r) more a))
 
 stage_reads_objects : (objects : List ℕ) (all : List Stage) (es : List Entry)
     (f : Place → PlanPlace) (o : Operation) → IsHonest es o

@@ -24,29 +24,18 @@ abbrev pub Works : List Entry → ℕ → Type 0
 Works es n = works_at (node_at es n) ≡ true
 
 pdo_works : (o : Option Node) → IsPdo o → works_at o ≡ true
-pdo_works None h = absurd h
-pdo_works (Some (Source r)) h = absurd h
-pdo_works (Some (Flatten ins)) h = absurd h
 pdo_works (Some (Pdo c f)) h = refl
-pdo_works (Some (Gbk c o l k)) h = absurd h
 pdo_works (Some (Barrier ins o l a)) h = refl
+pdo_works _ h = absurd h
 
 gbk_works : (es : List Entry) (keys : List Key) (o : Option Node) → TakesInputs es keys o
     → works_at o ≡ true
-gbk_works es keys None h = absurd h
-gbk_works es keys (Some (Source r)) h = absurd h
-gbk_works es keys (Some (Flatten ins)) h = absurd h
-gbk_works es keys (Some (Pdo c f)) h = absurd h
 gbk_works es keys (Some (Gbk c o l k)) h = refl
-gbk_works es keys (Some (Barrier ins o l a)) h = absurd h
+gbk_works es keys _ h = absurd h
 
 reads_works : (d : Place) (o : Option Node) → IsPdoOn d o → works_at o ≡ true
-reads_works d None h = absurd h
-reads_works d (Some (Source r)) h = absurd h
-reads_works d (Some (Flatten ins)) h = absurd h
 reads_works d (Some (Pdo c f)) h = refl
-reads_works d (Some (Gbk c o l k)) h = absurd h
-reads_works d (Some (Barrier ins o l a)) h = absurd h
+reads_works d _ h = absurd h
 
 keys_work : (es : List Entry) (ks : List Key) → AllByRecursion (IsKeyOk es) ks
     → AllByRecursion (Works es) (flat_map key_runs ks)

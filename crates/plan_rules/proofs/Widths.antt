@@ -1,7 +1,6 @@
 -- A stage gives as many results as its operation gives collections.
 use Rattle.std.proofs.Common.{◌≡◌, ℕ, ◌+◌, List, [], ◌∷◌, ◌++◌, map, length, Option, Some, None, refl, sym, ◌∙◌, arith, length-append}
 use Rattle.std.specs.List.{AllByRecursion, flat_map}
-use Rattle.graph_laws.specs.of_exec_graph.Forests.{Forest, Bare, Grow}
 use Rattle.graph_laws.specs.of_exec_graph.Meaning.{node_at, place}
 use Rattle.graph_laws.specs.of_exec_graph.declared.graph.Place.{Place}
 use Rattle.graph_laws.specs.of_exec_graph.declared.graph.Node.{Node}
@@ -10,31 +9,14 @@ use Rattle.graph_laws.specs.of_exec_graph.declared.graph.Entry.{Entry}
 use Rattle.plan_making.specs.of_exec_plan.declared.plan.PlanPlace.{PlanPlace}
 use Rattle.plan_making.specs.of_exec_plan.declared.plan.OutChannel.{OutChannel}
 use Rattle.plan_making.specs.of_exec_plan.declared.plan.OutChannel.TheVariants.{Group, Pass}
-use Rattle.plan_making.specs.of_exec_plan.Channels.{kept_out, outs_of}
-use Rattle.plan_making.specs.of_exec_plan.Wellformed.{kept, out_count, outs, stage_width, width, widths}
+use Rattle.plan_making.specs.of_exec_plan.Channels.{outs_of}
+use Rattle.plan_making.specs.of_exec_plan.Wellformed.{outs, stage_width, width, widths}
 use Rattle.plan_laws.specs.declared.operations.Key.{Key}
 use Rattle.plan_laws.specs.declared.operations.Grouped.{Grouped}
 use Rattle.plan_laws.specs.declared.operations.Operation.{Operation}
 use Rattle.plan_laws.specs.declared.operations.Operation.TheVariants.{Flat, Class}
 use Rattle.plan_laws.specs.Operations.{flat_inputs, flat_stage, IsGroupedOk, IsHonest, IsReducer, IsPdoOn, TakesInputs, forest_at, gives_of, group_at, group_gives, group_of, numbered_out, numbered_outs, outs_at, pass_of, reduced, reducer_of, stage_of}
-
-pub length_map : {X Y : Type 0} (f : X → Y) (xs : List X) → length (map f xs) ≡ length xs
-length_map f [] = refl
-length_map f (x ∷ xs) = let i = length_map f xs in omega arith
-
-kept_length : (o : Option ℕ) → length (kept_out o) ≡ out_count o
-kept_length None = refl
-kept_length (Some j) = refl
-
-pub outs_length : (f : Forest) → length (outs_of f) ≡ kept f
-outs_length Bare = refl
-outs_length (Grow l kids rest) =
-    let a = outs_length kids in
-    let b = outs_length rest in
-    let c = length-append (kept_out l.out) (outs_of kids ++ outs_of rest) in
-    let d = length-append (outs_of kids) (outs_of rest) in
-    let e = kept_length l.out in
-    omega arith
+pub use Rattle.plan_making.proofs.of_exec_plan.Meeting.{map-length as length_map, outs_counted as outs_length}
 
 numbered_width : (n : ℕ) (o : OutChannel) → width (numbered_out n o) ≡ width o
 numbered_width n (Group g) = refl
@@ -48,12 +30,8 @@ numbered_widths n (o ∷ os) =
 
 forest_outs : (n r : ℕ) (o : Option Node) → IsPdoOn (place n 0) o
     → outs (forest_at o) ≡ length (map (place r) (outs_at o))
-forest_outs n r None h = absurd h
-forest_outs n r (Some (Source s)) h = absurd h
-forest_outs n r (Some (Flatten ins)) h = absurd h
-forest_outs n r (Some (Gbk c x l k)) h = absurd h
-forest_outs n r (Some (Barrier ins o l a)) h = absurd h
 forest_outs n r (Some (Pdo c f)) h = sym (length_map (place r) (outs_of f) ∙ outs_length f)
+forest_outs n r _ h = absurd h
 
 reducer_outs : (es : List Entry) (n : ℕ) (r : Option ℕ) → IsReducer es n r
     → outs (reducer_of es r) ≡ length (reduced es n r)
@@ -63,12 +41,8 @@ reducer_outs es n (Some r) h = forest_outs n r (node_at es r) h
 pub group_width : (es : List Entry) (keys : List Key) (n : ℕ) (r : Option ℕ) (o : Option Node)
     → TakesInputs es keys o → IsReducer es n r
     → width (Group (group_at es keys r o)) ≡ length (reduced es n r)
-group_width es keys n r None t h = absurd t
-group_width es keys n r (Some (Source s)) t h = absurd t
-group_width es keys n r (Some (Flatten ins)) t h = absurd t
-group_width es keys n r (Some (Pdo c f)) t h = absurd t
 group_width es keys n r (Some (Gbk c x l k)) t h = reducer_outs es n r h
-group_width es keys n r (Some (Barrier ins o l a)) t h = absurd t
+group_width es keys n r _ t h = absurd t
 
 pub class_widths : (es : List Entry) (keys : List Key) (gs : List Grouped) (cs : List Place)
     → AllByRecursion (IsGroupedOk es keys) gs

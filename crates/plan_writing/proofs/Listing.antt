@@ -1,5 +1,5 @@
 -- Lists side by side, from a place on.
-use Rattle.std.proofs.Common.{◌≡◌, ℕ, suc, ◌+◌, ◌≤◌, List, [], ◌∷◌, ◌++◌, length, drop, refl, sym, ap, ◌∙◌, arith, add-one, append_assoc, drop-cons, min, inl, inr}
+use Rattle.std.proofs.Common.{◌≡◌, ℕ, zero, suc, ◌+◌, ◌<◌, ◌≤◌, List, [], ◌∷◌, ◌++◌, length, drop, refl, sym, ap, ◌∙◌, arith, add-one, append_assoc, drop-cons, min, inl, inr}
 use Rattle.std.specs.Prelude.{Some, slice_get, ◌⊎◌}
 use Rattle.std.proofs.lemmas.List.{drop_all}
 use Rattle.std.proofs.lemmas.Option.{get_or_from_slice_get, slice_get_within}
@@ -21,7 +21,7 @@ pub cut : {X Y Z : Type 0} (make : X → Y → Z) (xs : List X) (ys : List Y) (i
 cut make xs ys i x y here there = rw (head_of xs i x here, head_of ys i y there) refl
 
 -- a text more
-pub texts_next : {X Y : Type 0} (make : X → Y → List ℕ) (text more all : List ℕ) (xs : List X)
+texts_next : {X Y : Type 0} (make : X → Y → List ℕ) (text more all : List ℕ) (xs : List X)
     (ys : List Y) (i : ℕ) (x : X) (y : Y)
     → slice_get xs i ≡ Some x → slice_get ys i ≡ Some y → more ≡ text ++ make x y
     → text ++ one_text (paired make (drop i xs) (drop i ys)) ≡ all
@@ -30,6 +30,22 @@ texts_next make text more all xs ys i x y here there pushed so_far =
     rw (pushed, add-one)
     (append_assoc text (make x y) (one_text (paired make (drop (suc i) xs) (drop (suc i) ys)))
     ∙ ap (λ texts. text ++ one_text texts) (sym (cut make xs ys i x y here there)) ∙ so_far)
+
+pub member_at : {X : Type 0} (xs : List X) (i : ℕ) → i < length xs
+    → (x : X) × (slice_get xs i ≡ Some x)
+member_at [] i h = absurd (omega arith)
+member_at (x ∷ xs) zero h = (x, refl)
+member_at (x ∷ xs) (suc i) h = member_at xs i (omega arith)
+
+-- a text more, whichever the member of the first list is
+pub text_beside : {X Y : Type 0} (make : X → Y → List ℕ) (text more all : List ℕ) (xs : List X)
+    (ys : List Y) (i : ℕ) (y : Y) → i < length xs → slice_get ys i ≡ Some y
+    → ((x : X) → slice_get xs i ≡ Some x → more ≡ text ++ make x y)
+    → text ++ one_text (paired make (drop i xs) (drop i ys)) ≡ all
+    → more ++ one_text (paired make (drop (i + 1) xs) (drop (i + 1) ys)) ≡ all
+text_beside make text more all xs ys i y within there pushed so_far =
+    let x = member_at xs i within in
+    texts_next make text more all xs ys i x.0 y x.1 there (pushed x.0 x.1) so_far
 
 none_beside : {X Y Z : Type 0} (make : X → Y → Z) (xs : List X) → paired make xs [] ≡ []
 none_beside make [] = refl

@@ -65,28 +65,16 @@ pub(crate) fn push_out<N: Names>(
         ≡ text.old.items ++ spec.out_line (N.naming names.now) stage number channel.now) }
 {
     match channel {
-        OutChannel::Group(group) => push_group(alloc, text, names, stage, number, group),
+        OutChannel::Group(group) => {
+            push_group_begin(text, names, number, group)?;
+            text.extend_from_slice(b" takes")?;
+            push_takes(text, group.takes.as_slice())?;
+            text.extend_from_slice(b" does ")?;
+            push_forest(text, names, &group.does)?;
+            push_group_end(alloc, text, stage, group)
+        }
         OutChannel::Pass(take, given) => push_pass(text, stage, number, *take, *given),
     }
-}
-
-fn push_group<N: Names>(
-    alloc: Global,
-    text: &mut Vec<u8>,
-    names: &N,
-    stage: u64,
-    number: u64,
-    group: &Grouping,
-) -> Result<(), AllocError>
-    ensures { OnOk result (text.new.items
-        ≡ text.old.items ++ spec.group_line (N.naming names.now) stage number group.now) }
-{
-    push_group_begin(text, names, number, group)?;
-    text.extend_from_slice(b" takes")?;
-    push_takes(text, group.takes.as_slice())?;
-    text.extend_from_slice(b" does ")?;
-    push_forest(text, names, &group.does)?;
-    push_group_end(alloc, text, stage, group)
 }
 
 fn push_group_begin<N: Names>(

@@ -1,21 +1,14 @@
 -- What is gathered of the outs of all map tasks of a stage, and that its reduce tasks can be made.
 use Rattle.std.proofs.Common.{◌≡◌, ◌<◌, ◌≤◌, ◌/◌, ◌%◌, ◌^◌, ℕ, List, [], ◌∷◌, length, Bool, false, Option, Some, None, sym, ap, ◌∙◌, subst, append-nil, arith, refl, slice_get}
 use Rattle.std.specs.Prelude.{All, IsSome, IsTrue}
-use Rattle.std.specs.List.{AllByRecursion as Each, flat_map, AllZip}
-use Rattle.std.specs.Option.{IsSomeAnd, MatchOption, option_map, option_map_or}
+use Rattle.std.specs.List.{AllByRecursion as Each}
+use Rattle.std.specs.Option.{option_map, option_map_or}
 use Rattle.std.proofs.lemmas.List.Elements.{All-weaker}
-use Rattle.std.proofs.lemmas.Slice.Zip.{AllZip-left}
 use Rattle.flume_value.specs.declared.value.Value.{Value}
-use Rattle.bag_groups.specs.Pairs.{IsPair, pairs_of, parts_of}
+use Rattle.bag_groups.specs.Pairs.{IsPair, parts_of}
 use Rattle.combine_table.specs.declared.comb.Comb.{Comb}
-use Rattle.partial_tables.specs.Merges.{StandFor}
-use Rattle.shards.specs.Shards.{joined}
-use Rattle.shards.proofs.Joined.{flat_map-joined, joined_same}
 use Rattle.shuffle_parts.specs.declared.out.MapOut.{MapOut}
-use Rattle.shuffle_parts.specs.declared.out.Sent.{Sent}
-use Rattle.shuffle_parts.specs.Outs.{sent_at, all_partials, ArePairsOf, ArePartialsOf}
 use Rattle.shuffle_parts.specs.Partitions.{falls_in, is_in, part_of}
-use Rattle.shuffle_parts.proofs.Gathered.{all_pairs-are, all_partials-stand}
 use Rattle.shuffle_parts.proofs.Passing.{grouped-passing}
 use Rattle.shuffle_parts.proofs.Whole.{part_own}
 use Rattle.exec_graph.specs.World.{World}
@@ -23,18 +16,12 @@ use Rattle.exec_plan.specs.declared.plan.Grouping.{Grouping}
 use Rattle.exec_plan.specs.declared.plan.Mscr.{Mscr}
 use Rattle.exec_plan.specs.declared.plan.OutChannel.{OutChannel}
 use Rattle.exec_plan.specs.declared.plan.OutChannel.TheVariants.{Group, Pass}
-use Rattle.exec_plan.specs.declared.plan.Take.{Take}
-use Rattle.lifted_root.specs.of_task_lists.Tasks.{Split, Lists, Task, gathered, given_to, groupings, map_task_of, reduce_task}
-use Rattle.lifted_root.specs.of_task_lists.Outs.{AreSentPairs, IsSent, IsMapOut, AreMapOuts}
-use Rattle.lifted_root.proofs.of_task_lists.Numbers.{joined_two, listed, zip_listed}
+use Rattle.lifted_root.specs.of_task_lists.Tasks.{Split, Lists, Task, gathered, groupings, reduce_task}
+use Rattle.lifted_root.specs.of_task_lists.Outs.{AreMapOuts}
+use Rattle.lifted_root.proofs.of_task_lists.Sending.{pairs_whole, partials_whole}
 use Rattle.forest_steps.specs.Safety.{SafeOf}
 use Rattle.task_safety.proofs.Fitting.{IsOutSomewhere, few_tasks}
 use Rattle.reduce_part.specs.Reducing.{AreGroupsFirst, CanReduce, IsGathered, group_task, reducing_of}
-
-some_weaker : {A : Type 0} (P Q : A → Type 0) → ((x : A) → P x → Q x) → (o : Option A)
-    → IsSomeAnd o P → IsSomeAnd o Q
-some_weaker P Q f None h = absurd h
-some_weaker P Q f (Some x) h = f x h
 
 -- what falls in a partition is a pair
 with_key : (f : Value → Bool) (o : Option (Value × Value))
@@ -50,89 +37,23 @@ part_pairs n p pairs =
 
 module _ (w : World) (n : Split) (t : Lists) (s : Mscr) (outs : List MapOut) (r : ℕ)
     (some : 0 < n.shards) (made : AreMapOuts w n t s outs) where
-  -- what map task k gives a channel that takes these
-  abbrev given_by : List Take → ℕ → List Value
-  given_by takes k =
-      given_to w (map_task_of n t s.inputs (k / n.shards) (k % n.shards)) (k / n.shards) takes
-
-  given_all : (takes : List Take)
-      → flat_map (λ pairs. pairs) (listed (given_by takes) (length outs))
-      ≡ gathered w n t s.inputs takes
-  given_all takes =
-      let itself = λ (pairs : List Value). pairs in
-      flat_map-joined itself (λ k. given_by takes k ∷ []) (length outs)
-      ∙ joined_same (λ k. flat_map itself (given_by takes k ∷ [])) (given_by takes)
-      (λ k. append-nil (given_by takes k)) (length outs)
-      ∙ ap (joined (given_by takes)) made.count
-      ∙ joined_two (λ m i. given_to w (map_task_of n t s.inputs m i) m takes) (length s.inputs)
-      n.shards some
-
-  -- what map task k sends to the channel
-  sent_of : (o : OutChannel) → slice_get s.outputs r ≡ Some o → (k : ℕ) (out : MapOut)
-      → IsMapOut w n t s (k / n.shards) (k % n.shards) out
-      → IsSomeAnd (sent_at r out) (IsSent n.partitions (λ takes. given_by takes k) o)
-  sent_of o at k out is =
-      let R = IsSent n.partitions (λ takes. given_by takes k) in
-      subst (λ c. MatchOption c (Unit {0}) (λ x. IsSomeAnd (slice_get out.sent r) (R x))) at
-      (AllZip-left R s.outputs out.sent is.sent r)
-
-  zipped : (g : Grouping) (R : MapOut → List Value → Type 0)
-      → slice_get s.outputs r ≡ Some (Group g)
-      → ((k : ℕ) (out : MapOut)
-      → IsSomeAnd (sent_at r out) (IsSent n.partitions (λ takes. given_by takes k) (Group g))
-      → R out (given_by g.takes k))
-      → AllZip R outs (listed (given_by g.takes) (length outs))
-  zipped g R at f =
-      zip_listed R outs (given_by g.takes) (λ k below.
-      some_weaker (IsMapOut w n t s (k / n.shards) (k % n.shards))
-      (λ out. R out (given_by g.takes k)) (λ out is. f k out (sent_of (Group g) at k out is))
-      (slice_get outs k) (made.each k (subst (λ l. k < l) made.count below)))
-
-  pairs_are : (o : Option Sent) (partitions : ℕ) (pairs : List Value)
-      → IsSomeAnd o (λ sent. AreSentPairs None partitions sent pairs)
-      → ArePairsOf partitions o pairs
-  pairs_are None partitions pairs h = absurd h
-  pairs_are (Some sent) partitions pairs h = h
-
-  partials_are : (o : Option Sent) (partitions : ℕ) (pairs : List Value) (c : Comb)
-      → IsSomeAnd o (λ sent. AreSentPairs (Some c) partitions sent pairs)
-      → ArePartialsOf c partitions o pairs
-  partials_are None partitions pairs c h = absurd h
-  partials_are (Some sent) partitions pairs c h = h
-
   -- the pairs of the partition, which the accumulators of a lifted channel stand for
   abbrev pub pairs_at : Grouping → ℕ → List Value
   pairs_at g p = part_of n.partitions p (gathered w n t s.inputs g.takes)
 
-  is_gathered : (g : Grouping) (p : ℕ) → p < n.partitions
-      → slice_get s.outputs r ≡ Some (Group g) → (lifted : Option Comb)
-      → ((k : ℕ) (out : MapOut)
-      → IsSomeAnd (sent_at r out) (IsSent n.partitions (λ takes. given_by takes k) (Group g))
-      → IsSomeAnd (sent_at r out)
-      (λ sent. AreSentPairs lifted n.partitions sent (given_by g.takes k)))
+  gathered_by : (g : Grouping) (p : ℕ) → p < n.partitions
+      → slice_get s.outputs r ≡ Some (Group g) → (lifted : Option Comb) → g.lifted ≡ lifted
       → IsGathered lifted outs r p (pairs_at g p)
-  is_gathered g p below at None sent =
-      let P = n.partitions in
-      let given = listed (given_by g.takes) (length outs) in (
-        all_pairs-are P r p outs given below
-            (zipped g (λ out pairs. ArePairsOf P (sent_at r out) pairs) at
-            (λ k out is. pairs_are (sent_at r out) P (given_by g.takes k) (sent k out is)))
-            ∙ ap (λ l. Some (part_of P p l)) (given_all g.takes),
-        part_pairs P p (gathered w n t s.inputs g.takes),
-      )
-  is_gathered g p below at (Some c) sent =
-      let P = n.partitions in
-      let given = listed (given_by g.takes) (length outs) in
-      subst
-      (λ l. IsSomeAnd (all_partials outs r p) (λ ps. StandFor c ps (pairs_of (part_of P p l))))
-      (given_all g.takes)
-      (all_partials-stand c P r p outs given below
-      (zipped g (λ out pairs. ArePartialsOf c P (sent_at r out) pairs) at
-      (λ k out is. partials_are (sent_at r out) P (given_by g.takes k) c (sent k out is))))
+  gathered_by g p below at None is = (
+    pairs_whole w n t s outs r some made p g below at is,
+    part_pairs n.partitions p (gathered w n t s.inputs g.takes),
+  )
+  gathered_by g p below at (Some c) is =
+      partials_whole w n t s outs r some made p g c below at is
 
   pub gathered_at : (g : Grouping) (p : ℕ) → p < n.partitions
       → slice_get s.outputs r ≡ Some (Group g) → IsGathered g.lifted outs r p (pairs_at g p)
-  gathered_at g p below at = is_gathered g p below at g.lifted (λ k out is. is)
+  gathered_at g p below at = gathered_by g p below at g.lifted refl
 
   -- its groups are the elements of the reduce task
   pub task_is : (g : Grouping) (p : ℕ)

@@ -2,7 +2,7 @@
 ghost use Rattle.std.specs.Prelude.{◌≡◌, length};
 ghost use Rattle.lifted_root.specs.of_task_lists.Tasks.{groupings};
 ghost use Rattle.forest_steps.specs.Functions.{world_of};
-ghost use Rattle.reduce_part.specs.Reducing.{CanReduce};
+ghost use Rattle.reduce_part.specs.Reducing.{CanReduce, reducing_of};
 
 use crate::out::Reduced;
 use crate::reduce::reduce_partition;
@@ -26,26 +26,17 @@ pub struct ReduceTasks<'a, F: Functions> {
 
 impl<'a, F: Functions> Model for ReduceTasks<'a, F> {
     ghost use Rattle.forest_steps.specs.Functions.{world_of};
-    ghost use Rattle.reduce_part.specs.Reducing.{CanReduce, Reducing, reducing_code};
+    ghost use Rattle.reduce_part.specs.Reducing.{CanReduce, Reducing, reducing_code, reducing_of};
 
     ghost Value = { Reducing F };
 
     ghost coded = { reducing_code F.code };
 
-    ghost view = { λ r. record {
-      functions = r.functions.now;
-      stage = r.stage.now;
-      outs = r.outs.now;
-      partitions = r.partitions;
-    } };
+    ghost view = { λ r. reducing_of r.functions.now r.stage.now r.outs.now r.partitions };
 
     ghost invariant = { λ r.
-        CanReduce (world_of (F.called r.functions.now)) (F.can_call r.functions.now) (record {
-          functions = r.functions.now;
-          stage = r.stage.now;
-          outs = r.outs.now;
-          partitions = r.partitions;
-        }) };
+        CanReduce (world_of (F.called r.functions.now)) (F.can_call r.functions.now)
+        (reducing_of r.functions.now r.stage.now r.outs.now r.partitions) };
 }
 
 impl<'a, F: Functions> ReduceTasks<'a, F> {
@@ -57,18 +48,8 @@ impl<'a, F: Functions> ReduceTasks<'a, F> {
         partitions: u32,
     ) -> ReduceTasks<'a, F>
         requires { CanReduce (world_of (F.called functions.now)) (F.can_call functions.now)
-            (record {
-              functions = functions.now;
-              stage = stage.now;
-              outs = outs.now;
-              partitions = partitions;
-            }) }
-        ensures { result ≡ record {
-          functions = functions.now;
-          stage = stage.now;
-          outs = outs.now;
-          partitions = partitions;
-        } }
+            (reducing_of functions.now stage.now outs.now partitions) }
+        ensures { result ≡ reducing_of functions.now stage.now outs.now partitions }
     {
         ReduceTasks {
             functions,

@@ -1,11 +1,10 @@
 -- In the meaning of a well-formed script each needed node that reads no file and nothing that is
 -- kept meets its equation, over the whole table.
-use Rattle.std.proofs.Common.{◌≡◌, ℕ, zero, suc, ◌+◌, ◌<◌, Bool, true, false, List, [], ◌∷◌}
-use Rattle.std.proofs.Common.{◌++◌, length, Option, Some, None, if◌then◌else◌, slice_get, refl}
-use Rattle.std.proofs.Common.{sym, subst, arith, ap, ◌∙◌, append_assoc, append-nil}
+use Rattle.std.proofs.Common.{◌≡◌, ℕ, zero, suc, ◌+◌, Bool, true, false, List, [], ◌∷◌}
+use Rattle.std.proofs.Common.{◌++◌, length, Option, Some, None, slice_get, refl}
+use Rattle.std.proofs.Common.{sym, subst, arith, ap, ◌∙◌}
 use Rattle.std.proofs.Common.{length-append}
 use Rattle.std.specs.List.{Contains}
-use Rattle.std.specs.Option.{option_and_then, option_flatten}
 use Rattle.flume_collection.specs.Collection.{Collection}
 use Rattle.flume_value.specs.declared.value.Value.{Value}
 use Rattle.written_types.specs.Named.{Named}
@@ -14,71 +13,13 @@ use Rattle.script_program.specs.Script.{Node, Script}
 use Rattle.script_program.specs.Sources.{in_order}
 use Rattle.script_laws.proofs.NeededLemmas.{operand_before}
 use Rattle.script_laws.specs.WellFormed.{AllFit, IsWellFormed}
+use Rattle.direct_meaning.proofs.GrowLemmas.{Begins, begun_at, begun_end, grows, longer, next, shorter}
 use Rattle.direct_meaning.proofs.MeaningLemmas.{reads_needed}
 use Rattle.direct_meaning.specs.Direct.{collections, inputs_behind, made_as, made_at, meaning}
 use Rattle.repeat_law.proofs.SameLemmas.{FromNoFile, kept_made}
 use Rattle.repeat_law.proofs.PlaceLemmas.{split_at}
-use Rattle.script_laws.proofs.MemberLemmas.{at_end, in_first}
-
--- a table that begins with another
-pub record Begins (table whole : List (Option Collection)) : Type 0 where
-  pub rest : List (Option Collection)
-  pub is : whole ≡ table ++ rest
-
-pub begun_at : (table whole : List (Option Collection)) → Begins table whole → (n : ℕ)
-    → n < length table → made_at whole n ≡ made_at table n
-begun_at table whole begins n below =
-    ap (λ (t : List (Option Collection)). made_at t n) begins.is
-    ∙ ap option_flatten (in_first table begins.rest n below)
-
-pub begun_end : (table whole : List (Option Collection)) (last : Option Collection)
-    → Begins (table ++ last ∷ []) whole → made_at whole (length table) ≡ last
-begun_end table whole last begins =
-    ap (λ (t : List (Option Collection)). made_at t (length table))
-    (begins.is ∙ append_assoc table (last ∷ []) begins.rest)
-    ∙ ap option_flatten (at_end table last begins.rest)
-
-shorter : (table whole : List (Option Collection)) (last : Option Collection)
-    → Begins (table ++ last ∷ []) whole → Begins table whole
-shorter table whole last begins = record {
-  rest = last ∷ begins.rest;
-  is = begins.is ∙ append_assoc table (last ∷ []) begins.rest;
-}
 
 module _ (script : Script) where
-  -- going on behind a node, where it is needed or not, and makes that
-  abbrev next : Bool → Option Collection → List ℕ × Node → Named Node → List (List Value)
-      → List (Option Collection) → Option (List (Option Collection))
-  next needed made entry rest inputs table =
-      if needed
-      then option_and_then (λ c.
-      collections script rest (inputs_behind entry.1.made inputs) (table ++ Some c ∷ [])) made
-      else collections script rest inputs (table ++ None ∷ [])
-
-  abbrev Grows : Named Node → Type 0
-  Grows nodes = (inputs : List (List Value)) (table whole : List (Option Collection))
-      → collections script nodes inputs table ≡ Some whole → Begins table whole
-
-  next_grows : (entry : List ℕ × Node) (nodes : Named Node) → Grows nodes → (needed : Bool)
-      (made : Option Collection) (inputs : List (List Value))
-      (table whole : List (Option Collection))
-      → next needed made entry nodes inputs table ≡ Some whole → Begins table whole
-  next_grows entry nodes grow true None inputs table whole is = cc
-  next_grows entry nodes grow true (Some c) inputs table whole is =
-      shorter table whole (Some c)
-      (grow (inputs_behind entry.1.made inputs) (table ++ Some c ∷ []) whole is)
-  next_grows entry nodes grow false made inputs table whole is =
-      shorter table whole None (grow inputs (table ++ None ∷ []) whole is)
-
-  grows : (nodes : Named Node) → Grows nodes
-  grows [] [] table whole is =
-      let same : table ≡ whole = cc in
-      record { rest = []; is = sym same ∙ sym (append-nil table) }
-  grows [] (rows ∷ inputs) table whole is = cc
-  grows (entry ∷ nodes) inputs table whole is =
-      next_grows entry nodes (grows nodes) (is_needed script (length table))
-      (made_as script (length table) entry.1.made inputs table) inputs table whole is
-
   abbrev Lengthens : Named Node → Type 0
   Lengthens nodes = (inputs : List (List Value)) (table whole : List (Option Collection))
       → collections script nodes inputs table ≡ Some whole
@@ -87,7 +28,7 @@ module _ (script : Script) where
   next_lengthens : (entry : List ℕ × Node) (nodes : Named Node) → Lengthens nodes
       → (needed : Bool) (made : Option Collection) (inputs : List (List Value))
       (table whole : List (Option Collection))
-      → next needed made entry nodes inputs table ≡ Some whole
+      → next script needed made entry nodes inputs table ≡ Some whole
       → length whole ≡ length table + suc (length nodes)
   next_lengthens entry nodes lengthen true None inputs table whole is = cc
   next_lengthens entry nodes lengthen true (Some c) inputs table whole is =
@@ -117,14 +58,11 @@ module _ (script : Script) where
       → FromNoFile entry.1.made
       → made_at whole number ≡ made_as script number entry.1.made [] whole
 
-  longer : (table : List (Option Collection)) (last : Option Collection)
-      → length (table ++ last ∷ []) ≡ suc (length table)
-  longer table last = omega (arith, length-append table (last ∷ []))
-
   next_meets : (entry : List ℕ × Node) (nodes : Named Node) → Meets nodes → (needed : Bool)
       (made : Option Collection) (before : Named Node) (inputs : List (List Value))
       (table whole : List (Option Collection)) → AllFit script.functions before (entry ∷ nodes)
-      → length before ≡ length table → next needed made entry nodes inputs table ≡ Some whole
+      → length before ≡ length table
+      → next script needed made entry nodes inputs table ≡ Some whole
       → (i number : ℕ) → number ≡ suc (length table + i) → (other : List ℕ × Node)
       → slice_get nodes i ≡ Some other → is_needed script number ≡ true
       → FromNoFile other.1.made
@@ -148,11 +86,11 @@ module _ (script : Script) where
   here_meets : (entry : List ℕ × Node) (nodes : Named Node) (needed : Bool)
       (made : Option Collection) (inputs : List (List Value))
       (table whole : List (Option Collection)) → needed ≡ true
-      → next needed made entry nodes inputs table ≡ Some whole
+      → next script needed made entry nodes inputs table ≡ Some whole
       → Begins (table ++ made ∷ []) whole
   here_meets entry nodes true None inputs table whole needed is = cc
   here_meets entry nodes true (Some c) inputs table whole needed is =
-      grows nodes (inputs_behind entry.1.made inputs) (table ++ Some c ∷ []) whole is
+      grows script nodes (inputs_behind entry.1.made inputs) (table ++ Some c ∷ []) whole is
   here_meets entry nodes false made inputs table whole needed is = cc
 
   meets : (nodes : Named Node) → Meets nodes

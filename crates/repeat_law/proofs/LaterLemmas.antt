@@ -13,7 +13,6 @@ use Rattle.flume_grammar.specs.declared.fault.ScriptKind.TheVariants.{NoOutput, 
 use Rattle.written_types.specs.Answer.{◌>>=◌, or_fault, unless}
 use Rattle.written_types.specs.Named.{Named, fresh}
 use Rattle.written_types.specs.Written.{whole_type}
-use Rattle.body_check.specs.Bodies.{body_of}
 use Rattle.script_program.specs.Limits.{most_collections, most_files}
 use Rattle.script_program.specs.Script.{Node, Script, State, nothing, script_from}
 use Rattle.script_program.specs.Script.{with_statement}
@@ -21,6 +20,7 @@ use Rattle.script_rules.specs.Operations.{collection}
 use Rattle.script_rules.specs.Repeats.{unrolled}
 use Rattle.script_rules.specs.Rules as spec
 use Rattle.script_rules.proofs.CheckedLemmas.{both, ok-same}
+use Rattle.script_rules.proofs.FoundLemmas.{ruled}
 use Rattle.script_laws.proofs.BodyLemmas.{has-named}
 use Rattle.script_laws.proofs.RepeatLemmas.{has-turns}
 use Rattle.repeat_law.proofs.SoundLemmas.{is_repeat}
@@ -55,13 +55,8 @@ module _ (line : ℕ) (s after : State) where
   function_adds : (function : WrittenFunction) → spec.rule_function line function s ≡ Ok after
       → Adds s after
   function_adds function e =
-      let signature = both (spec.signature_of line function s) _ after e in
-      let takes = signature.part.takes in
-      let gives = signature.part.gives in
-      let body =
-      both (body_of s.types function.argument takes gives function.body) _ after
-      signature.then in
-      subst (Adds s) (ok-same _ after body.then) (record { more = []; is = append-nil s.nodes })
+      subst (Adds s) (ruled line function s after e).is
+      (record { more = []; is = append-nil s.nodes })
 
   let_adds : (names : List (List ℕ)) (by : Operation) → spec.rule_let line names by s ≡ Ok after
       → Adds s after

@@ -11,6 +11,7 @@ use Rattle.script_program.specs.declared.made.Made.TheVariants as made
 use Rattle.script_program.specs.Needed.{operands}
 use Rattle.script_program.specs.Script.{Script}
 use Rattle.script_laws.specs.WellFormed.{function_at}
+use Rattle.script_laws.proofs.FitLemmas.{itself}
 use Rattle.direct_meaning.specs.Direct.{all_made, combined_by, counted_by, done_by, joined_by}
 use Rattle.direct_meaning.specs.Direct.{made_as, made_at, top_by}
 use Rattle.direct_meaning.specs.Calls.{answer_of}
@@ -22,17 +23,8 @@ use Rattle.script_rules.specs.Repeats.{renumbered}
 -- from no file, and from nothing that is kept
 abbrev pub FromNoFile : Made → Type 0
 FromNoFile (made.Input file columns) = ⊥
-FromNoFile (made.Do source called output) = Unit {0}
-FromNoFile (made.Group source) = Unit {0}
-FromNoFile (made.Combine source by) = Unit {0}
-FromNoFile (made.Flatten sources) = Unit {0}
-FromNoFile (made.Count source) = Unit {0}
-FromNoFile (made.Join left right) = Unit {0}
-FromNoFile (made.Top many source) = Unit {0}
-FromNoFile (made.CombineAll source by) = Unit {0}
-FromNoFile (made.Operate objects called) = Unit {0}
-FromNoFile (made.DoWith source called object) = Unit {0}
 FromNoFile (made.Saved is_object call) = ⊥
+FromNoFile _ = Unit {0}
 
 module _ (to : ℕ → ℕ) (here there : List (Option Collection)) where
   all_same : (numbers : List ℕ)
@@ -88,26 +80,6 @@ module _ (to : ℕ → ℕ) (here there : List (Option Collection)) where
       (function_at script.functions called)
   same_made script number (made.Saved is_object call) inputs none same = absurd none
 
--- ---- under the numbers that stand there
-
-each_itself : (numbers : List ℕ) → map (λ n. n) numbers ≡ numbers
-each_itself [] = refl
-each_itself (number ∷ numbers) = ap (λ l. number ∷ l) (each_itself numbers)
-
-itself : (how : Made) → renumbered (λ n. n) how ≡ how
-itself (made.Input file columns) = refl
-itself (made.Do source called output) = refl
-itself (made.Group source) = refl
-itself (made.Combine source by) = refl
-itself (made.Flatten sources) = ap (λ l. made.Flatten l) (each_itself sources)
-itself (made.Count source) = refl
-itself (made.Join left right_) = refl
-itself (made.Top many source) = refl
-itself (made.CombineAll source by) = refl
-itself (made.Operate objects called) = ap (λ l. made.Operate l called) (each_itself objects)
-itself (made.DoWith source called object) = refl
-itself (made.Saved is_object call) = refl
-
 -- over a table that holds the same
 pub kept_made : (script : Script) (number : ℕ) (how : Made) (here there : List (Option Collection))
     (inputs others : List (List Value)) → FromNoFile how
@@ -123,47 +95,19 @@ kept_made script number how here there inputs others none same =
 
 pub let_no_file : (place front : ℕ) (how : Made) → IsLet place front how → FromNoFile how
 let_no_file place front (made.Input file columns) is = absurd is
-let_no_file place front (made.Do source called output) is = tt
-let_no_file place front (made.Group source) is = tt
-let_no_file place front (made.Combine source by) is = tt
-let_no_file place front (made.Flatten sources) is = tt
-let_no_file place front (made.Count source) is = tt
-let_no_file place front (made.Join left right_) is = tt
-let_no_file place front (made.Top many source) is = tt
-let_no_file place front (made.CombineAll source by) is = tt
-let_no_file place front (made.Operate objects called) is = tt
-let_no_file place front (made.DoWith source called object) is = tt
 let_no_file place front (made.Saved is_object call) is = absurd is
+let_no_file place front _ is = tt
 
 pub renumbered_no_file : (to : ℕ → ℕ) (how : Made) → FromNoFile how
     → FromNoFile (renumbered to how)
 renumbered_no_file to (made.Input file columns) is = absurd is
-renumbered_no_file to (made.Do source called output) is = tt
-renumbered_no_file to (made.Group source) is = tt
-renumbered_no_file to (made.Combine source by) is = tt
-renumbered_no_file to (made.Flatten sources) is = tt
-renumbered_no_file to (made.Count source) is = tt
-renumbered_no_file to (made.Join left right_) is = tt
-renumbered_no_file to (made.Top many source) is = tt
-renumbered_no_file to (made.CombineAll source by) is = tt
-renumbered_no_file to (made.Operate objects called) is = tt
-renumbered_no_file to (made.DoWith source called object) is = tt
 renumbered_no_file to (made.Saved is_object call) is = absurd is
+renumbered_no_file to _ is = tt
 
 pub renumbered_reads : (to : ℕ → ℕ) (how : Made)
     → operands (renumbered to how) ≡ map to (operands how)
 renumbered_reads to (made.Input file columns) = refl
-renumbered_reads to (made.Do source called output) = refl
-renumbered_reads to (made.Group source) = refl
-renumbered_reads to (made.Combine source by) = refl
-renumbered_reads to (made.Flatten sources) = refl
-renumbered_reads to (made.Count source) = refl
-renumbered_reads to (made.Join left right_) = refl
-renumbered_reads to (made.Top many source) = refl
-renumbered_reads to (made.CombineAll source by) = refl
-renumbered_reads to (made.Operate objects called) = refl
-renumbered_reads to (made.DoWith source called object) = refl
-renumbered_reads to (made.Saved is_object call) = refl
+renumbered_reads to _ = refl
 
 each_has : (P : ℕ → Type 0) (xs : List ℕ) → Each P xs → (n : ℕ) → Contains xs n → P n
 each_has P [] each n is = absurd (not_in_none n is)

@@ -19,7 +19,7 @@ use Rattle.repeat_law.proofs.EquationLemmas.{equation, reads}
 use Rattle.repeat_law.proofs.SameLemmas.{let_no_file, let_reads, renumbered_no_file}
 use Rattle.repeat_law.proofs.SameLemmas.{renumbered_reads, same_made}
 use Rattle.repeat_law.specs.Turns.{one, only, turns_left, with_lets}
-use Rattle.repeat_law.proofs.PlaceLemmas.{mapped_has}
+use Rattle.direct_meaning.proofs.PlaceLemmas.{mapped_has}
 use Rattle.repeat_law.specs.Reading.{AreLets, IsLet, IsRepeat, in_front, number_in}
 use Rattle.script_rules.specs.Repeats.{Repeat, copied, gives_left, nodes_left, seen}
 use Rattle.script_rules.specs.Repeats.{turn_gives, turn_nodes, turn_to}

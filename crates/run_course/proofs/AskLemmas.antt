@@ -2,7 +2,6 @@
 use Rattle.std.proofs.Common.{◌≡◌, ◌∙◌, ◌++◌, ℕ, inl, inr, List, [], ◌∷◌, Option, Some, None, Result, Ok, Err, IfErr, ap, sym, refl, subst, append-nil, append_assoc}
 use Rattle.command_words.specs.declared.words.Command.{Command}
 use Rattle.outside.specs.Accounts.{Account}
-use Rattle.script_loading.specs.of_direct_meaning.Inputs.{Wanted}
 use Rattle.exec_plan.specs.declared.plan.Plan.{Plan}
 use Rattle.flume_value.specs.declared.value.Value.{Value}
 use Rattle.outside.specs.Asked.{Asks, AsksFront}
@@ -11,11 +10,14 @@ use Rattle.outside.specs.declared.file.File.{File as NamedBytes}
 use Rattle.outside.proofs.AskLemmas.{asks_both, asks_front, asks_none}
 use Rattle.run_settings.specs.Settings.{RunSettings}
 use Rattle.run_texts.specs.declared.status.Status.{Status}
-use Rattle.run_texts.specs.declared.status.Status.TheVariants.{Done, GaveUp, Usage, ScriptRefused, InputRefused, Trap, ReadFault, WriteFault, WantOfMemory, TooLong, NoFile, PlanRefused}
+use Rattle.run_texts.specs.declared.status.Status.TheVariants.{Done, GaveUp, ScriptRefused, InputRefused, ReadFault, WriteFault, WantOfMemory, TooLong, NoFile, PlanRefused}
 use Rattle.script_program.specs.Script.{Script}
-use Rattle.script_loading.specs.Causes.{IsInputsCause, IsLoaded, IsScriptCause}
+use Rattle.script_loading.specs.Asks.{AsksToStop, AsksUpTo}
+use Rattle.script_loading.specs.Causes.{IsLoaded, IsScriptCause}
 use Rattle.run_course.specs.Asked.{AskFor, tries_of}
-use Rattle.run_course.specs.Asks.{AsksAll, AsksFor, files_behind}
+use Rattle.run_course.specs.Asks.{AsksAll, AsksFor, AsksScript, AsksSome, files_behind, plan_file}
+use Rattle.run_course.specs.Asks as call
+use Rattle.run_course.specs.Plans.{IsFileCause}
 use Rattle.run_course.specs.declared.stop.Stop.{Stop}
 use Rattle.run_course.specs.declared.stop.Stop.TheVariants as stop
 use Rattle.run_course.specs.inner.Course.{AsksInCall, AsksUntil, AsksWith, Delivers, IsPlanStop, IsRunStop, IsStop}
@@ -31,47 +33,30 @@ module _ (tries : ℕ) (names : Names) (before after : SeenSource) where
   whole_front asks =
       asks_front tries names names [] before after (sym (append-nil names)) asks
 
-  -- not all inputs have rows
-  pub inputs_with : (most : ℕ) (source source' : SeenSource) (inputs : List Wanted)
-      (status : Status) → IsInputsCause most source source' inputs status
-      → AsksFront tries names before after → AsksWith tries names before after status
-  inputs_with most source source' inputs (InputRefused name row column kind) cause front = front
-  inputs_with most source source' inputs (NoFile name) cause front = front
-  inputs_with most source source' inputs (ReadFault name) cause front = front
-  inputs_with most source source' inputs (TooLong name limit) cause front = front
-  inputs_with most source source' inputs WantOfMemory cause front = front
-  inputs_with most source source' inputs Usage cause front = absurd cause.6
-  inputs_with most source source' inputs Done cause front = absurd cause.6
-  inputs_with most source source' inputs (ScriptRefused line kind) cause front = absurd cause.6
-  inputs_with most source source' inputs (WriteFault place) cause front = absurd cause.6
-  inputs_with most source source' inputs (GaveUp stage phase task) cause front = absurd cause.6
-  inputs_with most source source' inputs (Trap origin kind element) cause front = absurd cause.6
-  inputs_with most source source' inputs (PlanRefused step kind) cause front = absurd cause.6
+  -- the inputs' files were asked for up to one that was not read, and a plan's behind them was not
+  pub inputs_with : (more : Names) (status : Status) → AsksToStop tries names before after status
+      → AsksWith tries (names ++ more) before after status
+  inputs_with more status asks = by status asks
+    where
+      up_to : (name : List ℕ) → AsksUpTo tries names before after name
+          → AsksUpTo tries (names ++ more) before after name
+      up_to name front = (
+        front.0,
+        front.1 ++ more,
+        ap (λ l. l ++ more) front.2 ∙ append_assoc front.0 (name ∷ front.1) more,
+        front.3,
+      )
 
-  -- there is no plan
-  pub plan_with : (most : ℕ) (source source' : SeenSource) (script : Script)
-      (from : Option (List ℕ)) (status : Status)
-      → IsPlanStop most source source' script from status → Asks tries names before after
-      → AsksWith tries names before after status
-  plan_with most source source' script None status stops asks =
-      subst (λ (s : Status). AsksWith tries names before after s) (sym stops) (whole_front asks)
-  plan_with most source source' script (Some name) (PlanRefused step kind) stops asks = asks
-  plan_with most source source' script (Some name) (NoFile other) stops asks = whole_front asks
-  plan_with most source source' script (Some name) (ReadFault other) stops asks = whole_front asks
-  plan_with most source source' script (Some name) (TooLong other limit) stops asks =
-      whole_front asks
-  plan_with most source source' script (Some name) WantOfMemory stops asks = whole_front asks
-  plan_with most source source' script (Some name) Usage stops asks = absurd stops
-  plan_with most source source' script (Some name) Done stops asks = absurd stops
-  plan_with most source source' script (Some name) (ScriptRefused line kind) stops asks =
-      absurd stops
-  plan_with most source source' script (Some name) (InputRefused other row column kind) stops
-      asks = absurd stops
-  plan_with most source source' script (Some name) (WriteFault place) stops asks = absurd stops
-  plan_with most source source' script (Some name) (GaveUp stage phase task) stops asks =
-      absurd stops
-  plan_with most source source' script (Some name) (Trap origin kind element) stops asks =
-      absurd stops
+      by : (status : Status) → AsksToStop tries names before after status
+          → AsksWith tries (names ++ more) before after status
+      by (InputRefused name row column kind) front = up_to name front
+      by (NoFile name) front = up_to name front
+      by (ReadFault name) front = up_to name front
+      by (TooLong name limit) front = up_to name front
+      by WantOfMemory front =
+          asks_front tries (names ++ more) front.0 (front.1 ++ more) before after
+          (ap (λ l. l ++ more) front.2 ∙ append_assoc front.0 front.1 more) front.3
+      by _ asks = absurd asks
 
   -- all inputs have rows, and their meaning was worked out
   pub meant_until : {T : Type 0} (script : Script) (rows : List (List Value)) (r : Result T Stop)
@@ -94,15 +79,32 @@ module _ (tries : ℕ) (names : Names) (before after : SeenSource) where
   run_until s script rows plan olds news (Err (stop.Refused status)) (inr up) asks =
       subst (λ (s : Status). AsksWith tries names before after s) (sym up.3) asks
 
--- of the inputs' files and a plan's behind them, a front was asked for
-pub front_more : (tries : ℕ) (first more : Names) (before after : SeenSource)
-    → AsksFront tries first before after → AsksFront tries (first ++ more) before after
-front_more tries first more before after front = (
-  front.0,
-  front.1 ++ more,
-  ap (λ l. l ++ more) front.2 ∙ append_assoc front.0 front.1 more,
-  front.3,
-)
+-- there is no plan, whose file is the last
+module _ (tries : ℕ) (first : Names) (before after : SeenSource) (most : ℕ)
+    (source source' : SeenSource) (script : Script) where
+  pub plan_with : (from : Option (List ℕ)) (status : Status)
+      → IsPlanStop most source source' script from status
+      → Asks tries (first ++ plan_file from) before after
+      → AsksWith tries (first ++ plan_file from) before after status
+  plan_with None status stops asks =
+      subst (λ (s : Status). AsksWith tries (first ++ []) before after s) (sym stops)
+      (whole_front tries (first ++ []) before after asks)
+  plan_with (Some name) status stops asks = by status stops
+    where
+      up_to : (other : List ℕ) → other ≡ name
+          → AsksUpTo tries (first ++ name ∷ []) before after other
+      up_to other same =
+          subst (λ (n : List ℕ). AsksUpTo tries (first ++ name ∷ []) before after n) (sym same)
+          (first, [], refl, asks)
+
+      by : (status : Status) → IsFileCause most source source' script name status
+          → AsksWith tries (first ++ name ∷ []) before after status
+      by (PlanRefused step kind) stops = asks
+      by (NoFile other) stops = up_to other stops.0
+      by (ReadFault other) stops = up_to other stops.0
+      by (TooLong other limit) stops = up_to other stops.0
+      by WantOfMemory stops = whole_front tries (first ++ name ∷ []) before after asks
+      by _ stops = absurd stops
 
 -- where none are behind them
 pub none_behind : {T : Type 0} (tries : ℕ) (names : Names) (before after : SeenSource)
@@ -123,26 +125,20 @@ module _ (words : Words) (command : Command) (name : List ℕ) where
   pub script_for : (before after : SeenSource) (status : Status) → AskFor words command name
       → IsScriptCause (tries_of command) before after name status
       → Asks (tries_of command) (name ∷ []) before after → AsksFor words before after status
-  script_for before after (ScriptRefused line kind) asked cause asks =
-      inr (inl (command, name, asked, asks))
-  script_for before after (NoFile other) asked cause asks =
-      inr (inl (command, name, asked, asks))
-  script_for before after (ReadFault other) asked cause asks =
-      inr (inl (command, name, asked, asks))
-  script_for before after (TooLong other limit) asked cause asks =
-      inr (inl (command, name, asked, asks))
-  script_for before after WantOfMemory asked cause asks =
-      inr (inl (command, name, asked, asks))
-  script_for before after Usage asked cause asks = absurd cause
-  script_for before after Done asked cause asks = absurd cause
-  script_for before after (InputRefused other row column kind) asked cause asks =
-      absurd cause
-  script_for before after (WriteFault place) asked cause asks = absurd cause
-  script_for before after (GaveUp stage phase task) asked cause asks =
-      absurd cause
-  script_for before after (Trap origin kind element) asked cause asks =
-      absurd cause
-  script_for before after (PlanRefused step kind) asked cause asks = absurd cause
+  script_for before after status asked cause asks = by status cause
+    where
+      alone : (other : List ℕ) → other ≡ name → AsksScript words before after other
+      alone other same =
+          subst (λ (n : List ℕ). AsksScript words before after n) (sym same) (command, asked, asks)
+
+      by : (status : Status) → IsScriptCause (tries_of command) before after name status
+          → AsksFor words before after status
+      by (ScriptRefused line kind) cause = (name, alone name refl)
+      by (NoFile other) cause = inl (alone other cause.0)
+      by (ReadFault other) cause = inl (alone other cause.0)
+      by (TooLong other limit) cause = inl (alone other cause.0)
+      by WantOfMemory cause = inr (inl (name, alone name refl))
+      by _ cause = absurd cause
 
   module _ (script : Script) (before middle after : SeenSource) (asked : AskFor words command name)
       (loaded : IsLoaded before.files name script)
@@ -150,44 +146,47 @@ module _ (words : Words) (command : Command) (name : List ℕ) where
     abbrev others : Names
     others = files_behind command script
 
-    all_for : Asks (tries_of command) others middle after → AsksAll words before after
-    all_for asks = (
-      command,
-      name,
-      script,
-      asked,
-      loaded,
-      asks_both (tries_of command) (name ∷ []) others before middle after first asks,
-    )
+    behind_first : (names : Names) → Asks (tries_of command) names middle after
+        → Asks (tries_of command) (name ∷ names) before after
+    behind_first names asks =
+        asks_both (tries_of command) (name ∷ []) names before middle after first asks
 
-    front_for : AsksFront (tries_of command) others middle after
-        → AsksFront (tries_of command) (name ∷ others) before after
-    front_for front = (
-      name ∷ front.0,
-      front.1,
-      ap (λ l. name ∷ l) front.2,
-      asks_both (tries_of command) (name ∷ []) front.0 before middle after first front.3,
-    )
+    all_for : Asks (tries_of command) others middle after → AsksAll words before after
+    all_for asks = (command, name, script, asked, loaded, behind_first others asks)
+
+    until_for : (last : List ℕ) → AsksUpTo (tries_of command) others middle after last
+        → call.AsksUntil words before after last
+    until_for last front =
+        let all = behind_first (front.0 ++ last ∷ []) front.3 in (
+          command,
+          name,
+          script,
+          asked,
+          loaded,
+          (name ∷ front.0, front.1, ap (λ l. name ∷ l) front.2, all),
+        )
+
+    some_for : AsksFront (tries_of command) others middle after → AsksSome words before after
+    some_for front =
+        let all = behind_first front.0 front.3 in (
+          command,
+          name,
+          script,
+          asked,
+          loaded,
+          (name ∷ front.0, front.1, ap (λ l. name ∷ l) front.2, all),
+        )
 
     status_for : (status : Status) → AsksWith (tries_of command) others middle after status
         → AsksFor words before after status
     status_for (GaveUp stage phase task) asks = all_for asks
     status_for (PlanRefused step kind) asks = all_for asks
-    status_for WantOfMemory front =
-        inr (inr (command, name, script, asked, loaded, front_for front))
-    status_for (NoFile other) front =
-        inr (inr (command, name, script, asked, loaded, front_for front))
-    status_for (TooLong other limit) front =
-        inr (inr (command, name, script, asked, loaded, front_for front))
-    status_for (ReadFault other) front =
-        inr (inr (command, name, script, asked, loaded, front_for front))
-    status_for (InputRefused other row column kind) front =
-        inr (inr (command, name, script, asked, loaded, front_for front))
-    status_for Usage asks = absurd asks
-    status_for Done asks = absurd asks
-    status_for (ScriptRefused line kind) asks = absurd asks
-    status_for (WriteFault place) asks = absurd asks
-    status_for (Trap origin kind element) asks = absurd asks
+    status_for (NoFile other) front = inr (until_for other front)
+    status_for (TooLong other limit) front = inr (until_for other front)
+    status_for (ReadFault other) front = inr (until_for other front)
+    status_for (InputRefused other row column kind) front = until_for other front
+    status_for WantOfMemory front = inr (inr (some_for front))
+    status_for _ asks = absurd asks
 
     -- the script is read, and the command carried out
     pub command_for : {T : Type 0} (r : Result T Stop)
@@ -204,25 +203,6 @@ pub delivered_for : (words : Words) (before after : SeenSource)
     → Delivers files text shelf shelf' screen screen' status
     → AsksAll words before after → AsksFor words before after status
 delivered_for words before after files text shelf shelf' screen screen' Done is all = all
-delivered_for words before after files text shelf shelf' screen screen' (WriteFault place) is
-    all = all
-delivered_for words before after files text shelf shelf' screen screen' Usage is all =
-    absurd is
-delivered_for words before after files text shelf shelf' screen screen'
-    (ScriptRefused line kind) is all = absurd is
-delivered_for words before after files text shelf shelf' screen screen'
-    (InputRefused name row column kind) is all = absurd is
-delivered_for words before after files text shelf shelf' screen screen'
-    (Trap origin kind element) is all = all
-delivered_for words before after files text shelf shelf' screen screen' (ReadFault name) is
-    all = absurd is
-delivered_for words before after files text shelf shelf' screen screen'
-    (GaveUp stage phase task) is all = all
-delivered_for words before after files text shelf shelf' screen screen' WantOfMemory is all =
-    absurd is
-delivered_for words before after files text shelf shelf' screen screen' (TooLong name limit) is
-    all = absurd is
-delivered_for words before after files text shelf shelf' screen screen' (NoFile name) is all =
-    absurd is
-delivered_for words before after files text shelf shelf' screen screen'
-    (PlanRefused step kind) is all = all
+delivered_for words before after files text shelf shelf' screen screen' (WriteFault place) is all =
+    all
+delivered_for words before after files text shelf shelf' screen screen' _ is all = absurd is

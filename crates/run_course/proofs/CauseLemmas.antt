@@ -13,7 +13,7 @@ use Rattle.run_settings.specs.Settings.{RunSettings}
 use Rattle.run_texts.specs.Lines.{trap_line}
 use Rattle.run_texts.specs.declared.status.Place.TheVariants.{File, Screen}
 use Rattle.run_texts.specs.declared.status.Status.{Status}
-use Rattle.run_texts.specs.declared.status.Status.TheVariants.{Done, GaveUp, Usage, ScriptRefused, InputRefused, Trap, ReadFault, WriteFault, WantOfMemory, TooLong, NoFile, PlanRefused}
+use Rattle.run_texts.specs.declared.status.Status.TheVariants.{Done, ScriptRefused, InputRefused, Trap, ReadFault, WriteFault, WantOfMemory, TooLong, NoFile, PlanRefused}
 use Rattle.script_program.specs.Script.{Script}
 use Rattle.run_course.specs.Answers.{Answers, GivesUp, IsCause, IsRefused}
 use Rattle.script_loading.specs.Loads.{AllHaveRows, IsAbove, IsMissing, Loads}
@@ -26,104 +26,68 @@ use Rattle.script_loading.specs.Limits.{script_limit, input_limit, plan_limit}
 use Rattle.run_course.specs.declared.stop.Stop.{Stop}
 use Rattle.run_course.specs.declared.stop.Stop.TheVariants as stop
 use Rattle.run_course.specs.declared.stop.Trapped.{Trapped}
-use Rattle.script_loading.specs.Causes.{IsInputCause, IsInputsCause, IsLoaded, IsScriptCause}
+use Rattle.script_loading.specs.Causes.{IsInputCause, IsInputsCause, IsLoadCause, IsLoaded, IsScriptCause}
 use Rattle.run_course.specs.inner.Course.{Delivers, HasTrap, IsCommandStop, IsMeaningStop, IsPlanStop, IsRunStop, IsStopped, IsTrappedAt}
 use Rattle.script_loading.proofs.SinceLemmas.{inputs_since, load_since}
 use Rattle.run_course.proofs.ReadLemmas.{Told, Words}
 
--- ---- the script
+-- ---- a file
 
-missing_as : (told : Told) (name other : List ℕ) → other ≡ name
-    → IsMissing told name → IsMissing told other
-missing_as told name other same missing =
-    subst (λ (n : List ℕ). IsMissing told n) (sym same) missing
+module _ (words : Words) (before after : SeenSource) (olds news : List Account)
+    (command : Command) (name : List ℕ) (limit : ℕ)
+    (turn : IsAskedFor words before.files command name limit) where
+  -- its turn, under another name of the same file
+  asked_as : (other : List ℕ) (most : ℕ) → other ≡ name → most ≡ limit
+      → IsAskedFor words before.files command other most
+  asked_as other most same equal =
+      subst (λ (n : List ℕ). IsAskedFor words before.files command n most) (sym same)
+      (subst (λ (m : ℕ). IsAskedFor words before.files command name m) (sym equal) turn)
 
-above_as : (told : Told) (name other : List ℕ) (limit most : ℕ)
-    → other ≡ name → most ≡ limit → IsAbove told name limit → IsAbove told other most
-above_as told name other limit most same equal above =
-    subst (λ (n : List ℕ). IsAbove told n most) (sym same)
-    (subst (λ (m : ℕ). IsAbove told name m) (sym equal) above)
+  above_as : (other : List ℕ) (most : ℕ) → other ≡ name → most ≡ limit
+      → IsAbove before.files name limit → IsAbove before.files other most
+  above_as other most same equal above =
+      subst (λ (n : List ℕ). IsAbove before.files n most) (sym same)
+      (subst (λ (m : ℕ). IsAbove before.files name m) (sym equal) above)
 
--- the script's turn, under another name of the same file
-script_asked_for : (words : Words) (told : Told) (command : Command) (name other : List ℕ)
-    (limit : ℕ) → AskFor words command name → other ≡ name → limit ≡ script_limit
-    → IsAskedFor words told command other limit
-script_asked_for words told command name other limit asked same equal =
-    inl (subst (λ (n : List ℕ). AskFor words command n) (sym same) asked, equal)
+  load_cause : (status : Status) → IsLoadCause (tries_of command) before after name limit status
+      → IsCause words before after olds news status
+  load_cause (NoFile other) cause = (
+    command,
+    limit,
+    asked_as other limit cause.0 refl,
+    subst (λ (n : List ℕ). IsMissing before.files n) (sym cause.0) cause.1,
+  )
+  load_cause (ReadFault other) cause =
+      (command, limit, asked_as other limit cause.0 refl, cause.1)
+  load_cause (TooLong other most) cause = (
+    command,
+    asked_as other most cause.0 cause.1,
+    above_as other most cause.0 cause.1 cause.2,
+  )
+  load_cause WantOfMemory cause = tt
+  load_cause _ cause = absurd cause
 
 module _ (words : Words) (before after : SeenSource) (olds news : List Account)
     (command : Command) where
+  -- the script's
   pub script_cause : (name : List ℕ) (status : Status) → AskFor words command name
       → IsScriptCause (tries_of command) before after name status
       → IsCause words before after olds news status
   script_cause name (ScriptRefused line kind) asked cause =
       (command, name, cause.0, asked, cause.1, cause.2)
-  script_cause name (NoFile other) asked cause = (
-    command,
-    script_limit,
-    script_asked_for words before.files command name other script_limit asked cause.0 refl,
-    missing_as before.files name other cause.0 cause.1,
-  )
-  script_cause name (ReadFault other) asked cause = (
-    command,
-    script_limit,
-    script_asked_for words before.files command name other script_limit asked cause.0 refl,
-    cause.1,
-  )
-  script_cause name (TooLong other most) asked cause = (
-    command,
-    script_asked_for words before.files command name other most asked cause.0 cause.1,
-    above_as before.files name other script_limit most cause.0 cause.1 cause.2,
-  )
-  script_cause name WantOfMemory asked cause = tt
-  script_cause name Usage asked cause = absurd cause
-  script_cause name Done asked cause = absurd cause
-  script_cause name (InputRefused other row column kind) asked cause = absurd cause
-  script_cause name (WriteFault place) asked cause = absurd cause
-  script_cause name (GaveUp stage phase task) asked cause = absurd cause
-  script_cause name (Trap origin kind element) asked cause = absurd cause
-  script_cause name (PlanRefused step kind) asked cause = absurd cause
+  script_cause name status asked cause =
+      load_cause words before after olds news command name script_limit (inl (asked, refl)) status
+      cause
 
--- ---- the inputs
-
-input_asked_for : (words : Words) (told : Told) (command : Command) (wanted : Wanted)
-    (other : List ℕ) (limit : ℕ) → IsTurnOf words told command wanted → other ≡ wanted.file
-    → limit ≡ input_limit → IsAskedFor words told command other limit
-input_asked_for words told command wanted other limit its same equal =
-    inr (inl (wanted, its, same, equal))
-
-module _ (words : Words) (before after : SeenSource) (olds news : List Account)
-    (command : Command) where
+  -- an input's
   input_cause : (wanted : Wanted) (status : Status) → IsTurnOf words before.files command wanted
       → IsInputCause (tries_of command) before after wanted status
       → IsCause words before after olds news status
   input_cause wanted (InputRefused name row column kind) its cause =
       (command, wanted, cause.1, its, cause.0, cause.2, cause.3)
-  input_cause wanted (NoFile other) its cause = (
-    command,
-    input_limit,
-    input_asked_for words before.files command wanted other input_limit its cause.0 refl,
-    missing_as before.files wanted.file other cause.0 cause.1,
-  )
-  input_cause wanted (ReadFault other) its cause = (
-    command,
-    input_limit,
-    input_asked_for words before.files command wanted other input_limit its cause.0 refl,
-    cause.1,
-  )
-  input_cause wanted (TooLong other most) its cause = (
-    command,
-    input_asked_for words before.files command wanted other most its cause.0 cause.1,
-    above_as before.files wanted.file other input_limit most cause.0 cause.1 cause.2,
-  )
-  input_cause wanted WantOfMemory its cause = tt
-  input_cause wanted Usage its cause = absurd cause
-  input_cause wanted Done its cause = absurd cause
-  input_cause wanted (ScriptRefused line kind) its cause = absurd cause
-  input_cause wanted (WriteFault place) its cause = absurd cause
-  input_cause wanted (GaveUp stage phase task) its cause = absurd cause
-  input_cause wanted (Trap origin kind element) its cause = absurd cause
-  input_cause wanted (PlanRefused step kind) its cause = absurd cause
+  input_cause wanted status its cause =
+      load_cause words before after olds news command wanted.file input_limit
+      (inr (inl (wanted, its, refl, refl))) status cause
 
   pub inputs_cause : (script : Script) (status : Status) → AskOn words before.files command script
       → IsInputsCause (tries_of command) before after (inputs_read command script) status
@@ -132,50 +96,16 @@ module _ (words : Words) (before after : SeenSource) (olds news : List Account)
       input_cause cause.1 status
       (script, cause.0, cause.2, cause.3, read, cause.4, cause.5) cause.6
 
--- ---- the file of a plan
-
-plan_asked_for : (words : Words) (told : Told) (command : Command) (script : Script)
-    (name other : List ℕ) (limit : ℕ) → IsPlanTurn words told command script name
-    → other ≡ name → limit ≡ plan_limit → IsAskedFor words told command other limit
-plan_asked_for words told command script name other limit its same equal =
-    inr (inr (
-      script,
-      subst (λ (n : List ℕ). IsPlanTurn words told command script n) (sym same) its,
-      equal,
-    ))
-
-module _ (words : Words) (before after : SeenSource) (olds news : List Account)
-    (command : Command) (script : Script) (name : List ℕ) where
-  plan_cause : (status : Status) → IsPlanTurn words before.files command script name
+  -- that of a plan
+  plan_cause : (script : Script) (name : List ℕ) (status : Status)
+      → IsPlanTurn words before.files command script name
       → IsFileCause (tries_of command) before after script name status
       → IsCause words before after olds news status
-  plan_cause (PlanRefused step kind) its cause =
+  plan_cause script name (PlanRefused step kind) its cause =
       (command, script, name, cause.0, its, cause.1, cause.2)
-  plan_cause (NoFile other) its cause = (
-    command,
-    plan_limit,
-    plan_asked_for words before.files command script name other plan_limit its cause.0 refl,
-    missing_as before.files name other cause.0 cause.1,
-  )
-  plan_cause (ReadFault other) its cause = (
-    command,
-    plan_limit,
-    plan_asked_for words before.files command script name other plan_limit its cause.0 refl,
-    cause.1,
-  )
-  plan_cause (TooLong other most) its cause = (
-    command,
-    plan_asked_for words before.files command script name other most its cause.0 cause.1,
-    above_as before.files name other plan_limit most cause.0 cause.1 cause.2,
-  )
-  plan_cause WantOfMemory its cause = tt
-  plan_cause Usage its cause = absurd cause
-  plan_cause Done its cause = absurd cause
-  plan_cause (ScriptRefused line kind) its cause = absurd cause
-  plan_cause (InputRefused other row column kind) its cause = absurd cause
-  plan_cause (WriteFault place) its cause = absurd cause
-  plan_cause (GaveUp stage phase task) its cause = absurd cause
-  plan_cause (Trap origin kind element) its cause = absurd cause
+  plan_cause script name status its cause =
+      load_cause words before after olds news command name plan_limit
+      (inr (inr (script, its, refl))) status cause
 
 -- the same cause, counted from an earlier moment
 file_since : (tries : ℕ) (before middle after : SeenSource) (script : Script) (name : List ℕ)
@@ -184,25 +114,8 @@ file_since : (tries : ℕ) (before middle after : SeenSource) (script : Script) 
     → IsFileCause tries before after script name status
 file_since tries before middle after script name (PlanRefused step kind) told later cause =
     (cause.0, subst (λ (t : Told). Loads t name plan_limit cause.0) told cause.1, cause.2)
-file_since tries before middle after script name (NoFile other) told later cause =
-    load_since tries before middle after name plan_limit (NoFile other) told later cause
-file_since tries before middle after script name (ReadFault other) told later cause =
-    load_since tries before middle after name plan_limit (ReadFault other) told later cause
-file_since tries before middle after script name (TooLong other most) told later cause =
-    load_since tries before middle after name plan_limit (TooLong other most) told later cause
-file_since tries before middle after script name WantOfMemory told later cause = tt
-file_since tries before middle after script name Usage told later cause = absurd cause
-file_since tries before middle after script name Done told later cause = absurd cause
-file_since tries before middle after script name (ScriptRefused line kind) told later cause =
-    absurd cause
-file_since tries before middle after script name (InputRefused other row column kind) told later
-    cause = absurd cause
-file_since tries before middle after script name (WriteFault place) told later cause =
-    absurd cause
-file_since tries before middle after script name (GaveUp stage phase task) told later cause =
-    absurd cause
-file_since tries before middle after script name (Trap origin kind element) told later cause =
-    absurd cause
+file_since tries before middle after script name status told later cause =
+    load_since tries before middle after name plan_limit status told later cause
 
 -- ---- a command
 
@@ -337,35 +250,17 @@ delivered words before after files text (WriteFault (File name)) writes left =
     (files, text, writes, left.0, left.1)
 delivered words before after files text (WriteFault Screen) writes left =
     (files, text, writes, left.0, left.1)
-delivered words before after files text Usage writes left = absurd left
-delivered words before after files text (NoFile name) writes left = absurd left
-delivered words before after files text (PlanRefused step kind) writes left = absurd left
-delivered words before after files text (TooLong name limit) writes left = absurd left
-delivered words before after files text (ReadFault name) writes left = absurd left
-delivered words before after files text (GaveUp stage phase task) writes left = absurd left
-delivered words before after files text (ScriptRefused line kind) writes left = absurd left
-delivered words before after files text (InputRefused name row column kind) writes left =
-    absurd left
-delivered words before after files text WantOfMemory writes left = absurd left
-delivered words before after files text (Trap origin kind element) writes left = absurd left
+delivered words before after files text _ writes left = absurd left
 
 -- what a call that was refused answers
 pub refusal : (words : Words) (before after : World) (status : Status)
     → IsCause words before.source after.source before.hosts after.hosts status
     → IsRefused status before after
     → Answers words before after status
-refusal words before after Usage cause left = (cause, left)
-refusal words before after (NoFile name) cause left = (cause, left)
-refusal words before after (PlanRefused step kind) cause left = (cause, left)
-refusal words before after (TooLong name limit) cause left = (cause, left)
-refusal words before after (ReadFault name) cause left = (cause, left)
-refusal words before after (ScriptRefused line kind) cause left = (cause, left)
-refusal words before after (InputRefused name row column kind) cause left = (cause, left)
-refusal words before after (GaveUp stage phase task) cause left = (cause, left)
-refusal words before after WantOfMemory cause left = (cause, left)
 refusal words before after Done cause left = absurd cause
 refusal words before after (WriteFault place) cause left = absurd cause
 refusal words before after (Trap origin kind element) cause left = absurd cause
+refusal words before after _ cause left = (cause, left)
 
 -- what a call answers whose script has this trap
 pub trapped : (words : Words) (before after : World) (trap : Trapped)

@@ -10,7 +10,7 @@ use Rattle.outside.specs.Seen.{SeenScreen, SeenShelf}
 use Rattle.outside.specs.declared.file.File.{File as NamedBytes}
 use Rattle.run_settings.specs.Settings.{RunSettings}
 use Rattle.run_texts.specs.declared.status.Status.{Status}
-use Rattle.run_texts.specs.declared.status.Status.TheVariants.{Done, GaveUp, Usage, ScriptRefused, InputRefused, Trap, ReadFault, WriteFault, WantOfMemory, TooLong, NoFile, PlanRefused}
+use Rattle.run_texts.specs.declared.status.Status.TheVariants.{Done, WriteFault}
 use Rattle.script_loading.specs.Loads.{AllHaveRows}
 use Rattle.script_program.specs.Script.{Script}
 use Rattle.script_run.specs.Runs.{AsksSomePhases, phases_of}
@@ -118,17 +118,7 @@ may_deliver : (files : List NamedBytes) (text : List ℕ) (shelf shelf' : SeenSh
     → Delivers files text shelf shelf' screen screen' status → MayHaveRun status
 may_deliver files text shelf shelf' screen screen' Done is = tt
 may_deliver files text shelf shelf' screen screen' (WriteFault place) is = tt
-may_deliver files text shelf shelf' screen screen' Usage is = absurd is
-may_deliver files text shelf shelf' screen screen' (ScriptRefused line kind) is = absurd is
-may_deliver files text shelf shelf' screen screen' (InputRefused name row column kind) is =
-    absurd is
-may_deliver files text shelf shelf' screen screen' (Trap origin kind element) is = tt
-may_deliver files text shelf shelf' screen screen' (ReadFault name) is = absurd is
-may_deliver files text shelf shelf' screen screen' (GaveUp stage phase task) is = tt
-may_deliver files text shelf shelf' screen screen' WantOfMemory is = tt
-may_deliver files text shelf shelf' screen screen' (TooLong name limit) is = absurd is
-may_deliver files text shelf shelf' screen screen' (NoFile name) is = absurd is
-may_deliver files text shelf shelf' screen screen' (PlanRefused step kind) is = absurd is
+may_deliver files text shelf shelf' screen screen' _ is = absurd is
 
 pub delivered_asks : {T : Type 0} (words : Words) (told : Told) (olds news : List Account)
     (files : List NamedBytes) (text : List ℕ) (shelf shelf' : SeenShelf)

@@ -5,7 +5,7 @@ use Rattle.outside.specs.Seen.{SeenShelf}
 use Rattle.outside.specs.declared.file.File.{File as NamedBytes}
 use Rattle.run_texts.specs.declared.status.Place.TheVariants.{File, Screen}
 use Rattle.run_texts.specs.declared.status.Status.{Status}
-use Rattle.run_texts.specs.declared.status.Status.TheVariants.{Done, GaveUp, Usage, ScriptRefused, InputRefused, Trap, ReadFault, WriteFault, WantOfMemory, TooLong, NoFile, PlanRefused}
+use Rattle.run_texts.specs.declared.status.Status.TheVariants.{Done, Trap, WriteFault}
 use Rattle.run_course.specs.Answers.{Answers}
 use Rattle.run_course.specs.Promises.{IsEnded, IsRefusal}
 use Rattle.run_course.specs.World.{World}
@@ -13,18 +13,10 @@ use Rattle.run_course.proofs.ReadLemmas.{Words}
 
 pub refused_part : (words : Words) (before after : World) (status : Status)
     → Answers words before after status → IsRefusal status before after
-refused_part words before after Usage answers = answers.1
-refused_part words before after (NoFile name) answers = answers.1
-refused_part words before after (TooLong name limit) answers = answers.1
-refused_part words before after (ReadFault name) answers = answers.1
-refused_part words before after (ScriptRefused line kind) answers = answers.1
-refused_part words before after (InputRefused name row column kind) answers = answers.1
-refused_part words before after (GaveUp stage phase task) answers = answers.1
-refused_part words before after (PlanRefused step kind) answers = answers.1
-refused_part words before after WantOfMemory answers = answers.1
 refused_part words before after Done answers = tt
 refused_part words before after (Trap origin kind element) answers = tt
 refused_part words before after (WriteFault place) answers = tt
+refused_part words before after _ answers = answers.1
 
 -- files that are ended leave none begun
 none_begun : (files : List NamedBytes) → begun_after files false ≡ false
@@ -61,24 +53,8 @@ ended words before after (Trap origin kind element) none answers = same_begun be
 ended words before after (WriteFault (File name)) none answers = tt
 ended words before after (WriteFault Screen) none answers = begun_then answers.0 before.shelf
     after.shelf none answers.3.begun
-ended words before after Usage none answers = same_begun before.shelf after.shelf none
-    answers.1.shelf
-ended words before after (NoFile name) none answers = same_begun before.shelf after.shelf none
-    answers.1.shelf
-ended words before after (TooLong name limit) none answers = same_begun before.shelf after.shelf
-    none answers.1.shelf
-ended words before after (ReadFault name) none answers = same_begun before.shelf after.shelf none
-    answers.1.shelf
-ended words before after (ScriptRefused line kind) none answers = same_begun before.shelf
-    after.shelf none answers.1.shelf
-ended words before after (InputRefused name row column kind) none answers = same_begun before.shelf
-    after.shelf none answers.1.shelf
-ended words before after (GaveUp stage phase task) none answers =
+ended words before after _ none answers =
     same_begun before.shelf after.shelf none answers.1.shelf
-ended words before after (PlanRefused step kind) none answers =
-    same_begun before.shelf after.shelf none answers.1.shelf
-ended words before after WantOfMemory none answers = same_begun before.shelf after.shelf none
-    answers.1.shelf
 
 pub left : (words : Words) (before after : World) (status : Status) → before.shelf.begun ≡ false
     → Answers words before after status
@@ -91,20 +67,4 @@ left words before after (WriteFault (File name)) none answers = left_then answer
     after.shelf none answers.3.4.left
 left words before after (WriteFault Screen) none answers = left_then answers.0 before.shelf
     after.shelf none answers.3.left
-left words before after Usage none answers = same_left before.shelf after.shelf answers.1.shelf
-left words before after (NoFile name) none answers = same_left before.shelf after.shelf
-    answers.1.shelf
-left words before after (TooLong name limit) none answers = same_left before.shelf after.shelf
-    answers.1.shelf
-left words before after (ReadFault name) none answers = same_left before.shelf after.shelf
-    answers.1.shelf
-left words before after (ScriptRefused line kind) none answers = same_left before.shelf after.shelf
-    answers.1.shelf
-left words before after (InputRefused name row column kind) none answers = same_left before.shelf
-    after.shelf answers.1.shelf
-left words before after (GaveUp stage phase task) none answers =
-    same_left before.shelf after.shelf answers.1.shelf
-left words before after (PlanRefused step kind) none answers =
-    same_left before.shelf after.shelf answers.1.shelf
-left words before after WantOfMemory none answers = same_left before.shelf after.shelf
-    answers.1.shelf
+left words before after _ none answers = same_left before.shelf after.shelf answers.1.shelf

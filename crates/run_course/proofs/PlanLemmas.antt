@@ -13,7 +13,7 @@ use Rattle.plan_faults.specs.declared.fault.PlanFault.TheVariants.{Refused, Memo
 use Rattle.plan_faults.specs.declared.fault.PlanKind.{PlanKind}
 use Rattle.outer_plans.specs.of_plan_texts.Texts.{naming_of}
 use Rattle.run_texts.specs.declared.status.Status.{Status}
-use Rattle.run_texts.specs.declared.status.Status.TheVariants.{Done, GaveUp, Usage, ScriptRefused, InputRefused, Trap, ReadFault, WriteFault, WantOfMemory, TooLong, NoFile, PlanRefused}
+use Rattle.run_texts.specs.declared.status.Status.TheVariants.{TooLong, NoFile, PlanRefused}
 use Rattle.script_loading.specs.Causes.{IsLoadCause}
 use Rattle.script_loading.specs.Limits.{plan_limit}
 use Rattle.script_loading.specs.Loads.{IsAbove, IsMissing, Loads}
@@ -117,18 +117,8 @@ module _ (tries : ℕ) (before after : SeenSource) (script : Script) (name : Lis
   -- it was not loaded
   pub file_load : (status : Status) → IsLoadCause tries before after name plan_limit status
       → IsFileCause tries before after script name status
-  file_load (NoFile other) cause = cause
-  file_load (ReadFault other) cause = cause
-  file_load (TooLong other most) cause = cause
-  file_load WantOfMemory cause = tt
-  file_load Usage cause = absurd cause
-  file_load Done cause = absurd cause
-  file_load (ScriptRefused line kind) cause = absurd cause
-  file_load (InputRefused other row column kind) cause = absurd cause
-  file_load (WriteFault place) cause = absurd cause
-  file_load (GaveUp stage phase task) cause = absurd cause
-  file_load (Trap origin kind element) cause = absurd cause
   file_load (PlanRefused step kind) cause = absurd cause
+  file_load _ cause = cause
 
   -- it was not taken
   pub file_taken : (bytes : List ℕ) (status : Status) → Loads before.files name plan_limit bytes

@@ -4,7 +4,8 @@ use Rattle.command_words.specs.declared.words.Command.{Command}
 use Rattle.outside.specs.Asked.{Asks, AsksFront}
 use Rattle.outside.specs.Seen.{SeenSource}
 use Rattle.run_texts.specs.declared.status.Status.{Status}
-use Rattle.run_texts.specs.declared.status.Status.TheVariants.{Done, GaveUp, PlanRefused, Usage, Trap, WriteFault}
+use Rattle.run_texts.specs.declared.status.Status.TheVariants.{Done, GaveUp, PlanRefused, Usage, Trap, WriteFault, NoFile, TooLong, ReadFault, ScriptRefused, InputRefused, WantOfMemory}
+use Rattle.script_loading.specs.Asks.{AsksUpTo}
 use Rattle.script_loading.specs.Causes.{IsLoaded}
 use Rattle.script_loading.specs.Loads.{file_names}
 use Rattle.script_program.specs.Script.{Script}
@@ -41,10 +42,17 @@ module _ (words : List (List ℕ)) (before after : SeenSource) where
       × IsLoaded before.files name script
       × AsksFront (tries_of command) (files_read command name script) before after
 
-  -- the words ask for a command on the script of that name, and that file alone was asked for
-  abbrev pub AsksScript : Type 0
-  AsksScript =
-      (command : Command) × (name : List ℕ) × AskFor words command name
+  -- the same, where the last file that was asked for is the one of this name
+  abbrev pub AsksUntil : List ℕ → Type 0
+  AsksUntil last =
+      (command : Command) × (name : List ℕ) × (script : Script) × AskFor words command name
+      × IsLoaded before.files name script
+      × AsksUpTo (tries_of command) (files_read command name script) before after last
+
+  -- the words ask for a command on the script of this name, and that file alone was asked for
+  abbrev pub AsksScript : List ℕ → Type 0
+  AsksScript name =
+      (command : Command) × AskFor words command name
       × Asks (tries_of command) (name ∷ []) before after
 
   -- no file was asked for
@@ -52,7 +60,8 @@ module _ (words : List (List ℕ)) (before after : SeenSource) where
   AsksNone = Asks 0 [] before after
 
   -- What was asked for, by the answer: no file where the words ask for nothing; all that the
-  -- command reads where the call came to its end; and else as many as it came to.
+  -- command reads where the call came to its end; those up to the file that the answer names, where
+  -- it names one; and else as many as it came to.
   abbrev pub AsksFor : Status → Type 0
   AsksFor Usage = AsksNone
   AsksFor Done = AsksAll
@@ -60,4 +69,9 @@ module _ (words : List (List ℕ)) (before after : SeenSource) where
   AsksFor (GaveUp stage phase task) = AsksAll
   AsksFor (WriteFault place) = AsksAll
   AsksFor (PlanRefused step kind) = AsksAll
-  AsksFor status = AsksNone ⊎ (AsksScript ⊎ AsksSome)
+  AsksFor (NoFile name) = AsksScript name ⊎ AsksUntil name
+  AsksFor (TooLong name limit) = AsksScript name ⊎ AsksUntil name
+  AsksFor (ReadFault name) = AsksScript name ⊎ AsksUntil name
+  AsksFor (InputRefused name row column kind) = AsksUntil name
+  AsksFor (ScriptRefused line kind) = (name : List ℕ) × AsksScript name
+  AsksFor WantOfMemory = AsksNone ⊎ (((name : List ℕ) × AsksScript name) ⊎ AsksSome)

@@ -39,6 +39,7 @@ pub fn tries_of(command: &Command) -> u32
 }
 
 /// What a command writes of a script, or why it writes nothing. A run is lent the first hosts.
+#[tactic(auto, using(crew::proofs::Accounts::all_grew_not))]
 pub fn carried_out<X: Threads + Sync, R: Source, H: Host + Send>(
     rt: &X,
     alloc: Global,
@@ -107,7 +108,7 @@ fn meant<X: Threads + Sync, R: Source>(
         [] (map output_file it.outputs.items) it.screen.items) }
     ensures stop { IfErr result (IsMeaningStop (R.seen source.old)
         (R.seen source.new) program.now.script) }
-    ensures asked { AsksUntil (spec.tries_of Direct) (file_names (inputs_of program.now.script))
+    ensures asked { AsksUntil (spec.tries_of Direct) (files_behind Direct program.now.script)
         (R.seen source.old) (R.seen source.new) result }
     ensures files { (R.seen source.new).files ≡ (R.seen source.old).files }
     ensures later { (R.seen source.old).faults ≤ (R.seen source.new).faults }
@@ -117,6 +118,7 @@ fn meant<X: Threads + Sync, R: Source>(
 }
 
 // What a run writes, with the script's graph and the plan that is run first.
+#[tactic(auto, using(crew::proofs::Accounts::all_grew_not))]
 fn run_on<X: Threads + Sync, R: Source, H: Host + Send>(
     rt: &X,
     alloc: Global,

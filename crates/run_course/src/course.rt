@@ -91,6 +91,7 @@ fn answer<X: Threads + Sync, R: Source, H: Host + Send, K: Shelf, P: Screen>(
 }
 
 // Does all that a call does but its writing. Every growth of a call is here.
+#[tactic(auto, using(crew::proofs::Accounts::all_grew_not))]
 fn prepare<X: Threads + Sync, R: Source, H: Host + Send>(
     rt: &X,
     alloc: Global,

@@ -19,9 +19,9 @@ mod showing;
 mod stop;
 
 pub use course::{deliver, run};
-pub use files::{Written, file_of, trapped, with_sizes};
+pub use files::{Written, file_of, with_sizes};
 pub use limits::TRIES;
-pub use running::{output_files, ran_on};
+pub use running::{output_files, ran_on, ran_through};
 pub use script_loading;
 pub use script_loading::build_law;
 pub use script_run;

@@ -53,10 +53,42 @@ pub fn written_run<X: Threads + Sync, H: Host + Send>(
     ensures grew { AllZip Grew (map H.account hosts.old) (map H.account hosts.new) }
     ensures hosts { drop settings.now.workers hosts.new ≡ drop settings.now.workers hosts.old }
 {
-    let held = program.as_program();
     let ShownPlan { plan, text } = shown;
-    match ran_on(rt, alloc, program, &plan, inputs, hosts, settings) {
+    match ran_through(rt, alloc, program, &plan, inputs, hosts, settings) {
         Ok(ran) => Ok(write_out(alloc, program, &ran, text)?),
+        Err(why) => Err(why),
+    }
+}
+
+/// The run of a plan, or why a call that came so far writes nothing.
+pub fn ran_through<X: Threads + Sync, H: Host + Send>(
+    rt: &X,
+    alloc: Global,
+    program: &ReadyProgram,
+    plan: &Plan,
+    inputs: Pile<Items>,
+    hosts: &mut [H],
+    settings: &Settings,
+) -> Result<Ran, Stop>
+    requires typed { AreInputs program.now.script inputs }
+    requires of_script { IsPlanOf program.now.script plan.now }
+    requires sixteen { length hosts.old ≡ 16 }
+    ensures ran { IfOk result (IsRan settings.now program.now.script inputs plan.now
+        (lent settings.now (map H.account hosts.old))
+        (lent settings.now (map H.account hosts.new))) }
+    ensures stop { IfErr result (IsRunStop settings.now program.now.script inputs plan.now
+        (lent settings.now (map H.account hosts.old))
+        (lent settings.now (map H.account hosts.new))) }
+    ensures asked { AsksSomePhases settings.now
+        (phases_of settings.now program.now.script inputs plan.now)
+        (lent settings.now (map H.account hosts.old))
+        (lent settings.now (map H.account hosts.new)) }
+    ensures grew { AllZip Grew (map H.account hosts.old) (map H.account hosts.new) }
+    ensures hosts { drop settings.now.workers hosts.new ≡ drop settings.now.workers hosts.old }
+{
+    let held = program.as_program();
+    match ran_on(rt, alloc, program, plan, inputs, hosts, settings) {
+        Ok(ran) => Ok(ran),
         Err(RunFault::Trap(trap)) => Err(trapped(alloc, held, trap)?),
         Err(RunFault::GaveUp { stage, phase, task }) => {
             Err(Stop::Refused(Status::GaveUp { stage, phase, task }))

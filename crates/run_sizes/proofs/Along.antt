@@ -22,7 +22,7 @@ use Rattle.run_sizes.specs.Counts.{AreOwnCounts}
 use Rattle.run_sizes.specs.inner.Along.{behind, count_at, kept, list_count, named_sizes, sized_as, sizes_along}
 use Rattle.run_sizes.proofs.Listed.{all_listed}
 use Rattle.run_sizes.proofs.Named.{meant_sizes}
-use Rattle.run_sizes.proofs.Stepping.{passed, taken}
+use Rattle.run_sizes.proofs.Stepping.{along_next}
 use Rattle.run_sizes.proofs.Together.{sized, together_sizes}
 
 -- how many members each list has
@@ -159,7 +159,7 @@ module _ (script : Script) (lists rows : List (List Value)) (numbers counts : Li
         ≡ size_of c =
         ap (λ n. sized_as (many lists) numbers counts n mk input (map sized table)) long
         ∙ one_size mk (length table) input left table c ahead here counted in
-        taken script (many lists) numbers counts entry nodes input (map sized table)
+        along_next script (many lists) numbers counts entry nodes input (map sized table) true
         (ap (is_needed script) long ∙ needed)
         ∙ (ap (λ s. sizes_along script (many lists) numbers counts nodes (behind mk input)
         (map sized table ++ Some s ∷ [])) size
@@ -179,7 +179,7 @@ module _ (script : Script) (lists rows : List (List Value)) (numbers counts : Li
         → sizes_along script (many lists) numbers counts (entry ∷ nodes) input (map sized table)
         ≡ map sized all
     next_passed entry nodes before table input left needless split count ahead rest more =
-        passed script (many lists) numbers counts entry nodes input (map sized table)
+        along_next script (many lists) numbers counts entry nodes input (map sized table) false
         (ap (is_needed script) (length-map table sized) ∙ needless)
         ∙ (ap (sizes_along script (many lists) numbers counts nodes input) (with_one table None)
         ∙ more (before ++ entry ∷ []) (table ++ None ∷ []) input left

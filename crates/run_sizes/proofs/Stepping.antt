@@ -1,5 +1,5 @@
 -- One collection more, along a script's nodes.
-use Rattle.std.proofs.Common.{◌≡◌, ℕ, zero, suc, ◌+◌, ◌<◌, ◌≤◌, true, false, List, [], ◌∷◌, ◌++◌, drop, length, Option, Some, None, slice_get, refl, sym, ap, ◌∙◌, subst, arith, add-one}
+use Rattle.std.proofs.Common.{◌≡◌, ℕ, zero, suc, ◌+◌, ◌<◌, ◌≤◌, Bool, true, false, List, [], ◌∷◌, ◌++◌, drop, length, Option, Some, None, slice_get, refl, sym, ap, ◌∙◌, subst, arith, add-one}
 use Rattle.std.specs.Prelude.{if◌then◌else◌, option_map}
 use Rattle.written_types.specs.Named.{Named}
 use Rattle.script_program.specs.Needed.{is_needed}
@@ -31,30 +31,19 @@ some_entry (e ∷ nodes) zero below = (e, refl)
 some_entry (e ∷ nodes) (suc n) below = some_entry nodes n (omega arith)
 
 module _ (script : Script) (members numbers counts : List ℕ) where
-  pub taken : (entry : List ℕ × Node) (nodes : Named Node) (input : ℕ) (sizes : List (Option ℕ))
-      → is_needed script (length sizes) ≡ true
+  -- one entry, whether it is needed or not
+  pub along_next : (entry : List ℕ × Node) (nodes : Named Node) (input : ℕ)
+      (sizes : List (Option ℕ)) (needed : Bool) → is_needed script (length sizes) ≡ needed
       → sizes_along script members numbers counts (entry ∷ nodes) input sizes
-      ≡ sizes_along script members numbers counts nodes (behind entry.1.made input)
+      ≡ (if needed then sizes_along script members numbers counts nodes (behind entry.1.made input)
       (sizes ++ Some (sized_as members numbers counts (length sizes) entry.1.made input sizes) ∷ [])
-  taken entry nodes input sizes needed =
+      else sizes_along script members numbers counts nodes input (sizes ++ None ∷ []))
+  along_next entry nodes input sizes needed =
       ap
       (λ b. if b
       then sizes_along script members numbers counts nodes (behind entry.1.made input)
       (sizes ++ Some (sized_as members numbers counts (length sizes) entry.1.made input sizes) ∷ [])
       else sizes_along script members numbers counts nodes input (sizes ++ None ∷ []))
-      needed
-
-  pub passed : (entry : List ℕ × Node) (nodes : Named Node) (input : ℕ) (sizes : List (Option ℕ))
-      → is_needed script (length sizes) ≡ false
-      → sizes_along script members numbers counts (entry ∷ nodes) input sizes
-      ≡ sizes_along script members numbers counts nodes input (sizes ++ None ∷ [])
-  passed entry nodes input sizes needless =
-      ap
-      (λ b. if b
-      then sizes_along script members numbers counts nodes (behind entry.1.made input)
-      (sizes ++ Some (sized_as members numbers counts (length sizes) entry.1.made input sizes) ∷ [])
-      else sizes_along script members numbers counts nodes input (sizes ++ None ∷ []))
-      needless
 
   pub on_taken : (nodes : Named Node) (n input : ℕ) (sizes : List (Option ℕ)) (mk : Made)
       (size : ℕ) (whole : List (Option ℕ)) → option_map MadeOf (slice_get nodes n) ≡ Some mk
@@ -70,7 +59,8 @@ module _ (script : Script) (members numbers counts : List ℕ) where
       (λ i. sizes_along script members numbers counts (drop (add-one n i) nodes) (behind
       (sym made i) input)
       (sizes ++ Some (same i) ∷ []))
-      ∙ (sym (taken e (drop (suc n) nodes) input sizes (ap (is_needed script) count ∙ needed))
+      ∙ (sym (along_next e (drop (suc n) nodes) input sizes true
+      (ap (is_needed script) count ∙ needed))
       ∙ subst (λ (l : Named Node). sizes_along script members numbers counts l input sizes
       ≡ whole) next
       along)
@@ -84,7 +74,8 @@ module _ (script : Script) (members numbers counts : List ℕ) where
       let (e, next) = some_entry nodes n below in
       (λ i. sizes_along script members numbers counts (drop (add-one n i) nodes) input
       (sizes ++ None ∷ []))
-      ∙ (sym (passed e (drop (suc n) nodes) input sizes (ap (is_needed script) count ∙ needless))
+      ∙ (sym (along_next e (drop (suc n) nodes) input sizes false
+      (ap (is_needed script) count ∙ needless))
       ∙ subst (λ (l : Named Node). sizes_along script members numbers counts l input sizes
       ≡ whole) next
       along)

@@ -1,7 +1,8 @@
 // The line of a refusal, which is written piece by piece and takes no memory.
-ghost use Rattle.std.specs.Prelude.{◌≡◌, ◌≤◌};
+ghost use Rattle.std.specs.Prelude.{◌≡◌, ◌≤◌, ◌++◌, codes, decimal};
 ghost use Rattle.run_texts.specs.Lines.{line_of, phase_name, place_line, plan_kind_name, row_kind_name, script_kind_name, trap_kind_name, trap_line};
 ghost use Rattle.outside.specs.Says.{HasLine, Says};
+ghost use Rattle.printing.specs.Printed.{printed};
 
 use crate::status::{Place, Status};
 use csv_rows::RowKind;
@@ -40,7 +41,14 @@ fn say_line<P: Screen>(screen: &mut P, status: &Status) -> Result<(), Failed>
             b"usage: flume check S | plan S [--json] | direct S | run S [options] | \
               make START ROWS\n",
         ),
-        Status::ScriptRefused { line, kind } => say_script_refused(screen, *line, *kind),
+        Status::ScriptRefused { line, kind } => {
+            say_at(
+                screen,
+                b"script refused at line ",
+                *line,
+                script_kind(*kind),
+            )
+        }
         Status::InputRefused {
             name,
             row,
@@ -53,7 +61,9 @@ fn say_line<P: Screen>(screen: &mut P, status: &Status) -> Result<(), Failed>
         Status::WantOfMemory => say_all(screen, &[b"want of memory\n"]),
         Status::TooLong { name, limit } => say_too_long(screen, name.as_bytes(), *limit),
         Status::NoFile { name } => say_named(screen, b"no file: ", name.as_bytes(), &[b"\n"]),
-        Status::PlanRefused { step, kind } => say_plan_refused(screen, *step, *kind),
+        Status::PlanRefused { step, kind } => {
+            say_at(screen, b"plan refused at step ", *step, plan_kind(*kind))
+        }
     }
 }
 
@@ -68,25 +78,27 @@ fn say_trap<P: Screen>(
 {
     say(screen, b"trap at ")?;
     say(screen, name)?;
+    say_why(screen, kind, element)
+}
+
+// Why a call traps, and its element.
+fn say_why<P: Screen>(screen: &mut P, kind: Kind, element: &Value) -> Result<(), Failed>
+    ensures { Says (codes ": " ++ (trap_kind_name kind ++ (codes " on "
+        ++ (printed element.now ++ codes "\n")))) (P.seen screen.old) (P.seen screen.new) result }
+{
     say_all(screen, &[b": ", trap_kind(kind), b" on "])?;
     say_value(screen, element)?;
     say(screen, b"\n")
 }
 
-fn say_script_refused<P: Screen>(screen: &mut P, line: u32, kind: ScriptKind) -> Result<(), Failed>
-    ensures { Says (line_of (Status.ScriptRefused line kind))
+// The line of a refusal at this number, of this kind.
+fn say_at<P: Screen>(screen: &mut P, front: &[u8], number: u32, kind: &[u8]) -> Result<(), Failed>
+    ensures { Says (front.now ++ (decimal number ++ (codes ": " ++ (kind.now ++ codes "\n"))))
         (P.seen screen.old) (P.seen screen.new) result }
 {
     let mut digits = Buffer::new();
-    let line = digits.format(line).as_bytes();
-    let pieces: [&[u8]; 5] = [
-        b"script refused at line ",
-        line,
-        b": ",
-        script_kind(kind),
-        b"\n",
-    ];
-    say_all(screen, &pieces)
+    let number = digits.format(number).as_bytes();
+    say_all(screen, &[front, number, b": ", kind, b"\n"])
 }
 
 fn say_input_refused<P: Screen>(
@@ -147,22 +159,6 @@ fn say_too_long<P: Screen>(screen: &mut P, name: &[u8], limit: u64) -> Result<()
         name,
         &[b" above ", limit, b" bytes\n"],
     )
-}
-
-fn say_plan_refused<P: Screen>(screen: &mut P, step: u32, kind: PlanKind) -> Result<(), Failed>
-    ensures { Says (line_of (Status.PlanRefused step kind))
-        (P.seen screen.old) (P.seen screen.new) result }
-{
-    let mut digits = Buffer::new();
-    let step = digits.format(step).as_bytes();
-    let pieces: [&[u8]; 5] = [
-        b"plan refused at step ",
-        step,
-        b": ",
-        plan_kind(kind),
-        b"\n",
-    ];
-    say_all(screen, &pieces)
 }
 
 // A screen that failed gets no line.

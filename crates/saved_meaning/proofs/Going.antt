@@ -45,17 +45,7 @@ rows_left needed how rows = if needed then inputs_behind how rows else rows
 
 pub none_first : (how : Made) → IsMadeOfOthers how → (rows : Lists) → first_of how rows ≡ []
 none_first (made.Input file columns) others rows = absurd others
-none_first (made.Do source called output) others rows = refl
-none_first (made.Group source) others rows = refl
-none_first (made.Combine source by) others rows = refl
-none_first (made.Flatten sources) others rows = refl
-none_first (made.Count source) others rows = refl
-none_first (made.Join left right_) others rows = refl
-none_first (made.Top many source) others rows = refl
-none_first (made.CombineAll source by) others rows = refl
-none_first (made.Operate objects called) others rows = refl
-none_first (made.DoWith source called object) others rows = refl
-none_first (made.Saved is_object call) others rows = refl
+none_first _ others rows = refl
 
 at_seam : (before nodes : Named Node) (entry : List ℕ × Node) (n : ℕ) → length before ≡ n
     → slice_get (map (λ (it : List ℕ × Node). it.1.made) (before ++ entry ∷ nodes)) n

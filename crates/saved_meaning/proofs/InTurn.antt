@@ -211,17 +211,7 @@ module _ (script : Script) (well : IsWellFormed script) (found : List ℕ) (all 
       no_row : (needed : Bool) (how : Made) → IsNoSource how → (rows : Lists)
           → HasRow needed how rows
       no_row needed (made.Input file columns) none rows = absurd none.others
-      no_row needed (made.Do source called output) none rows = tt
-      no_row needed (made.Group source) none rows = tt
-      no_row needed (made.Combine source by) none rows = tt
-      no_row needed (made.Flatten sources) none rows = tt
-      no_row needed (made.Count source) none rows = tt
-      no_row needed (made.Join left right_) none rows = tt
-      no_row needed (made.Top many source) none rows = tt
-      no_row needed (made.CombineAll source by) none rows = tt
-      no_row needed (made.Operate objects called) none rows = tt
-      no_row needed (made.DoWith source called object) none rows = tt
-      no_row needed (made.Saved is_object call) none rows = tt
+      no_row needed _ none rows = tt
 
   abbrev AllTurn : Named Node → Type 0
   AllTurn nodes = (before : Named Node) → before ++ nodes ≡ script.nodes

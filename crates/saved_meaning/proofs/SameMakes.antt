@@ -102,99 +102,17 @@ pub data Kind : Made → Type 0 where
 
 pub no_source : (how : Made) → IsMadeOfOthers how → IsNoSource how
 no_source (made.Input file columns) others = absurd others
-no_source (made.Do source called output) others = record {
-  others = others;
-  behind = λ rows. refl;
-  kind = refl;
-  too = λ later n. refl;
-  kept = λ table n. refl;
-  sourced = λ type. refl;
-}
-no_source (made.Group source) others = record {
-  others = others;
-  behind = λ rows. refl;
-  kind = refl;
-  too = λ later n. refl;
-  kept = λ table n. refl;
-  sourced = λ type. refl;
-}
-no_source (made.Combine source by) others = record {
-  others = others;
-  behind = λ rows. refl;
-  kind = refl;
-  too = λ later n. refl;
-  kept = λ table n. refl;
-  sourced = λ type. refl;
-}
-no_source (made.Flatten sources) others = record {
-  others = others;
-  behind = λ rows. refl;
-  kind = refl;
-  too = λ later n. refl;
-  kept = λ table n. refl;
-  sourced = λ type. refl;
-}
-no_source (made.Count source) others = record {
-  others = others;
-  behind = λ rows. refl;
-  kind = refl;
-  too = λ later n. refl;
-  kept = λ table n. refl;
-  sourced = λ type. refl;
-}
-no_source (made.Join left right_) others = record {
-  others = others;
-  behind = λ rows. refl;
-  kind = refl;
-  too = λ later n. refl;
-  kept = λ table n. refl;
-  sourced = λ type. refl;
-}
-no_source (made.Top many source) others = record {
-  others = others;
-  behind = λ rows. refl;
-  kind = refl;
-  too = λ later n. refl;
-  kept = λ table n. refl;
-  sourced = λ type. refl;
-}
-no_source (made.CombineAll source by) others = record {
-  others = others;
-  behind = λ rows. refl;
-  kind = refl;
-  too = λ later n. refl;
-  kept = λ table n. refl;
-  sourced = λ type. refl;
-}
-no_source (made.Operate objects called) others = record {
-  others = others;
-  behind = λ rows. refl;
-  kind = refl;
-  too = λ later n. refl;
-  kept = λ table n. refl;
-  sourced = λ type. refl;
-}
-no_source (made.DoWith source called object) others = record {
-  others = others;
-  behind = λ rows. refl;
-  kind = refl;
-  too = λ later n. refl;
-  kept = λ table n. refl;
-  sourced = λ type. refl;
-}
 no_source (made.Saved is_object call) others = absurd others
+no_source _ others = record {
+  others = others;
+  behind = λ rows. refl;
+  kind = refl;
+  too = λ later n. refl;
+  kept = λ table n. refl;
+  sourced = λ type. refl;
+}
 
 pub kind_of : (how : Made) → Kind how
 kind_of (made.Input file columns) = input file columns
-kind_of (made.Do source called output) = other _ (no_source (made.Do source called output) tt)
-kind_of (made.Group source) = other _ (no_source (made.Group source) tt)
-kind_of (made.Combine source by) = other _ (no_source (made.Combine source by) tt)
-kind_of (made.Flatten sources) = other _ (no_source (made.Flatten sources) tt)
-kind_of (made.Count source) = other _ (no_source (made.Count source) tt)
-kind_of (made.Join left right_) = other _ (no_source (made.Join left right_) tt)
-kind_of (made.Top many source) = other _ (no_source (made.Top many source) tt)
-kind_of (made.CombineAll source by) = other _ (no_source (made.CombineAll source by) tt)
-kind_of (made.Operate objects called) = other _ (no_source (made.Operate objects called) tt)
-kind_of (made.DoWith source called object) =
-    other _ (no_source (made.DoWith source called object) tt)
 kind_of (made.Saved is_object call) = saved is_object call
+kind_of how = other _ (no_source how tt)

@@ -107,16 +107,8 @@ module _ (s middle after : State) (first : HasLets s middle) (second : HasLets m
 other-in-place : (place : ℕ) (how : Made) → IsOther how → IsInPlace place how
 other-in-place place (made.Input file columns) other = other
 other-in-place place (made.Do source called output) other = absurd other
-other-in-place place (made.Group source) other = tt
-other-in-place place (made.Combine source by) other = tt
-other-in-place place (made.Flatten sources) other = tt
-other-in-place place (made.Count source) other = tt
-other-in-place place (made.Join left right_) other = tt
-other-in-place place (made.Top many source) other = tt
-other-in-place place (made.CombineAll source by) other = tt
-other-in-place place (made.Operate objects called) other = tt
-other-in-place place (made.DoWith source called object) other = tt
 other-in-place place (made.Saved is_object call) other = other
+other-in-place place _ other = tt
 
 outputs-in-place : (source called place output : ℕ) (types : List Ty) → output ≤ place
     → AreInPlace place (map how_making (outputs_from source called output types))

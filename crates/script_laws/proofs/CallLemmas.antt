@@ -8,7 +8,7 @@ use Rattle.script_rules.specs.of_written_types.Named.{Named}
 use Rattle.script_rules.specs.Operations.{outputs_from}
 use Rattle.script_rules.specs.of_script_program.declared.made.Made.{Made}
 use Rattle.script_rules.specs.of_script_program.declared.made.Made.TheVariants as made
-use Rattle.script_rules.specs.of_script_program.Script.{Function, Making}
+use Rattle.script_rules.specs.of_script_program.Script.{Function}
 use Rattle.script_laws.specs.WellFormed.{function_at}
 use Rattle.script_laws.proofs.MakingLemmas.{IsOther}
 use Rattle.script_laws.proofs.NewLemmas.{how_making}
@@ -84,18 +84,8 @@ IsNoCall (made.Do source function output) = ⊥
 IsNoCall _ = ⊤
 
 pub other-no-call : (how : Made) → IsOther how → IsNoCall how
-other-no-call (made.Input file columns) other = tt
 other-no-call (made.Do source function output) other = other
-other-no-call (made.Group source) other = tt
-other-no-call (made.Combine source by) other = tt
-other-no-call (made.Flatten sources) other = tt
-other-no-call (made.Count source) other = tt
-other-no-call (made.Join left right) other = tt
-other-no-call (made.Top number source) other = tt
-other-no-call (made.CombineAll source by) other = tt
-other-no-call (made.Operate objects function) other = tt
-other-no-call (made.DoWith source function object) other = tt
-other-no-call (made.Saved is_object call) other = tt
+other-no-call _ other = tt
 
 no-call : (how : Made) (source called output : ℕ) → IsNoCall how
     → how ≡ made.Do source called output → ⊥

@@ -27,17 +27,7 @@ call-from to (made.Do other function place) source called output e =
     let two : function ≡ called = cc in
     let three : place ≡ output = cc in
     record { other = other; is = λ i. made.Do other (two i) (three i); stands = one }
-call-from to (made.Input file columns) source called output e = cc
-call-from to (made.Group other) source called output e = cc
-call-from to (made.Combine other by) source called output e = cc
-call-from to (made.Flatten others) source called output e = cc
-call-from to (made.Count other) source called output e = cc
-call-from to (made.Join left right_) source called output e = cc
-call-from to (made.Top many other) source called output e = cc
-call-from to (made.CombineAll other by) source called output e = cc
-call-from to (made.Operate objects function) source called output e = cc
-call-from to (made.DoWith other function object) source called output e = cc
-call-from to (made.Saved is_object call) source called output e = cc
+call-from to _ source called output e = cc
 
 copied-mades : (turn : ℕ) (to : ℕ → ℕ) (nodes : Named Node)
     → map how_made (map (copied turn to) nodes) ≡ map (renumbered to) (map how_made nodes)

@@ -27,19 +27,21 @@ nodes-are (name ∷ names) [] s = sym (append-nil s.nodes)
 nodes-are (name ∷ names) (making ∷ makings) s =
     nodes-are names makings (with_node name making s) ∙ simp append_assoc
 
+-- functions and outputs stay
+others-are : (names : List (List ℕ)) (makings : List Making) (s : State)
+    → ((with_nodes names makings s).functions ≡ s.functions)
+    × ((with_nodes names makings s).outputs ≡ s.outputs)
+others-are [] makings s = (refl, refl)
+others-are (name ∷ names) [] s = (refl, refl)
+others-are (name ∷ names) (making ∷ makings) s = others-are names makings (with_node name making s)
+
 pub functions-are : (names : List (List ℕ)) (makings : List Making) (s : State)
     → (with_nodes names makings s).functions ≡ s.functions
-functions-are [] makings s = refl
-functions-are (name ∷ names) [] s = refl
-functions-are (name ∷ names) (making ∷ makings) s =
-    functions-are names makings (with_node name making s)
+functions-are names makings s = (others-are names makings s).0
 
 pub outputs-are : (names : List (List ℕ)) (makings : List Making) (s : State)
     → (with_nodes names makings s).outputs ≡ s.outputs
-outputs-are [] makings s = refl
-outputs-are (name ∷ names) [] s = refl
-outputs-are (name ∷ names) (making ∷ makings) s =
-    outputs-are names makings (with_node name making s)
+outputs-are names makings s = (others-are names makings s).1
 
 pub named-few : (statement : ℕ) (names : List (List ℕ)) (makings : List Making)
     → length (named statement names makings) ≤ length names

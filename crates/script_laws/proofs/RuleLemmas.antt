@@ -1,6 +1,6 @@
 -- Each statement's rules keep what is well formed so far.
 use Rattle.std.proofs.Common.{◌≡◌, ℕ, ◌+◌, ◌<◌, ◌≤◌, nat_le, nat_lt, List, []}
-use Rattle.std.proofs.Common.{◌∷◌, ◌++◌, length, map, Ok, Some, refl, sym, ap, ◌∙◌, subst, arith}
+use Rattle.std.proofs.Common.{◌∷◌, ◌++◌, length, map, Ok, Some, refl, sym, ap, subst, arith}
 use Rattle.std.proofs.Common.{length-append, slice_get, IsSomeAnd}
 use Rattle.std.specs.List.{All}
 use Rattle.std.proofs.lemmas.Bool.{leb-true}
@@ -21,7 +21,6 @@ use Rattle.flume_grammar.specs.declared.fault.ScriptKind.TheVariants.{NotFlat, N
 use Rattle.script_rules.specs.of_written_types.Answer.{unless, or_fault}
 use Rattle.script_rules.specs.of_written_types.Named.{Named, fresh}
 use Rattle.script_rules.specs.of_written_types.Written.{whole_type}
-use Rattle.script_rules.specs.of_body_check.Bodies.{body_of}
 use Rattle.script_rules.specs.of_script_program.Limits.{most_collections, most_files, most_functions, most_outputs}
 use Rattle.script_rules.specs.of_script_program.Kinds.{emitted_as}
 use Rattle.script_rules.specs.of_script_program.Saved.{HasNoSaved, IsUnsaved}
@@ -36,6 +35,7 @@ use Rattle.script_rules.specs.Operations.{collection}
 use Rattle.script_rules.specs.Repeats.{unrolled}
 use Rattle.script_rules.specs.Rules as spec
 use Rattle.script_rules.proofs.CheckedLemmas.{both, holds, there, ok-same}
+use Rattle.script_rules.proofs.FoundLemmas.{ruled}
 use Rattle.script_laws.specs.WellFormed.{Fits, AllFit, AllReadKinds, HasColumns, HasOutputs}
 use Rattle.script_laws.specs.WellFormed.{IsCallOf, IsNameOf, IsWellTyped, IsWellFormed}
 use Rattle.script_laws.proofs.FitLemmas.{all-fit-more, fit-append, kinds-append, outputs-kept}
@@ -50,15 +50,19 @@ use Rattle.script_laws.proofs.UnsavedLemmas.{AreUnsaved, both-unsaved, places-un
 use Rattle.script_laws.proofs.UnsavedLemmas.{turns-unsaved}
 
 -- what is defined so far is well formed
-record IsGood (s : State) : Type 0 where
-  pub functions : All (λ (entry : List ℕ × Function). IsWellTyped entry.1) s.functions
-  pub gives : All (λ (entry : List ℕ × Function). HasOutputs entry.1) s.functions
-  pub nodes : AllFit s.functions [] s.nodes
-  pub kinds : AllReadKinds [] s.nodes
-  pub calls : CallsStand s.functions (map how_made s.nodes)
-  pub unsaved : AreUnsaved s.nodes
-  pub outputs : All (λ (entry : List ℕ × Output). HasColumns s.nodes entry.1) s.outputs
-  pub few : length s.nodes ≤ most_collections
+record AreGood (defined : Named Function) (made_ : Named Node) (written : Named Output) : Type 0
+  where
+    pub functions : All (λ (entry : List ℕ × Function). IsWellTyped entry.1) defined
+    pub gives : All (λ (entry : List ℕ × Function). HasOutputs entry.1) defined
+    pub nodes : AllFit defined [] made_
+    pub kinds : AllReadKinds [] made_
+    pub calls : CallsStand defined (map how_made made_)
+    pub unsaved : AreUnsaved made_
+    pub outputs : All (λ (entry : List ℕ × Output). HasColumns made_ entry.1) written
+    pub few : length made_ ≤ most_collections
+
+abbrev IsGood : State → Type 0
+IsGood s = AreGood s.functions s.nodes s.outputs
 
 -- where there is room for so many more, there is
 has-room : {A : Type 0} (line more limit : ℕ) (names : Named A) (u : Unit {0})
@@ -73,37 +77,19 @@ nodes-more : (s after : State) (more : Named Node) → IsGood s → AllFit s.fun
     → after.nodes ≡ s.nodes ++ more → after.functions ≡ s.functions → after.outputs ≡ s.outputs
     → length after.nodes ≤ most_collections → IsGood after
 nodes-more s after more good fits kinds calls unsaved nodes functions outputs few =
-    let all = fit-append s.functions [] s.nodes more good.nodes fits in
-    let kept = outputs-kept s.nodes more s.outputs good.outputs in
-    let mades = map-append how_made s.nodes more in
-    record {
-      functions =
-          subst (All (λ (entry : List ℕ × Function). IsWellTyped entry.1)) (sym functions)
-          good.functions;
-      gives =
-          subst (All (λ (entry : List ℕ × Function). HasOutputs entry.1)) (sym functions)
-          good.gives;
-      nodes =
-          subst (λ all. AllFit after.functions [] all) (sym nodes)
-          (subst (λ fs. AllFit fs [] (s.nodes ++ more)) (sym functions) all);
-      kinds =
-          subst (AllReadKinds []) (sym nodes)
-          (kinds-append [] s.nodes more good.kinds kinds);
-      calls =
-          subst (λ all. CallsStand after.functions (map how_made all)) (sym nodes)
-          (subst (λ fs. CallsStand fs (map how_made (s.nodes ++ more))) (sym functions)
-          (subst (CallsStand s.functions) (sym mades) calls));
-      unsaved =
-          subst AreUnsaved (sym nodes) (both-unsaved s.nodes more good.unsaved unsaved);
-      outputs =
-          subst
-          (λ all. All (λ (entry : List ℕ × Output). HasColumns all entry.1) after.outputs)
-          (sym nodes)
-          (subst
-          (All (λ (entry : List ℕ × Output). HasColumns (s.nodes ++ more) entry.1))
-          (sym outputs) kept);
-      few = few;
-    }
+    let all : AreGood s.functions (s.nodes ++ more) s.outputs = record {
+      functions = good.functions;
+      gives = good.gives;
+      nodes = fit-append s.functions [] s.nodes more good.nodes fits;
+      kinds = kinds-append [] s.nodes more good.kinds kinds;
+      calls = subst (CallsStand s.functions) (sym (map-append how_made s.nodes more)) calls;
+      unsaved = both-unsaved s.nodes more good.unsaved unsaved;
+      outputs = outputs-kept s.nodes more s.outputs good.outputs;
+      few = subst (λ all. length all ≤ most_collections) nodes few;
+    } in
+    subst (AreGood after.functions after.nodes) (sym outputs)
+    (subst (λ all. AreGood after.functions all s.outputs) (sym nodes)
+    (subst (λ all. AreGood all (s.nodes ++ more) s.outputs) (sym functions) all))
 
 -- a function gives to as many outputs as types are written
 types-many : (line : ℕ) (found : List Ty) (types : List tree.Type) (known : Named Ty)
@@ -124,16 +110,7 @@ module _ (line : ℕ) (s after : State) (good : IsGood s) where
   type-good name type e =
       let new = both (fresh line name s.types) _ after e in
       let t = both (whole_type line type s.types) _ after new.then in
-      subst IsGood (ok-same _ after t.then) (record {
-        functions = good.functions;
-        gives = good.gives;
-        nodes = good.nodes;
-        kinds = good.kinds;
-        calls = good.calls;
-        unsaved = good.unsaved;
-        outputs = good.outputs;
-        few = good.few;
-      })
+      subst IsGood (ok-same _ after t.then) good
 
   input-good : (name : List ℕ) (type : tree.Type) (file : List ℕ)
       → spec.rule_input line name type file s ≡ Ok after → IsGood after
@@ -185,17 +162,12 @@ module _ (line : ℕ) (s after : State) (good : IsGood s) where
   function-good : (function : WrittenFunction) → spec.rule_function line function s ≡ Ok after
       → IsGood after
   function-good function e =
-      let signature = both (spec.signature_of line function s) _ after e in
-      let takes = signature.part.takes in
-      let gives = signature.part.gives in
-      let body =
-      both (body_of s.types function.argument takes gives function.body) _ after
-      signature.then in
-      let many = signature-good function signature.part signature.first in
-      subst IsGood (ok-same _ after body.then) (record {
+      let it = ruled line function s after e in
+      let many = signature-good function it.signature it.signed in
+      subst IsGood it.is (record {
         functions =
             All-push (λ (entry : List ℕ × Function). IsWellTyped entry.1) s.functions _
-            good.functions body.first;
+            good.functions it.typed;
         gives =
             All-push (λ (entry : List ℕ × Function). HasOutputs entry.1) s.functions _
             good.gives (record { some = many.0; few = many.1 });
@@ -272,27 +244,13 @@ module _ (line : ℕ) (s after : State) (good : IsGood s) where
   rule-good (form.Repeat names written) e = repeat-good names written e
   rule-good (form.Output name file) e = output-good name file e
 
--- the same, behind one statement more
-counted-good : (s : State) → IsGood s → IsGood (with_statement s)
-counted-good s good = record {
-  functions = good.functions;
-  gives = good.gives;
-  nodes = good.nodes;
-  kinds = good.kinds;
-  calls = good.calls;
-  unsaved = good.unsaved;
-  outputs = good.outputs;
-  few = good.few;
-}
-
 defined-good : (statements : List Statement) (s after : State) → IsGood s
     → spec.defined statements s ≡ Ok after → IsGood after
 defined-good [] s after good e = subst IsGood (ok-same s after e) good
 defined-good (statement ∷ rest) s after good e =
     let next = both (spec.rule statement.line statement.form s) _ after e in
     defined-good rest (with_statement next.part) after
-    (counted-good next.part
-    (rule-good statement.line s next.part good statement.form next.first)) next.then
+    (rule-good statement.line s next.part good statement.form next.first) next.then
 
 nothing-good : IsGood nothing
 nothing-good = record {
@@ -334,16 +292,7 @@ call-at s stand number (made.Do source called output) it own is emitted =
     subst (IsCallOf (script_from s) number) same
     (call-from s number source called output (stand number source called output is))
 call-at s stand number (made.Saved is_object call) it own is emitted = absurd own
-call-at s stand number (made.Input file columns) it own is emitted = cc
-call-at s stand number (made.Group source) it own is emitted = cc
-call-at s stand number (made.Combine source by) it own is emitted = cc
-call-at s stand number (made.Flatten sources) it own is emitted = cc
-call-at s stand number (made.Count source) it own is emitted = cc
-call-at s stand number (made.Join left right_) it own is emitted = cc
-call-at s stand number (made.Top many source) it own is emitted = cc
-call-at s stand number (made.CombineAll source by) it own is emitted = cc
-call-at s stand number (made.Operate objects called) it own is emitted = cc
-call-at s stand number (made.DoWith source called object) it own is emitted = cc
+call-at s stand number _ it own is emitted = cc
 
 -- ---- the whole
 

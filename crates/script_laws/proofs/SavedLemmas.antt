@@ -1,8 +1,8 @@
 -- A well-formed script is one too where some of its collections are kept ones.
-use Rattle.std.proofs.Common.{◌≡◌, ℕ, zero, suc, ◌+◌, ◌<◌, Bool, true, false, List, [], ◌∷◌, ◌++◌}
+use Rattle.std.proofs.Common.{◌≡◌, ℕ, zero, suc, ◌+◌, Bool, true, false, List, [], ◌∷◌, ◌++◌}
 use Rattle.std.proofs.Common.{length, map, Option, Some, None, if◌then◌else◌, slice_get, IsSomeAnd}
 use Rattle.std.proofs.Common.{refl, sym, ap, ◌∙◌, subst, arith, add-zero, zero-add}
-use Rattle.std.specs.List.{All, AllByRecursion as Each, AllZip}
+use Rattle.std.specs.List.{AllByRecursion as Each}
 use Rattle.std.specs.Option.{option_map}
 use Rattle.std.proofs.lemmas.List.{map_push}
 use Rattle.std.proofs.lemmas.Option.{slice_get-map}
@@ -17,7 +17,8 @@ use Rattle.script_rules.specs.of_script_program.Needed.{has, made_of}
 use Rattle.script_rules.specs.of_script_program.Saved.{saved_as, saved_from, saved_node, with_saved}
 use Rattle.script_rules.specs.of_script_program.Script.{Function, Node, Script}
 use Rattle.script_laws.specs.WellFormed.{AllFit, AllReadKinds, Fits, HasColumns, IsCallOf, IsKept}
-use Rattle.script_laws.specs.WellFormed.{IsNameOf, IsWellFormed, ReadsKinds, members_at, object_at}
+use Rattle.script_laws.specs.WellFormed.{IsNameOf, IsWellFormed, ReadsKinds, object_at}
+use Rattle.script_laws.proofs.FitLemmas.{fits-there}
 
 -- ---- what is read off a collection
 
@@ -63,104 +64,13 @@ length-saved found n (entry ∷ nodes) = ap suc (length-saved found (suc n) node
 
 -- ---- collections fit
 
-module _ (functions : Named Function) (a b : Named Node) (same : map typed a ≡ map typed b) where
-  at : (n : ℕ) (type : Ty) → members_at a n ≡ Some type → members_at b n ≡ Some type
-  at n type is = sym (read-same typed a b same n) ∙ is
-
-  zip-at : (objects : List ℕ) (types : List Ty)
-      → AllZip (λ object t. members_at a object ≡ Some t) objects types
-      → AllZip (λ object t. members_at b object ≡ Some t) objects types
-  zip-at [] [] all = tt
-  zip-at [] (t ∷ types) all = absurd all
-  zip-at (object ∷ objects) [] all = absurd all
-  zip-at (object ∷ objects) (t ∷ types) all =
-      (at object t all.0, zip-at objects types all.1)
-
-  fits-same : (how : Made) (type : Ty) → Fits functions a how type → Fits functions b how type
-  fits-same (made.Input file columns) type f = f
-  fits-same (made.Do source function output) type f = record {
-    function = f.function;
-    calls = f.calls;
-    takes = at source _ f.takes;
-    gives = f.gives;
-  }
-  fits-same (made.Group source) type f = record {
-    key = f.key;
-    value = f.value;
-    reads = at source _ f.reads;
-    gives = f.gives;
-  }
-  fits-same (made.Combine source by) type f = record {
-    key = f.key;
-    member = f.member;
-    value = f.value;
-    reads = at source _ f.reads;
-    suits = f.suits;
-    gives = f.gives;
-  }
-  fits-same (made.Flatten sources) type f = record {
-    some = f.some;
-    read = λ k d in_. at _ type (f.read k d in_);
-  }
-  fits-same (made.Count source) type f = record {
-    member = f.member;
-    reads = at source _ f.reads;
-    gives = f.gives;
-  }
-  fits-same (made.Join left right_) type f = record {
-    key = f.key;
-    left_value = f.left_value;
-    right_value = f.right_value;
-    reads_left = at left _ f.reads_left;
-    reads_right = at right_ _ f.reads_right;
-    gives = f.gives;
-  }
-  fits-same (made.Top number source) type f = record {
-    least = f.least;
-    most = f.most;
-    reads = at source _ f.reads;
-  }
-  fits-same (made.CombineAll source by) type f = record {
-    member = f.member;
-    reads = at source _ f.reads;
-    suits = f.suits;
-  }
-  fits-same (made.Operate objects function) type f = record {
-    function = f.function;
-    calls = f.calls;
-    types = f.types;
-    reads = zip-at objects f.types f.reads;
-    takes = f.takes;
-    gives = f.gives;
-  }
-  fits-same (made.DoWith source function object) type f = record {
-    function = f.function;
-    calls = f.calls;
-    member = f.member;
-    value = f.value;
-    reads = at source _ f.reads;
-    reads_object = at object _ f.reads_object;
-    takes = f.takes;
-    gives = f.gives;
-  }
-  fits-same (made.Saved is_object call) type f = f
-
 -- what is kept of it fits
 kept-fits : (functions : Named Function) (nodes : Named Node) (how : Made) (type : Ty)
     → Fits functions nodes how type → IsKept functions (emitted_as how) type
-kept-fits functions nodes (made.Input file columns) type f = tt
 kept-fits functions nodes (made.Do source function output) type f =
     record { function = f.function; calls = f.calls; gives = f.gives }
-kept-fits functions nodes (made.Group source) type f = tt
-kept-fits functions nodes (made.Combine source by) type f = tt
-kept-fits functions nodes (made.Flatten sources) type f = tt
-kept-fits functions nodes (made.Count source) type f = tt
-kept-fits functions nodes (made.Join left right_) type f = tt
-kept-fits functions nodes (made.Top number source) type f = tt
-kept-fits functions nodes (made.CombineAll source by) type f = tt
-kept-fits functions nodes (made.Operate objects function) type f = tt
-kept-fits functions nodes (made.DoWith source function object) type f = tt
 kept-fits functions nodes (made.Saved is_object call) type f = f
+kept-fits functions nodes _ type f = tt
 
 module _ (functions : Named Function) (found : List ℕ) where
   fit-if : (b : Bool) (before after : Named Node) (entry : List ℕ × Node)
@@ -169,7 +79,8 @@ module _ (functions : Named Function) (found : List ℕ) where
   fit-if true before after entry same f =
       kept-fits functions before entry.1.made entry.1.type f
   fit-if false before after entry same f =
-      fits-same functions before after same entry.1.made entry.1.type f
+      fits-there functions functions before after (λ called function is. is)
+      (λ n type is. sym (read-same typed before after same n) ∙ is) entry.1.made entry.1.type f
 
   all-fit : (n : ℕ) (before after nodes : Named Node) → map typed before ≡ map typed after
       → AllFit functions before nodes → AllFit functions after (saved_from found n nodes)
@@ -253,18 +164,9 @@ emitted-if false how = refl
 -- a name of a call is one where it is kept
 name-kept : (source called k : ℕ) (how : Made) → IsNameOf source called k how
     → IsNameOf source called k (saved_as how)
-name-kept source called k (made.Input file columns) name = absurd name
 name-kept source called k (made.Do input function output) name = ap emitted_as name
-name-kept source called k (made.Group input) name = absurd name
-name-kept source called k (made.Combine input by) name = absurd name
-name-kept source called k (made.Flatten inputs) name = absurd name
-name-kept source called k (made.Count input) name = absurd name
-name-kept source called k (made.Join left right_) name = absurd name
-name-kept source called k (made.Top number input) name = absurd name
-name-kept source called k (made.CombineAll input by) name = absurd name
-name-kept source called k (made.Operate objects function) name = absurd name
-name-kept source called k (made.DoWith input function object) name = absurd name
 name-kept source called k (made.Saved is_object call) name = name
+name-kept source called k _ name = absurd name
 
 name-if : (b : Bool) (source called k : ℕ) (o : Option Made)
     → IsSomeAnd o (IsNameOf source called k)

@@ -24,18 +24,8 @@ both-unsaved nodes more first second =
 -- ---- lets that stand where they may
 
 place-unsaved : (place : ℕ) (how : Made) → IsInPlace place how → IsUnsaved how
-place-unsaved place (made.Input file columns) here = tt
-place-unsaved place (made.Do source called output) here = tt
-place-unsaved place (made.Group source) here = tt
-place-unsaved place (made.Combine source by) here = tt
-place-unsaved place (made.Flatten sources) here = tt
-place-unsaved place (made.Count source) here = tt
-place-unsaved place (made.Join left right_) here = tt
-place-unsaved place (made.Top many source) here = tt
-place-unsaved place (made.CombineAll source by) here = tt
-place-unsaved place (made.Operate objects called) here = tt
-place-unsaved place (made.DoWith source called object) here = tt
 place-unsaved place (made.Saved is_object call) here = here
+place-unsaved place _ here = tt
 
 pub places-unsaved : (place : ℕ) (nodes : Named Node) → AreInPlace place (map how_made nodes)
     → AreUnsaved nodes
@@ -48,18 +38,8 @@ places-unsaved place (entry ∷ nodes) here = (
 -- ---- copies of them
 
 copy-unsaved : (to : ℕ → ℕ) (how : Made) → IsUnsaved how → IsUnsaved (renumbered to how)
-copy-unsaved to (made.Input file columns) own = tt
-copy-unsaved to (made.Do source called output) own = tt
-copy-unsaved to (made.Group source) own = tt
-copy-unsaved to (made.Combine source by) own = tt
-copy-unsaved to (made.Flatten sources) own = tt
-copy-unsaved to (made.Count source) own = tt
-copy-unsaved to (made.Join left right_) own = tt
-copy-unsaved to (made.Top many source) own = tt
-copy-unsaved to (made.CombineAll source by) own = tt
-copy-unsaved to (made.Operate objects called) own = tt
-copy-unsaved to (made.DoWith source called object) own = tt
 copy-unsaved to (made.Saved is_object call) own = own
+copy-unsaved to _ own = tt
 
 copies-unsaved : (turn : ℕ) (to : ℕ → ℕ) (nodes : Named Node) → AreUnsaved nodes
     → AreUnsaved (map (copied turn to) nodes)

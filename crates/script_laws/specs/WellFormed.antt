@@ -192,14 +192,18 @@ IsNameOf source called k _ = ⊥
 
 -- The collection of that number is an output of a call. The call's outputs stand one after another,
 -- as many as its function has; the first of them has the number `first`.
-pub record IsCallOf (script : Script) (number : ℕ) (it : Emitted) : Type 0 where
+pub record IsCallIn (functions : Named Function) (ways : List Made)
+    (number : ℕ) (it : Emitted) : Type 0 where
   pub first : ℕ
   pub place : first + it.output ≡ number
   pub function : Function
-  pub calls : function_at script.functions it.function ≡ Some function
+  pub calls : function_at functions it.function ≡ Some function
   pub source : ℕ
   pub names : (k : ℕ) → k < length function.signature.gives
-      → IsSomeAnd (slice_get (made_of script) (first + k)) (IsNameOf source it.function k)
+      → IsSomeAnd (slice_get ways (first + k)) (IsNameOf source it.function k)
+
+abbrev pub IsCallOf : Script → ℕ → Emitted → Type 0
+IsCallOf script number it = IsCallIn script.functions (made_of script) number it
 
 -- an output has the columns of the collection that it reads
 pub record HasColumns (nodes : Named Node) (output : Output) : Type 0 where

@@ -1,7 +1,7 @@
--- Inputs, as they are read node by node.
+-- The inputs of a script, node by node.
 use Rattle.std.proofs.Common.{◌≡◌, ℕ, suc, zero, ◌+◌, ◌<◌, Bool, true, false, List, [], ◌∷◌, ◌++◌, drop, length, Option, Some, None, slice_get, ap, sym, ◌∙◌, refl, subst, append_assoc, append-nil, arith}
 use Rattle.std.specs.Option.{option_map}
-use Rattle.std.specs.Prelude.{IsUtf8, Ok}
+use Rattle.std.specs.Prelude.{Ok}
 use Rattle.std.proofs.lemmas.List.{drop_all}
 use Rattle.std.proofs.lemmas.Option.{get_or_from_slice_get, slice_get_within}
 use Rattle.csv_rows.specs.Rows.{rows_of}
@@ -12,68 +12,25 @@ use Rattle.flume_types.specs.Columns.{input_columns_of}
 use Rattle.flume_types.specs.Typing.{AllHave}
 use Rattle.flume_types.specs.declared.column.Column.{Column}
 use Rattle.flume_value.specs.declared.value.Value.{Value}
-use Rattle.outside.specs.Seen.{SeenSource}
 use Rattle.outside.specs.declared.file.File.{File as NamedBytes}
-use Rattle.run_texts.specs.declared.status.Status.{Status}
 use Rattle.script_program.specs.declared.made.Made.{Made}
 use Rattle.script_program.specs.declared.made.Made.TheVariants as made
 use Rattle.script_program.specs.Script.{Function, Node, Script}
 use Rattle.build_law.specs.of_script_laws.WellFormed.{AllFit, Fits, IsWellFormed}
 use Rattle.written_types.specs.Named.{Named}
-use Rattle.script_loading.specs.Loads.{AllHaveRows, HasRows}
-use Rattle.script_loading.specs.inner.Reading.{HasRead, inputs_from}
-use Rattle.script_loading.specs.Causes.{IsInputCause, IsInputsCause}
+use Rattle.script_loading.specs.Loads.{AllHaveRows}
+use Rattle.script_loading.specs.inner.Reading.{HoldsBelow, IsNeededInput, inputs_at, inputs_from}
 use Rattle.script_loading.specs.Ready.{IsNamedMade, IsReady}
 
 abbrev Told : Type 0
 Told = Option (List NamedBytes)
 
-abbrev pub Entry : Type 0
+abbrev Entry : Type 0
 Entry = List ℕ × Node
 
 -- the input that a node is
-abbrev pub wanted : Entry → List Wanted
+abbrev wanted : Entry → List Wanted
 wanted entry = wanted_by entry.1.made entry.1.type
-
-dropped : {A : Type 0} (xs : List A) (k : ℕ) (x : A) → slice_get xs k ≡ Some x
-    → drop k xs ≡ x ∷ drop (suc k) xs
-dropped [] k x is = absurd (cc)
-dropped (y ∷ xs) zero x is = let same : y ≡ x = cc in ap (λ h. h ∷ xs) same
-dropped (y ∷ xs) (suc k) x is = dropped xs k x is
-
--- ---- one node
-
-abbrev pub inputs_here : (needed : Bool) (own rest : List Wanted) → List Wanted
-inputs_here true own rest = own ++ rest
-inputs_here false own rest = rest
-
-numbered_inputs : (script : Script) (number : ℕ) (entry : Entry) (nodes : Named Node)
-    (needed : Bool) → is_needed script number ≡ needed
-    → inputs_from script number (entry ∷ nodes)
-    ≡ inputs_here needed (wanted entry) (inputs_from script (suc number) nodes)
-numbered_inputs script number entry nodes true is = rw is refl
-numbered_inputs script number entry nodes false is = rw is refl
-
--- the inputs from a node on, where that is the one of this number
-pub from_node : (script : Script) (number : ℕ) (entry : Entry) (needed : Bool)
-    → slice_get script.nodes number ≡ Some entry → is_needed script number ≡ needed
-    → inputs_from script number (drop number script.nodes)
-    ≡ inputs_here needed (wanted entry)
-    (inputs_from script (suc number) (drop (suc number) script.nodes))
-from_node script number entry needed found is =
-    ap (inputs_from script number) (dropped script.nodes number entry found)
-    ∙ numbered_inputs script number entry (drop (suc number) script.nodes) needed is
-
--- ---- rows of several inputs
-
-more_rows : (told : Told) (done : List Wanted) (it : Wanted) (rows : List (List Value))
-    (own : List Value) → AllHaveRows told done rows → HasRows told it own
-    → AllHaveRows told (done ++ it ∷ []) (rows ++ own ∷ [])
-more_rows told [] it [] own all has = (has, tt)
-more_rows told [] it (r ∷ rows) own all has = absurd all
-more_rows told (w ∷ done) it [] own all has = absurd all
-more_rows told (w ∷ done) it (r ∷ rows) own all has =
-    (all.0, more_rows told done it rows own all.1 has)
 
 -- rows that files have are of the types of their inputs, where decoded rows have their type
 pub typed_rows : (told : Told)
@@ -87,15 +44,48 @@ typed_rows told typed (w ∷ inputs) [] all = absurd all
 typed_rows told typed (w ∷ inputs) (r ∷ rows) all =
     (typed all.0.0 w.type r all.0.2, typed_rows told typed inputs rows all.1)
 
--- ---- what was read
+-- ---- the inputs from a node on
 
-pub none_read : (told : Told) (script : Script) → HasRead told script 0 []
-none_read told script = ([], refl, tt)
+dropped : {A : Type 0} (xs : List A) (k : ℕ) (x : A) → slice_get xs k ≡ Some x
+    → drop k xs ≡ x ∷ drop (suc k) xs
+dropped [] k x is = absurd (cc)
+dropped (y ∷ xs) zero x is = let same : y ≡ x = cc in ap (λ h. h ∷ xs) same
+dropped (y ∷ xs) (suc k) x is = dropped xs k x is
 
-nothing_behind : (script : Script) (number : ℕ) → inputs_from script number [] ≡ []
-nothing_behind script number = refl
+pub at_unneeded : (script : Script) (number : ℕ) → is_needed script number ≡ false
+    → inputs_at script number ≡ []
+at_unneeded script number is = rw is refl
 
-pub all_done : (script : Script) (done : List Wanted)
+at_needed : (script : Script) (number : ℕ) (entry : Entry)
+    → slice_get script.nodes number ≡ Some entry → is_needed script number ≡ true
+    → inputs_at script number ≡ wanted entry
+at_needed script number entry found is = rw (is, found) refl
+
+split_here : (script : Script) (number : ℕ) (entry : Entry) (nodes : Named Node) (needed : Bool)
+    → slice_get script.nodes number ≡ Some entry → is_needed script number ≡ needed
+    → inputs_from script number (entry ∷ nodes)
+    ≡ inputs_at script number ++ inputs_from script (suc number) nodes
+split_here script number entry nodes true found is = rw (is, found) refl
+split_here script number entry nodes false found is = rw is refl
+
+-- some node stands below the end
+there : (nodes : Named Node) (number : ℕ) → number < length nodes
+    → (entry : Entry) × (slice_get nodes number ≡ Some entry)
+there [] number within = absurd (omega arith)
+there (entry ∷ nodes) zero within = (entry, refl)
+there (entry ∷ nodes) (suc number) within = there nodes number (omega arith)
+
+-- they are its own and those behind it
+pub its_split : (script : Script) (number : ℕ) → number < length script.nodes
+    → inputs_from script number (drop number script.nodes)
+    ≡ inputs_at script number ++ inputs_from script (suc number) (drop (suc number) script.nodes)
+its_split script number within =
+    let at = there script.nodes number within in
+    ap (inputs_from script number) (dropped script.nodes number at.0 at.1)
+    ∙ split_here script number at.0 (drop (suc number) script.nodes) (is_needed script number) at.1
+    refl
+
+all_done : (script : Script) (done : List Wanted)
     → inputs_of script
     ≡ done ++ inputs_from script (length script.nodes) (drop (length script.nodes) script.nodes)
     → inputs_of script ≡ done
@@ -104,79 +94,28 @@ all_done script done is =
     ∙ (ap (λ (nodes : Named Node). done ++ inputs_from script (length script.nodes) nodes)
     (drop_all (length script.nodes) script.nodes (omega arith)) ∙ append-nil done)
 
-pub all_read : (told : Told) (script : Script) (rows : List (List Value))
-    → HasRead told script (length script.nodes) rows
-    → AllHaveRows told (inputs_of script) rows
-all_read told script rows read =
-    subst (λ (l : List Wanted). AllHaveRows told l rows) (sym (all_done script read.0 read.1))
-    read.2
-
--- a node that is not needed
-pub passes : (told : Told) (script : Script) (number : ℕ) (rows : List (List Value)) (entry :
-    Entry)
-    → slice_get script.nodes number ≡ Some entry → is_needed script number ≡ false
-    → HasRead told script number rows → HasRead told script (suc number) rows
-passes told script number rows entry found unneeded read = (
-  read.0,
-  read.1 ∙ ap (λ l. read.0 ++ l) (from_node script number entry false found unneeded),
-  read.2,
-)
-
--- a node that is no input
-passes_other : (told : Told) (script : Script) (number : ℕ) (rows : List (List Value))
-    (entry : Entry) → slice_get script.nodes number ≡ Some entry
-    → is_needed script number ≡ true → wanted entry ≡ []
-    → HasRead told script number rows → HasRead told script (suc number) rows
-passes_other told script number rows entry found needed other read =
-    let behind = inputs_from script (suc number) (drop (suc number) script.nodes) in (
-      read.0,
-      read.1 ∙ ap (λ l. read.0 ++ l)
-          (from_node script number entry true found needed ∙ ap (λ own. own ++ behind) other),
-      read.2,
-    )
-
--- the inputs, where this node is one of them
-pub turns : (script : Script) (number : ℕ) (entry : Entry) (it : Wanted) (done : List Wanted)
-    → slice_get script.nodes number ≡ Some entry → is_needed script number ≡ true
-    → wanted entry ≡ it ∷ []
-    → inputs_of script ≡ done ++ inputs_from script number (drop number script.nodes)
-    → inputs_of script
-    ≡ done ++ it ∷ inputs_from script (suc number) (drop (suc number) script.nodes)
-turns script number entry it done found needed is read =
+-- what holds below a number holds below the next, if it is kept where the inputs there are added
+pub below_more : (P Q : List Wanted → Type 0) (script : Script) (number : ℕ)
+    → number < length script.nodes → HoldsBelow P script number
+    → ((done : List Wanted) → P done → Q (done ++ inputs_at script number))
+    → HoldsBelow Q script (number + 1)
+below_more P Q script number within holds more =
+    let own = inputs_at script number in
     let behind = inputs_from script (suc number) (drop (suc number) script.nodes) in
-    read ∙ ap (λ l. done ++ l)
-    (from_node script number entry true found needed ∙ ap (λ own. own ++ behind) is)
-
--- one input more
-reads_more : (told : Told) (script : Script) (number : ℕ) (rows : List (List Value))
-    (entry : Entry) (it : Wanted) (own : List Value)
-    → slice_get script.nodes number ≡ Some entry → is_needed script number ≡ true
-    → wanted entry ≡ it ∷ [] → HasRows told it own
-    → HasRead told script number rows → HasRead told script (suc number) (rows ++ own ∷ [])
-reads_more told script number rows entry it own found needed is has read =
-    let behind = inputs_from script (suc number) (drop (suc number) script.nodes) in (
-      read.0 ++ it ∷ [],
-      turns script number entry it read.0 found needed is read.1
-          ∙ sym (append_assoc read.0 (it ∷ []) behind),
-      more_rows told read.0 it rows own read.2 has,
+    let same : suc number ≡ number + 1 = omega arith in
+    subst (λ (n : ℕ). HoldsBelow Q script n) same (
+      holds.0 ++ own,
+      holds.1 ∙ (ap (λ l. holds.0 ++ l) (its_split script number within)
+          ∙ sym (append_assoc holds.0 own behind)),
+      more holds.0 holds.2,
     )
 
--- why an input has no rows is why the inputs have none
-pub stops_at : (tries : ℕ) (before after : SeenSource) (script : Script) (number : ℕ)
-    (rows : List (List Value)) (entry : Entry) (it : Wanted) (status : Status)
-    → slice_get script.nodes number ≡ Some entry → is_needed script number ≡ true
-    → wanted entry ≡ it ∷ [] → HasRead before.files script number rows
-    → IsInputCause tries before after it status
-    → IsInputsCause tries before after (inputs_of script) status
-stops_at tries before after script number rows entry it status found needed is read cause = (
-  read.0,
-  it,
-  inputs_from script (suc number) (drop (suc number) script.nodes),
-  rows,
-  turns script number entry it read.0 found needed is read.1,
-  read.2,
-  cause,
-)
+-- what holds below the last number holds of all
+pub below_all : (P : List Wanted → Type 0) (script : Script) (number : ℕ)
+    → number ≡ length script.nodes → HoldsBelow P script number → P (inputs_of script)
+below_all P script number last holds =
+    let all = subst (λ (n : ℕ). HoldsBelow P script n) last holds in
+    subst P (sym (all_done script all.0 all.1)) all.2
 
 -- ---- the columns of an input
 
@@ -200,7 +139,7 @@ columns_fit script number entry file columns well found is =
     input_fits script.functions [] script.nodes number entry file columns well.nodes found is
 
 -- what stands at a number's place
-pub at_place : (nodes : Named Node) (number : ℕ) (node : Node)
+at_place : (nodes : Named Node) (number : ℕ) (node : Node)
     → option_map (λ (entry : Entry). entry.1) (slice_get nodes number) ≡ Some node
     → (entry : Entry) × (slice_get nodes number ≡ Some entry) × (entry.1 ≡ node)
 at_place nodes number node is = by (slice_get nodes number) is
@@ -210,40 +149,39 @@ at_place nodes number node is = by (slice_get nodes number) is
     by None e = absurd (cc)
     by (Some entry) e = (entry, refl, cc)
 
--- ---- the node of an input
+-- ---- the input that a node is
 
--- at that number stands an input with this file and these columns
-pub record IsInputAt (script : Script) (number : ℕ) (file : List ℕ) (columns : List Column)
-    : Type 0 where
-  pub entry : Entry
-  pub found : slice_get script.nodes number ≡ Some entry
-  pub made : entry.1.made ≡ made.Input file columns
-
-pub input_at : (script : Script) (number : ℕ) (node : Node) (file : List ℕ) (columns : List
-    Column)
+-- the node of that number, where it is needed
+at_node : (script : Script) (number : ℕ) (node : Node) → is_needed script number ≡ true
     → option_map (λ (entry : Entry). entry.1) (slice_get script.nodes number) ≡ Some node
-    → node.made ≡ made.Input file columns → IsInputAt script number file columns
-input_at script number node file columns found is =
+    → inputs_at script number ≡ wanted_by node.made node.type
+at_node script number node needed found =
     let at = at_place script.nodes number node found in
-    record { entry = at.0; found = at.1; made = ap (λ (n : Node). n.made) at.2 ∙ is }
+    at_needed script number at.0 at.1 needed
+    ∙ ap (λ (n : Node). wanted_by n.made n.type) at.2
 
-module _ (script : Script) (number : ℕ) (file : List ℕ) (columns : List Column)
-    (at : IsInputAt script number file columns) where
-  abbrev pub its_wanted : Wanted
-  its_wanted = record { file = file; type = at.entry.1.type }
+its_file : (script : Script) (number : ℕ) (entry : Entry) → IsReady script
+    → slice_get script.nodes number ≡ Some entry → IsNamedMade entry.1.made
+its_file script number entry ready found =
+    subst (λ (e : Entry). IsNamedMade e.1.made)
+    (get_or_from_slice_get script.nodes number entry entry found)
+    (ready.reads number entry (slice_get_within script.nodes number entry found))
 
-  pub wants : wanted at.entry ≡ its_wanted ∷ []
-  wants = ap (λ (m : Made). wanted_by m at.entry.1.type) at.made
-
-  pub its_columns : IsWellFormed script → input_columns_of at.entry.1.type ≡ Some columns
-  its_columns well = columns_fit script number at.entry file columns well at.found at.made
-
-  pub its_file : IsReady script → IsUtf8 file
-  its_file ready =
-      subst IsNamedMade at.made
-      (subst (λ (e : Entry). IsNamedMade e.1.made)
-      (get_or_from_slice_get script.nodes number at.entry at.entry at.found)
-      (ready.reads number at.entry (slice_get_within script.nodes number at.entry at.found)))
+pub input_needed : (script : Script) (number : ℕ) (node : Node) (file : List ℕ)
+    (columns shown : List Column) → IsWellFormed script → IsReady script
+    → is_needed script number ≡ true
+    → option_map (λ (entry : Entry). entry.1) (slice_get script.nodes number) ≡ Some node
+    → node.made ≡ made.Input file columns → shown ≡ columns
+    → IsNeededInput script number file shown
+input_needed script number node file columns shown well ready needed found is same =
+    let at = at_place script.nodes number node found in
+    let made_so = ap (λ (n : Node). n.made) at.2 ∙ is in record {
+      type = at.0.1.type;
+      fits = columns_fit script number at.0 file columns well at.1 made_so ∙ ap Some (sym same);
+      wanted = at_needed script number at.0 at.1 needed
+          ∙ ap (λ (m : Made). wanted_by m at.0.1.type) made_so;
+      named = subst IsNamedMade made_so (its_file script number at.0 ready at.1);
+    }
 
 -- what is no input wants none
 other_made : (by : Made) (type : Ty)
@@ -262,51 +200,9 @@ other_made (made.Operate objects function) type other = refl
 other_made (made.DoWith source function object) type other = refl
 other_made (made.Saved is_object call) type other = refl
 
-pub other_wants : (entry : Entry) (node : Node) → entry.1 ≡ node
-    → ((file : List ℕ) (columns : List Column) → node.made ≡ made.Input file columns
-    → ⊥)
-    → wanted entry ≡ []
-other_wants entry node same other =
-    ap (λ (n : Node). wanted_by n.made n.type) same ∙ other_made node.made node.type other
-
--- some node stands below the end
-pub there : (nodes : Named Node) (number : ℕ) → number < length nodes
-    → (entry : Entry) × (slice_get nodes number ≡ Some entry)
-there [] number within = absurd (omega arith)
-there (entry ∷ nodes) zero within = (entry, refl)
-there (entry ∷ nodes) (suc number) within = there nodes number (omega arith)
-
--- ---- behind a node, by the sum that the loop counts by
-
-as_sum : (told : Told) (script : Script) (number : ℕ) (rows : List (List Value))
-    → HasRead told script (suc number) rows → HasRead told script (number + 1) rows
-as_sum told script number rows read =
-    let same : suc number ≡ number + 1 = omega arith in
-    subst (λ (n : ℕ). HasRead told script n rows) same read
-
-pub behind_unneeded : (told : Told) (script : Script) (number : ℕ) (rows : List (List Value))
-    (entry : Entry) → slice_get script.nodes number ≡ Some entry
-    → is_needed script number ≡ false → HasRead told script number rows
-    → HasRead told script (number + 1) rows
-behind_unneeded told script number rows entry found unneeded read =
-    as_sum told script number rows (passes told script number rows entry found unneeded read)
-
-pub behind_other : (told : Told) (script : Script) (number : ℕ) (rows : List (List Value))
-    (entry : Entry) → slice_get script.nodes number ≡ Some entry → is_needed script number
-    ≡ true
-    → wanted entry ≡ [] → HasRead told script number rows
-    → HasRead told script (number + 1) rows
-behind_other told script number rows entry found needed other read =
-    as_sum told script number rows
-    (passes_other told script number rows entry found needed other read)
-
-pub behind_input : (told : Told) (script : Script) (number : ℕ) (rows more : List (List Value))
-    (entry : Entry) (it : Wanted) (own : List Value) → slice_get script.nodes number
-    ≡ Some entry
-    → is_needed script number ≡ true → wanted entry ≡ it ∷ [] → HasRows told it own
-    → more ≡ rows ++ own ∷ [] → HasRead told script number rows
-    → HasRead told script (number + 1) more
-behind_input told script number rows more entry it own found needed is has longer read =
-    subst (λ (all : List (List Value)). HasRead told script (number + 1) all) (sym longer)
-    (as_sum told script number (rows ++ own ∷ [])
-    (reads_more told script number rows entry it own found needed is has read))
+pub at_other : (script : Script) (number : ℕ) (node : Node) → is_needed script number ≡ true
+    → option_map (λ (entry : Entry). entry.1) (slice_get script.nodes number) ≡ Some node
+    → ((file : List ℕ) (columns : List Column) → node.made ≡ made.Input file columns → ⊥)
+    → inputs_at script number ≡ []
+at_other script number node needed found other =
+    at_node script number node needed found ∙ other_made node.made node.type other

@@ -5,7 +5,7 @@ use Rattle.outside.specs.Cause.{RoseBy}
 use Rattle.outside.specs.Seen.{SeenSource}
 use Rattle.outside.specs.declared.file.File.{File as NamedBytes}
 use Rattle.run_texts.specs.declared.status.Status.{Status}
-use Rattle.run_texts.specs.declared.status.Status.TheVariants.{Done, GaveUp, Usage, ScriptRefused, InputRefused, Trap, ReadFault, WriteFault, WantOfMemory, TooLong, NoFile, PlanRefused}
+use Rattle.run_texts.specs.declared.status.Status.TheVariants.{InputRefused, ReadFault, WantOfMemory, TooLong, NoFile}
 use Rattle.script_loading.specs.Causes.{IsInputCause, IsInputsCause, IsLoadCause}
 use Rattle.script_loading.specs.Loads.{AllHaveRows, IsAbove, IsMissing, Loads}
 use Rattle.script_loading.specs.Limits.{input_limit}
@@ -19,34 +19,6 @@ rose_since : (tries before middle after : ℕ) → before ≤ middle → RoseBy 
 rose_since tries before middle after later rose = omega arith
 
 module _ (tries : ℕ) (before middle after : SeenSource) where
-  input_since : (wanted : Wanted) (status : Status) → middle.files ≡ before.files
-      → before.faults ≤ middle.faults → IsInputCause tries middle after wanted status
-      → IsInputCause tries before after wanted status
-  input_since wanted (InputRefused name row column kind) told later cause = (
-    cause.0,
-    cause.1,
-    subst (λ (t : Told). Loads t wanted.file input_limit cause.1) told cause.2,
-    cause.3,
-  )
-  input_since wanted (NoFile other) told later cause =
-      (cause.0, subst (λ (t : Told). IsMissing t wanted.file) told cause.1)
-  input_since wanted (ReadFault other) told later cause =
-      (cause.0, rose_since tries before.faults middle.faults after.faults later cause.1)
-  input_since wanted (TooLong other most) told later cause = (
-    cause.0,
-    cause.1,
-    subst (λ (t : Told). IsAbove t wanted.file input_limit) told cause.2,
-  )
-  input_since wanted WantOfMemory told later cause = tt
-  input_since wanted Usage told later cause = absurd cause
-  input_since wanted Done told later cause = absurd cause
-  input_since wanted (ScriptRefused line kind) told later cause = absurd cause
-  input_since wanted (WriteFault place) told later cause = absurd cause
-  input_since wanted (GaveUp stage phase task) told later cause = absurd cause
-  input_since wanted (Trap origin kind element) told later cause = absurd cause
-  input_since wanted (PlanRefused step kind) told later cause = absurd cause
-
-  -- the same of a file that is loaded
   pub load_since : (name : List ℕ) (limit : ℕ) (status : Status) → middle.files ≡ before.files
       → before.faults ≤ middle.faults → IsLoadCause tries middle after name limit status
       → IsLoadCause tries before after name limit status
@@ -57,14 +29,19 @@ module _ (tries : ℕ) (before middle after : SeenSource) where
   load_since name limit (TooLong other most) told later cause =
       (cause.0, cause.1, subst (λ (t : Told). IsAbove t name limit) told cause.2)
   load_since name limit WantOfMemory told later cause = tt
-  load_since name limit Usage told later cause = absurd cause
-  load_since name limit Done told later cause = absurd cause
-  load_since name limit (ScriptRefused line kind) told later cause = absurd cause
-  load_since name limit (InputRefused other row column kind) told later cause = absurd cause
-  load_since name limit (WriteFault place) told later cause = absurd cause
-  load_since name limit (GaveUp stage phase task) told later cause = absurd cause
-  load_since name limit (Trap origin kind element) told later cause = absurd cause
-  load_since name limit (PlanRefused step kind) told later cause = absurd cause
+  load_since name limit _ told later cause = absurd cause
+
+  pub input_since : (wanted : Wanted) (status : Status) → middle.files ≡ before.files
+      → before.faults ≤ middle.faults → IsInputCause tries middle after wanted status
+      → IsInputCause tries before after wanted status
+  input_since wanted (InputRefused name row column kind) told later cause = (
+    cause.0,
+    cause.1,
+    subst (λ (t : Told). Loads t wanted.file input_limit cause.1) told cause.2,
+    cause.3,
+  )
+  input_since wanted status told later cause =
+      load_since wanted.file input_limit status told later cause
 
   -- the same cause, counted from an earlier moment
   pub inputs_since : (inputs : List Wanted) (status : Status) → middle.files ≡ before.files

@@ -1,4 +1,5 @@
 pub mod Accepted
+pub mod Asks
 pub mod Causes
 pub mod Limits
 pub mod Loads

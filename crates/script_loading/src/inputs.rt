@@ -1,24 +1,25 @@
 // The rows of a script's inputs, as their files are loaded and decoded.
-ghost use Rattle.std.specs.Prelude.{◌≡◌, ◌≤◌, ◌<◌, ◌⊎◌, ◌+◌, ◌∷◌, [], IfErr, IfOk, IsUtf8, OnErr, OnOk, Some, length};
+ghost use Rattle.std.specs.Prelude.{◌≡◌, ◌≤◌, ◌<◌, ◌⊎◌, ◌∷◌, [], IfErr, IfOk, IsUtf8, OnErr, OnOk, Some, length};
 ghost use Rattle.build_law.specs.of_direct_meaning.Inputs.{AreInputs, Wanted, inputs_of};
 ghost use Rattle.flume_types.specs.Columns.{input_columns_of};
 ghost use Rattle.flume_types.specs.declared.types.Ty.{Ty};
 ghost use Rattle.outside.specs.Asked.{Asks, AsksFront};
 ghost use Rattle.script_program.specs.Saved.{HasNoSaved};
+ghost use Rattle.script_loading.specs.Asks.{AsksToStop};
 ghost use Rattle.script_loading.specs.Causes.{IsInputCause, IsInputsCause};
 ghost use Rattle.script_loading.specs.Loads.{AllHaveRows, HasRows, file_names};
-ghost use Rattle.script_loading.specs.inner.Reading.{HasRead, fault_status, inputs_at};
+ghost use Rattle.script_loading.specs.inner.Reading.{AddsRows, StopsAt, fault_status, inputs_at};
 
 use crate::files::loaded;
 use crate::laws::inputs_law;
 use crate::limits::INPUT_LIMIT;
+use crate::needed::needed_input;
 use crate::ready::ReadyProgram;
 use csv_rows::{RowFault, rows_by_threads};
 use flume_types::Column;
 use flume_value::{Items, Pile, Str};
 use outside::Source;
 use run_texts::Status;
-use script_program::Made;
 use std::alloc::Global;
 use std::str;
 use std::thread::Threads;
@@ -47,6 +48,8 @@ pub fn rows_of_inputs<X: Threads + Sync, R: Source>(
         (R.seen source.old) (R.seen source.new)) }
     ensures asked_front { OnErr result (AsksFront tries (file_names (inputs_of program.now.script))
         (R.seen source.old) (R.seen source.new)) }
+    ensures asked_until { IfErr result (AsksToStop tries (file_names (inputs_of program.now.script))
+        (R.seen source.old) (R.seen source.new)) }
 {
     inputs_law();
     let held = program.as_program();
@@ -72,29 +75,24 @@ fn add_rows<X: Threads + Sync, R: Source>(
 ) -> Result<(), Status>
     requires tries { 0 < tries }
     requires within { number < length program.now.script.nodes }
-    requires read { HasRead (R.seen source.old).files program.now.script number rows.old }
     ensures files { (R.seen source.new).files ≡ (R.seen source.old).files }
-    ensures read { OnOk result
-        (HasRead (R.seen source.old).files program.now.script (number + 1) rows.new) }
-    ensures err { IfErr result (IsInputsCause tries (R.seen source.old)
-        (R.seen source.new) (inputs_of program.now.script)) }
+    ensures rows { OnOk result
+        (AddsRows (R.seen source.old).files program.now.script number rows.old rows.new) }
+    ensures err { IfErr result
+        (StopsAt tries (R.seen source.old) (R.seen source.new) program.now.script number) }
     ensures later { (R.seen source.old).faults ≤ (R.seen source.new).faults }
     ensures asked { Asks tries (file_names (inputs_at program.now.script number))
         (R.seen source.old) (R.seen source.new) }
 {
-    let held = program.as_program();
-    if !held.is_needed(number) {
-        return Ok(());
-    }
-    match &held.node(number).made {
-        Made::Input { file, columns } => {
-            let own = rows_of_file(rt, alloc, file, columns.as_slice(), source, tries, threads)?;
+    match needed_input(program, number) {
+        Some(it) => {
+            let own = rows_of_file(rt, alloc, it.0, it.1, source, tries, threads)?;
             match rows.push(own) {
                 Ok(()) => Ok(()),
                 Err(_) => Err(Status::WantOfMemory),
             }
         }
-        _ => Ok(()),
+        None => Ok(()),
     }
 }
 

@@ -14,11 +14,7 @@ abbrev pub saved_as : Made → Made
 saved_as how = made.Saved (gives_object how) (emitted_as how)
 
 abbrev pub saved_node : Node → Node
-saved_node node = record {
-  made = saved_as node.made;
-  type = node.type;
-  statement = node.statement;
-}
+saved_node node = record node { made = saved_as node.made }
 
 -- the collection of that number, which is kept where the number is among those found
 abbrev pub saved_at : List ℕ → ℕ → List ℕ × Node → List ℕ × Node
@@ -34,11 +30,7 @@ saved_from found number (entry ∷ nodes) =
 -- the script in which the collections of these numbers are kept ones; what alone they read is not
 -- needed any more
 abbrev pub with_saved : List ℕ → Script → Script
-with_saved found script = record {
-  functions = script.functions;
-  nodes = saved_from found 0 script.nodes;
-  outputs = script.outputs;
-}
+with_saved found script = record script { nodes = saved_from found 0 script.nodes }
 
 -- ---- scripts as they are written
 

@@ -92,34 +92,16 @@ script_from s = record { functions = s.functions; nodes = s.nodes; outputs = s.o
 -- ---- one more
 
 abbrev pub with_type : List ℕ → Ty → State → State
-with_type name t s = record {
-  types = s.types ++ (name, t) ∷ [];
-  functions = s.functions;
-  nodes = s.nodes;
-  names = s.names;
-  outputs = s.outputs;
-  statements = s.statements;
-}
+with_type name t s = record s { types = s.types ++ (name, t) ∷ [] }
 
 abbrev pub with_function : List ℕ → Function → State → State
-with_function name function s = record {
-  types = s.types;
-  functions = s.functions ++ (name, function) ∷ [];
-  nodes = s.nodes;
-  names = s.names;
-  outputs = s.outputs;
-  statements = s.statements;
-}
+with_function name function s = record s { functions = s.functions ++ (name, function) ∷ [] }
 
 -- a collection more, which this statement makes; the name stands for it
 abbrev pub with_node : List ℕ → Making → State → State
-with_node name making s = record {
-  types = s.types;
-  functions = s.functions;
+with_node name making s = record s {
   nodes = s.nodes ++ (name, node_from s.statements making) ∷ [];
   names = s.names ++ (name, Collection (length s.nodes)) ∷ [];
-  outputs = s.outputs;
-  statements = s.statements;
 }
 
 -- for each name a collection more, in order
@@ -130,38 +112,17 @@ with_nodes (name ∷ names) (making ∷ makings) s =
     with_nodes names makings (with_node name making s)
 
 abbrev pub with_output : List ℕ → Output → State → State
-with_output file output s = record {
-  types = s.types;
-  functions = s.functions;
-  nodes = s.nodes;
-  names = s.names;
-  outputs = s.outputs ++ (file, output) ∷ [];
-  statements = s.statements;
-}
+with_output file output s = record s { outputs = s.outputs ++ (file, output) ∷ [] }
 
 -- the same, behind one statement more
 abbrev pub with_statement : State → State
-with_statement s = record {
-  types = s.types;
-  functions = s.functions;
-  nodes = s.nodes;
-  names = s.names;
-  outputs = s.outputs;
-  statements = suc s.statements;
-}
+with_statement s = record s { statements = suc s.statements }
 
 -- ---- the body of a repeat
 
 -- a name more, which stands for that
 abbrev pub with_name : List ℕ → Standing → State → State
-with_name name standing s = record {
-  types = s.types;
-  functions = s.functions;
-  nodes = s.nodes;
-  names = s.names ++ (name, standing) ∷ [];
-  outputs = s.outputs;
-  statements = s.statements;
-}
+with_name name standing s = record s { names = s.names ++ (name, standing) ∷ [] }
 
 -- names more, which are taken and stand for no collection
 abbrev pub with_hidden : List (List ℕ) → State → State
@@ -170,25 +131,11 @@ with_hidden (name ∷ names) s = with_hidden names (with_name name Hidden s)
 
 -- the first so many collections alone
 abbrev pub with_front : ℕ → State → State
-with_front number s = record {
-  types = s.types;
-  functions = s.functions;
-  nodes = take number s.nodes;
-  names = s.names;
-  outputs = s.outputs;
-  statements = s.statements;
-}
+with_front number s = record s { nodes = take number s.nodes }
 
 -- collections more, for which no name stands yet
 abbrev pub with_copies : Named Node → State → State
-with_copies nodes s = record {
-  types = s.types;
-  functions = s.functions;
-  nodes = s.nodes ++ nodes;
-  names = s.names;
-  outputs = s.outputs;
-  statements = s.statements;
-}
+with_copies nodes s = record s { nodes = s.nodes ++ nodes }
 
 -- the first names stand for the collections of these numbers, and those behind them for none
 abbrev pub given : List ℕ → Named Standing → Named Standing
@@ -199,13 +146,8 @@ given (number ∷ numbers) (entry ∷ names) =
 
 -- the same of the names from a place on
 abbrev pub with_given : ℕ → List ℕ → State → State
-with_given first numbers s = record {
-  types = s.types;
-  functions = s.functions;
-  nodes = s.nodes;
+with_given first numbers s = record s {
   names = take first s.names ++ given numbers (drop first s.names);
-  outputs = s.outputs;
-  statements = s.statements;
 }
 
 -- ---- operands

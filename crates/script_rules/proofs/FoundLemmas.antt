@@ -1,10 +1,38 @@
--- What the rules of a let with repeat that find no fault have found.
+-- What rules that find no fault have found: those of a function, and of a let with repeat.
 use Rattle.std.proofs.Common.{◌≡◌, ℕ, List, length, drop, Ok, ap, ◌∙◌}
+use Rattle.flume_grammar.specs.declared.tree.Function.{Function as Written}
 use Rattle.flume_grammar.specs.declared.tree.Repeat.{Repeat as WrittenRepeat}
-use Rattle.script_program.specs.Script.{State, with_front}
+use Rattle.script_program.specs.of_body_check.Bodies.{body_of}
+use Rattle.script_program.specs.Script.{Signature, State, function_from, with_front, with_function}
 use Rattle.script_rules.specs.Repeats.{Repeat}
 use Rattle.script_rules.specs.Rules as spec
 use Rattle.script_rules.proofs.CheckedLemmas.{both, ok-same}
+
+-- a function's signature, of which its body keeps the rules
+pub record HasRuled (line : ℕ) (function : Written) (s after : State) : Type 0 where
+  pub signature : Signature
+  pub signed : spec.signature_of line function s ≡ Ok signature
+  pub kept : Unit {0}
+  pub typed : body_of s.types function.argument signature.takes signature.gives function.body
+      ≡ Ok kept
+  pub is : with_function function.name (function_from function signature s) s ≡ after
+
+pub ruled : (line : ℕ) (function : Written) (s after : State)
+    → spec.rule_function line function s ≡ Ok after → HasRuled line function s after
+ruled line function s after e =
+    let signature = both (spec.signature_of line function s) _ after e in
+    let takes = signature.part.takes in
+    let gives = signature.part.gives in
+    let body =
+    both (body_of s.types function.argument takes gives function.body) _ after
+    signature.then in
+    record {
+      signature = signature.part;
+      signed = signature.first;
+      kept = body.part;
+      typed = body.first;
+      is = ok-same _ after body.then;
+    }
 
 module _ (line : ℕ) (names : List (List ℕ)) (written : WrittenRepeat) (s : State) where
   -- the state in front of the body, for what enters

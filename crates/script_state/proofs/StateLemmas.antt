@@ -17,10 +17,10 @@ use Rattle.body_check.proofs.of_written_types.NamedLemmas.{mapped, find-mapped, 
 use Rattle.script_program.specs.declared.made.Function.{Function as HeldFunction}
 use Rattle.script_program.specs.declared.made.Signature.{Signature as HeldSignature}
 use Rattle.script_program.specs.declared.made.Node.{Node as HeldNode}
-use Rattle.script_program.specs.declared.made.Output.{Output}
-use Rattle.script_program.specs.declared.made.Standing.{Standing}
-use Rattle.script_program.specs.Script.{name_place}
+use Rattle.script_program.specs.Script.{State, name_place}
 use Rattle.script_program.specs.inner.Tables.{function_of, node_of, FunctionIn, NodeIn, AreHeld}
+use Rattle.script_state.specs.Held.{Checking}
+use Rattle.script_state.specs.declared.state.State.TheInside.{Inside}
 use Rattle.script_state.specs.inner.States.{checking_of}
 use Rattle.script_program.specs.Program.{signature_in, HasTypes, function_in, Does}
 use Rattle.body_check.proofs.of_expression_check.KeptLemmas.{types-kept}
@@ -162,23 +162,40 @@ module _ (old new : Known) (more : Grows old new) (functions : Named HeldFunctio
     λ k entry in_. omega (arith, held.1 k entry in_, more.types.longer),
   )
 
-pub state-kept : (old new : Known) → Extends old.types new.types → new.names ≡ old.names
-    → (functions : Named HeldFunction) (nodes : Named HeldNode) (standings : Named Standing)
-    (outputs : Named Output) (statements : ℕ) → AreHeld old functions nodes
-    → (checking_of new functions nodes standings outputs statements).state
-    ≡ (checking_of old functions nodes standings outputs statements).state
-state-kept old new more names functions nodes standings outputs statements held =
-    let grows = grows-types old new more names in
-    let a = functions-kept old new grows functions nodes held in
-    let b = nodes-kept old new grows functions nodes held in
-    λ i. record {
-      types = names i;
-      functions = a i;
-      nodes = b i;
-      names = standings;
-      outputs = outputs;
-      statements = statements;
-    }
+-- ---- the state of what is in memory
+
+abbrev pub told : Inside → Checking
+told own =
+    checking_of own.known own.functions.entries own.nodes own.names.entries own.outputs.entries
+    own.statements
+
+abbrev pub state_in : Inside → State
+state_in own = (told own).state
+
+-- what is told of the state in memory is told of the state as contracts see it
+pub as-seen : {own seen : Checking} {after : State} (step : Checking → State) → own ≡ seen
+    → after ≡ step own → after ≡ step seen
+as-seen step is here = here ∙ ap step is
+
+module _ (own : Inside) (new : Known) (more : Extends own.known.types new.types)
+    (names : new.names ≡ own.known.names)
+    (held : AreHeld own.known own.functions.entries own.nodes) where
+  pub held-grown : AreHeld new own.functions.entries own.nodes
+  held-grown =
+      held-more own.known new (grows-types own.known new more names) own.functions.entries
+      own.nodes held
+
+  pub state-grown : {seen : Checking} → told own ≡ seen
+      → state_in (record own { known = new }) ≡ seen.state
+  state-grown is =
+      let grows = grows-types own.known new more names in
+      let functions = functions-kept own.known new grows own.functions.entries own.nodes held in
+      let nodes = nodes-kept own.known new grows own.functions.entries own.nodes held in
+      as-seen (λ checking. checking.state) is
+      (λ i. record (state_in own) { types = names i; functions = functions i; nodes = nodes i })
+
+-- types more change nothing that is told
+pub ruleset grown = (held-grown, state-grown)
 
 -- ---- one collection more
 

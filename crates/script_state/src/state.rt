@@ -109,6 +109,7 @@ impl State {
     }
 
     /// The number of the type that a shape stands for. Nothing else changes.
+    #[tactic(auto, using(crate::proofs::StateLemmas::grown))]
     pub fn intern(&mut self, shape: Shape) -> Result<TypeId, AllocError>
         requires { IsWithin (length self.old.types) shape }
         ensures within { IfOk result (λ id. id < length self.new.types) }
@@ -120,6 +121,7 @@ impl State {
     }
 
     /// The number of the type of a table's elements. Nothing else changes.
+    #[tactic(auto, using(crate::proofs::StateLemmas::grown))]
     pub fn table(&mut self, alloc: Global, key: TypeId, value: TypeId) -> Result<TypeId, AllocError>
         requires key_in { key < length self.old.types }
         requires value_in { value < length self.old.types }
@@ -133,6 +135,7 @@ impl State {
     }
 
     /// The number of the type that is written. Nothing else changes.
+    #[tactic(auto, using(crate::proofs::StateLemmas::grown))]
     pub fn whole_type(&mut self, alloc: Global, line: u32, ty: &Type) -> Result<TypeId, ScriptFault>
         ensures gives { Gives (type_at self.new.types) result
             (whole line ty.now self.old.state.types) }
@@ -145,6 +148,7 @@ impl State {
 
     /// A function with slots in place of the names of its body, or its first fault. Nothing else
     /// changes.
+    #[tactic(auto, using(crate::proofs::StateLemmas::grown))]
     pub fn fun_of(
         &mut self,
         alloc: Global,

@@ -1,6 +1,6 @@
 -- Accumulators by partition, pair after pair.
 use Rattle.std.proofs.Common.{◌≡◌, ◌<◌, ◌+◌, ℕ, zero, suc, List, [], ◌∷◌, ◌++◌, length, get_or, map, Some, refl, sym, ap, ◌∙◌, subst, arith}
-use Rattle.std.specs.Prelude.{slice_set}
+use Rattle.std.specs.Prelude.{Result, Ok, Err, IfOk, slice_set}
 use Rattle.std.specs.List.{AllZip}
 use Rattle.std.proofs.lemmas.List.FromFn.{length-map-range_with_len, get_or-map-range_with_len, map-range_with_len_more}
 use Rattle.flume_value.specs.declared.value.Value.{Value}
@@ -16,7 +16,7 @@ use Rattle.shuffle_parts.specs.Partitions.{part_of, parted}
 use Rattle.shuffle_parts.proofs.Parting.{Stands, parted_more}
 
 module _ {A B : Type 0} (R : A → B → Type 0) where
-  zip_push : (xs : List A) (ys : List B) (x : A) (y : B) → AllZip R xs ys → R x y
+  pub zip_push : (xs : List A) (ys : List B) (x : A) (y : B) → AllZip R xs ys → R x y
       → AllZip R (xs ++ x ∷ []) (ys ++ y ∷ [])
   zip_push [] [] x y z r = (r, tt)
   zip_push [] (b ∷ ys) x y z r = absurd z
@@ -85,30 +85,36 @@ module _ (c : Comb) (n at : ℕ) (pairs : List Value) (parts : List Lifting)
       (zip_set (IsLifted c) parts (parted n pairs) at new (old ++ pair ∷ []) z put)
 
 -- ---- all of them
+module _ (c : Comb) (Q : Pairs → List Value → Type 0)
+    (one : (l : Lifting) (bag : List Value) → IsLifted c l bag → Q (accumulators_of l) bag) where
+  each_finished : (parts : List Lifting) (bags : List (List Value))
+      → AllZip (IsLifted c) parts bags → AllZip Q (map accumulators_of parts) bags
+  each_finished [] [] z = tt
+  each_finished [] (b ∷ bags) z = absurd z
+  each_finished (p ∷ parts) [] z = absurd z
+  each_finished (p ∷ parts) (b ∷ bags) z = (one p b z.0, each_finished parts bags z.1)
+
+  pub finished_ok : {E : Type 0} (r : Result (List Pairs) E) (parts : List Lifting)
+      (bags : List (List Value)) → AllZip (IsLifted c) parts bags
+      → IfOk r (λ combined. combined ≡ map accumulators_of parts)
+      → IfOk r (λ combined. AllZip Q combined bags)
+  finished_ok (Ok combined) parts bags z is =
+      subst (λ (l : List Pairs). AllZip Q l bags) (sym is) (each_finished parts bags z)
+  finished_ok (Err e) parts bags z is = tt
+
+pub stands_one : (c : Comb) (l : Lifting) (bag : List Value) → IsLifted c l bag
+    → Stands c (accumulators_of l) bag
+stands_one c l bag is = tables_stand c (pairs_of bag) l.others.items l.table.partials is.0
+
+pub tabled_one : (c : Comb) (l : Lifting) (bag : List Value) → IsLifted c l bag
+    → AreTabled c (pairs_of bag) (accumulators_of l)
+tabled_one c l bag is = record {
+  taken = l.others.items;
+  last = l.table.partials;
+  tables = is.0;
+  all = refl;
+}
+
 pub finished : (c : Comb) (parts : List Lifting) (bags : List (List Value))
     → AllZip (IsLifted c) parts bags → AllZip (Stands c) (map accumulators_of parts) bags
-finished c [] [] z = tt
-finished c [] (b ∷ bags) z = absurd z
-finished c (p ∷ parts) [] z = absurd z
-finished c (p ∷ parts) (b ∷ bags) z = (
-  tables_stand c (pairs_of b) p.others.items p.table.partials z.0.0,
-  finished c parts bags z.1,
-)
-
-abbrev pub Tabled : Comb → Pairs → List Value → Type 0
-Tabled c partials part = AreTabled c (pairs_of part) partials
-
-pub tabled : (c : Comb) (parts : List Lifting) (bags : List (List Value))
-    → AllZip (IsLifted c) parts bags → AllZip (Tabled c) (map accumulators_of parts) bags
-tabled c [] [] z = tt
-tabled c [] (b ∷ bags) z = absurd z
-tabled c (p ∷ parts) [] z = absurd z
-tabled c (p ∷ parts) (b ∷ bags) z = (
-  record {
-    taken = p.others.items;
-    last = p.table.partials;
-    tables = z.0.0;
-    all = refl;
-  },
-  tabled c parts bags z.1,
-)
+finished c = each_finished c (Stands c) (stands_one c)

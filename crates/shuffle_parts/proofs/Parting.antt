@@ -1,7 +1,6 @@
 -- Pairs that are parted one after another.
-use Rattle.std.proofs.Common.{◌≡◌, ◌<◌, ◌+◌, ℕ, true, false, cond, List, [], ◌∷◌, ◌++◌, length, get_or, Some, sym, ap, ◌∙◌, subst, arith, append-nil, append_assoc}
+use Rattle.std.proofs.Common.{◌≡◌, ◌<◌, ◌+◌, ℕ, true, false, cond, List, [], ◌∷◌, ◌++◌, length, get_or, Some, sym, ap, ◌∙◌, subst, arith, append-nil}
 use Rattle.std.specs.Prelude.{slice_set, ◌==◌}
-use Rattle.std.specs.List.{AllZip}
 use Rattle.std.specs.Option.{option_map_or}
 use Rattle.std.proofs.lemmas.List.Elements.{filter-append}
 use Rattle.std.proofs.lemmas.List.FromFn.{length-map-range_with_len, get_or-map-range_with_len, map-range_with_len_more}
@@ -64,15 +63,10 @@ parted_more n at pairs parts key pair old new e k is within read push =
 
 -- ---- where none is left
 
-pub all_taken : (done rest whole : List Value) → done ++ rest ≡ whole → length rest ≡ 0
+pub all_taken : {A : Type 0} (done rest whole : List A) → done ++ rest ≡ whole → length rest ≡ 0
     → done ≡ whole
 all_taken done [] whole e none = sym (append-nil done) ∙ e
 all_taken done (p ∷ rest) whole e none = absurd (omega arith)
-
-pub taken_on : (done rest next whole : List Value) (pair : Value) → rest ≡ pair ∷ next
-    → done ++ rest ≡ whole → (done ++ pair ∷ []) ++ next ≡ whole
-taken_on done rest next whole pair is e =
-    append_assoc done (pair ∷ []) next ∙ ap (λ l. done ++ l) (sym is) ∙ e
 
 -- ---- accumulators of a part
 

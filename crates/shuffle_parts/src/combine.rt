@@ -2,7 +2,7 @@
 ghost use Rattle.std.specs.Prelude.{◌≡◌, ◌<◌, ◌++◌, ◌∷◌, [], All, IfOk, List, OnOk, map};
 ghost use Rattle.std.specs.List.{AllZip};
 ghost use Rattle.flume_value.specs.declared.value.Value.{Value as GhostValue};
-ghost use Rattle.bag_groups.specs.Pairs.{pairs_of};
+ghost use Rattle.bag_groups.specs.Pairs.{IsPair, pairs_of};
 ghost use Rattle.partial_tables.specs.Lifted.{IsLifted, accumulators_of};
 ghost use Rattle.partial_tables.specs.Merges.{StandFor, IsCombinable};
 ghost use Rattle.partial_tables.specs.Runs.{AreTabled};
@@ -14,6 +14,77 @@ use flume_value::{Pile, Value, partition};
 use key_order::Couple;
 use partial_tables::{Lifting, Partial};
 use std::alloc::{AllocError, Global};
+
+/// A pair, as it comes to a channel that groups.
+pub trait Paired: Drop {
+    ghost use Rattle.flume_value.specs.declared.value.Value.{Value as GhostValue};
+
+    /// The pair that it is.
+    ghost as_pair: { Self → GhostValue };
+
+    /// The pair, to be kept for a while. It takes no memory.
+    fn into_couple(self) -> Couple
+        requires { IsPair (as_pair self) }
+        ensures { result ≡ as_pair self };
+
+    /// Puts the pair into the accumulators of the partition of its key, and lets it go.
+    fn lift(
+        self,
+        alloc: Global,
+        comb: Comb,
+        parts: &mut Vec<Lifting>,
+        partitions: u32,
+    ) -> Result<(), AllocError>
+        requires some { 0 < partitions }
+        requires stands { (done : List GhostValue)
+            × AllZip (IsLifted comb) parts.old.items (parted partitions done) }
+        requires pair { IsCombinable comb (as_pair self) }
+        ensures { (done : List GhostValue) →
+            AllZip (IsLifted comb) parts.old.items (parted partitions done) →
+            OnOk result (AllZip (IsLifted comb) parts.new.items
+            (parted partitions (done ++ as_pair self ∷ []))) };
+}
+
+impl Paired for Value {
+    ghost as_pair = { λ value. value };
+
+    fn into_couple(self) -> Couple {
+        Couple::new(self)
+    }
+
+    fn lift(
+        self,
+        alloc: Global,
+        comb: Comb,
+        parts: &mut Vec<Lifting>,
+        partitions: u32,
+    ) -> Result<(), AllocError> {
+        lift_one(alloc, comb, parts, &self, partitions)
+    }
+}
+
+impl Paired for Couple {
+    ghost as_pair = { λ couple. couple };
+
+    #[inline(always)]
+    fn into_couple(self) -> Couple {
+        self
+    }
+
+    #[inline(always)]
+    fn lift(
+        self,
+        alloc: Global,
+        comb: Comb,
+        parts: &mut Vec<Lifting>,
+        partitions: u32,
+    ) -> Result<(), AllocError> {
+        let (key, value) = self.into_parts(alloc)?;
+        let at = partition(&key, partitions);
+        parts[at as usize].put_parts(alloc, comb, key, &value)?;
+        Ok(())
+    }
+}
 
 /// For each partition accumulators that stand for those of the pairs that fall in it. The pairs
 /// stay where they are.
@@ -47,48 +118,25 @@ pub fn none_lifted(alloc: Global, comb: Comb, partitions: u32) -> Result<Vec<Lif
     Ok(parts)
 }
 
-/// Puts more pairs in, each into the accumulators of the partition of its key, and lets it go.
-pub fn lift_more(
+/// Puts more pairs in, each into the accumulators of the partition of its key.
+pub fn lift_more<P: Paired>(
     alloc: Global,
     comb: Comb,
     mut parts: Vec<Lifting>,
-    pairs: Vec<Value>,
+    pairs: Vec<P>,
     partitions: u32,
 ) -> Result<Vec<Lifting>, AllocError>
     requires some { 0 < partitions }
     requires stands { (done : List GhostValue)
         × AllZip (IsLifted comb) parts.items (parted partitions done) }
-    requires pairs { All (IsCombinable comb) pairs.items }
+    requires pairs { All (λ pair. IsCombinable comb (P.as_pair pair)) pairs.items }
     ensures { (done : List GhostValue) →
         AllZip (IsLifted comb) parts.items (parted partitions done) →
-        IfOk result (λ all.
-        AllZip (IsLifted comb) all.items (parted partitions (done ++ pairs.items))) }
+        IfOk result (λ all. AllZip (IsLifted comb) all.items
+        (parted partitions (done ++ map P.as_pair pairs.items))) }
 {
     for pair in pairs {
-        lift_one(alloc, comb, &mut parts, &pair, partitions)?;
-    }
-    Ok(parts)
-}
-
-/// The same of pairs that have no record.
-pub fn lift_couples(
-    alloc: Global,
-    comb: Comb,
-    mut parts: Vec<Lifting>,
-    couples: Vec<Couple>,
-    partitions: u32,
-) -> Result<Vec<Lifting>, AllocError>
-    requires some { 0 < partitions }
-    requires stands { (done : List GhostValue)
-        × AllZip (IsLifted comb) parts.items (parted partitions done) }
-    requires pairs { All (IsCombinable comb) couples.items }
-    ensures { (done : List GhostValue) →
-        AllZip (IsLifted comb) parts.items (parted partitions done) →
-        IfOk result (λ all.
-        AllZip (IsLifted comb) all.items (parted partitions (done ++ couples.items))) }
-{
-    for couple in couples {
-        lift_couple(alloc, comb, &mut parts, couple, partitions)?;
+        pair.lift(alloc, comb, &mut parts, partitions)?;
     }
     Ok(parts)
 }
@@ -142,29 +190,5 @@ fn lift_one(
 {
     let at = partition(key(pair), partitions);
     parts[at as usize].put(alloc, comb, pair)?;
-    Ok(())
-}
-
-// The same of a pair that has no record.
-#[inline(always)]
-fn lift_couple(
-    alloc: Global,
-    comb: Comb,
-    parts: &mut Vec<Lifting>,
-    couple: Couple,
-    partitions: u32,
-) -> Result<(), AllocError>
-    requires some { 0 < partitions }
-    requires stands { (done : List GhostValue)
-        × AllZip (IsLifted comb) parts.old.items (parted partitions done) }
-    requires pair { IsCombinable comb couple }
-    ensures { (done : List GhostValue) →
-        AllZip (IsLifted comb) parts.old.items (parted partitions done) →
-        OnOk result (AllZip (IsLifted comb) parts.new.items
-        (parted partitions (done ++ couple ∷ []))) }
-{
-    let (key, value) = couple.into_parts(alloc)?;
-    let at = partition(&key, partitions);
-    parts[at as usize].put_parts(alloc, comb, key, &value)?;
     Ok(())
 }

@@ -1,9 +1,10 @@
 // Pairs parted by their keys.
-ghost use Rattle.std.specs.Prelude.{◌≡◌, ◌<◌, ◌++◌, ◌∷◌, [], All, IfOk, List, OnOk};
+ghost use Rattle.std.specs.Prelude.{◌≡◌, ◌<◌, ◌++◌, ◌∷◌, [], All, IfOk, List, OnOk, map};
 ghost use Rattle.flume_value.specs.declared.value.Value.{Value as GhostValue};
 ghost use Rattle.bag_groups.specs.Pairs.{IsPair};
 ghost use Rattle.shuffle_parts.specs.Partitions.{parted};
 
+use crate::combine::Paired;
 use flume_value::{Pile, Value, partition};
 use key_order::Couple;
 use std::alloc::{AllocError, Global};
@@ -36,38 +37,20 @@ pub fn no_pairs(alloc: Global, partitions: u32) -> Result<Vec<Pile<Couple>>, All
 }
 
 /// The pairs that were parted, and more behind them. It moves each pair into its partition, and
-/// lets its record go.
-pub fn part_more(
+/// lets its record go, if it has one.
+pub fn part_more<P: Paired>(
     mut parts: Vec<Pile<Couple>>,
-    pairs: Vec<Value>,
+    pairs: Vec<P>,
     partitions: u32,
 ) -> Result<Vec<Pile<Couple>>, AllocError>
     requires some { 0 < partitions }
     requires stands { (done : List GhostValue) × (parts.items ≡ parted partitions done) }
-    requires pairs { All IsPair pairs.items }
+    requires pairs { All (λ pair. IsPair (P.as_pair pair)) pairs.items }
     ensures { (done : List GhostValue) → parts.items ≡ parted partitions done →
-        IfOk result (λ all. all.items ≡ parted partitions (done ++ pairs.items)) }
+        IfOk result (λ all. all.items ≡ parted partitions (done ++ map P.as_pair pairs.items)) }
 {
     for pair in pairs {
-        put_in(&mut parts, Couple::new(pair), partitions)?;
-    }
-    Ok(parts)
-}
-
-/// The same of pairs that have no record.
-pub fn part_couples(
-    mut parts: Vec<Pile<Couple>>,
-    couples: Vec<Couple>,
-    partitions: u32,
-) -> Result<Vec<Pile<Couple>>, AllocError>
-    requires some { 0 < partitions }
-    requires stands { (done : List GhostValue) × (parts.items ≡ parted partitions done) }
-    requires pairs { All IsPair couples.items }
-    ensures { (done : List GhostValue) → parts.items ≡ parted partitions done →
-        IfOk result (λ all. all.items ≡ parted partitions (done ++ couples.items)) }
-{
-    for couple in couples {
-        put_in(&mut parts, couple, partitions)?;
+        put_in(&mut parts, pair.into_couple(), partitions)?;
     }
     Ok(parts)
 }

@@ -1,5 +1,5 @@
 -- What is next in the chain can be done, and what stands where nothing is next.
-use Rattle.std.proofs.Common.{◌≡◌, ℕ, ◌<◌, ◌≤◌, Bool, true, false, cond, leb, List, [], ◌∷◌, length, Option, Some, None, refl, sym, ap, ◌∙◌, subst, inl, inr, ◌⊎◌}
+use Rattle.std.proofs.Common.{◌≡◌, ℕ, ◌≤◌, Bool, true, false, cond, leb, List, [], ◌∷◌, length, Option, Some, None, refl, sym, ap, ◌∙◌, subst, inl, inr, ◌⊎◌}
 use Rattle.std.proofs.lemmas.Bool.{eqb-true, leb-true, leb-false}
 use Rattle.std.specs.List.{AllByRecursion}
 use Rattle.flume_value.proofs.EachLemmas.{Each-both, Each-weaker}
@@ -21,10 +21,8 @@ use Rattle.sink_laws.specs.Kept.{IsKept, IsOfPdo}
 use Rattle.sink_laws.specs.Merging.{spliced, merged, CanMerge}
 use Rattle.sink_laws.specs.Sinking.{sunk_once}
 use Rattle.sink_laws.specs.Chain.{is_before, lesser, least, ins_of, forest_of, nest_of, nest_at, next_nest, after_nest, call_of, call_at, next_call, after_call, CanCall, CanNest, has_room, sink_next, next_by, next_graph, Leads, stay, go, ReadsNoFlatten, NoPdoReadsFlatten, IsFull}
-use Rattle.sink_laws.proofs.MergeMeaning.{IsFounded-merged}
 use Rattle.sink_laws.proofs.Steps.{IsGood-trans, IsGood-merge_step, IsGood-sink_step}
 use Rattle.sink_laws.proofs.TypesKept.{IsTyped-sunk, IsTyped-merged, IsTyped-tidied, AllSteps-sink_step, AllSteps-merge_step, AllSteps-kept, KeepsSteps-self}
-use Rattle.sink_laws.proofs.Weights.{total_weight, merge_lighter}
 
 -- P holds of what is there.
 abbrev pub Only : {X : Type 0} → (X → Type 0) → Option X → Type 0
@@ -56,17 +54,13 @@ some_only P x p y h = let e : x ≡ y = cc in subst P e p
 
 call_can : (g : Graph) (n p : ℕ) (f : Forest) (o : Option Node) → node_at g.nodes n ≡ o
     → node_at g.nodes p ≡ Some (Pdo (place n 0) f) → Only (CanCall g) (call_of n p o)
-call_can g n p f None e h = none_only (CanCall g)
-call_can g n p f (Some (Source r)) e h = none_only (CanCall g)
 call_can g n p f (Some (Flatten ins)) e h =
     some_only (CanCall g) (record { flatten = n; other = p })
     (record {
       flatten = e ∙ ap (λ (l : List Place). Some (Flatten l)) (sym (ap ins_of e));
       pdo = h ∙ ap (λ (k : Forest). Some (Pdo (place n 0) k)) (sym (ap forest_of h));
     })
-call_can g n p f (Some (Pdo c k)) e h = none_only (CanCall g)
-call_can g n p f (Some (Gbk c o l k)) e h = none_only (CanCall g)
-call_can g n p f (Some (Barrier ins o l a)) e h = none_only (CanCall g)
+call_can g n p f _ e h = none_only (CanCall g)
 
 call_can_at : (g : Graph) (p : ℕ) (x : Node) → node_at g.nodes p ≡ Some x
     → AllByRecursion (IsThere g.nodes) (reads x) → Only (CanCall g) (call_at g.nodes p x)
@@ -79,25 +73,27 @@ call_can_at g p (Pdo c f) h t = by (node_at g.nodes c.node) refl
         (eqb-true c.out 0 (gives_of g.nodes c c.node (Flatten ins) refl e t.0))
 
     by : (o : Option Node) → node_at g.nodes c.node ≡ o → Only (CanCall g) (call_of c.node p o)
-    by None e = none_only (CanCall g)
-    by (Some (Source r)) e = none_only (CanCall g)
     by (Some (Flatten ins)) e = call_can g c.node p f (Some (Flatten ins)) e
         (h ∙ ap (λ (d : Place). Some (Pdo d f)) (first ins e))
-    by (Some (Pdo d k)) e = none_only (CanCall g)
-    by (Some (Gbk d o l k)) e = none_only (CanCall g)
-    by (Some (Barrier ins o l a)) e = none_only (CanCall g)
+    by _ e = none_only (CanCall g)
 call_can_at g p (Gbk c o l k) h t = none_only (CanCall g)
 call_can_at g p (Barrier ins o l a) h t = none_only (CanCall g)
 
-pub next_call_can : (g : Graph) → IsGraphOk g → Only (CanCall g) (next_call g.nodes)
-next_call_can g ok =
-    least_only (CanCall g) (λ (e : Entry). call_at g.nodes e.number e.node) None g.nodes
-    (none_only (CanCall g))
+-- what holds of the pairs of each node holds of the least
+least_node : (P : Pair → Type 0) (g : Graph) (f : ℕ → Node → Option Pair) → IsGraphOk g
+    → ((n : ℕ) (x : Node) → node_at g.nodes n ≡ Some x
+    → AllByRecursion (IsThere g.nodes) (reads x) → Only P (f n x))
+    → Only P (least (λ (e : Entry). f e.number e.node) None g.nodes)
+least_node P g f ok one =
+    least_only P (λ (e : Entry). f e.number e.node) None g.nodes (none_only P)
     (Each-both (λ (e : Entry). node_at g.nodes e.number ≡ Some e.node)
     (λ (e : Entry). AllByRecursion (IsThere g.nodes) (reads e.node))
-    (λ (e : Entry). Only (CanCall g) (call_at g.nodes e.number e.node))
-    (λ e a b. call_can_at g e.number e.node a b) g.nodes
+    (λ (e : Entry). Only P (f e.number e.node)) (λ e a b. one e.number e.node a b) g.nodes
     (each_found g.nodes (differ_ascends g.nodes ok.founded.ascends)) ok.founded.there)
+
+pub next_call_can : (g : Graph) → IsGraphOk g → Only (CanCall g) (next_call g.nodes)
+next_call_can g ok =
+    least_node (CanCall g) g (call_at g.nodes) ok (call_can_at g)
 
 -- ---- a merge that is next
 
@@ -121,20 +117,15 @@ nest_room g n e ins es false i a b r = none_only (CanNest g)
 nest_can : (g : Graph) (n : ℕ) (ins : List Place) (c : Place) (o : Option Node)
     → node_at g.nodes c.node ≡ o → node_at g.nodes n ≡ Some (Flatten ins) → among c ins ≡ true
     → IsThere g.nodes c → Only (CanNest g) (nest_of n ins c.node o)
-nest_can g n ins c None h a r t = none_only (CanNest g)
-nest_can g n ins c (Some (Source i)) h a r t = none_only (CanNest g)
 nest_can g n ins c (Some (Flatten es)) h a r t =
     let first : c ≡ place c.node 0 = ap (λ (j : ℕ). place c.node j)
     (eqb-true c.out 0 (gives_of g.nodes c c.node (Flatten es) refl h t)) in
     nest_room g n c.node ins es (leb (length (spliced c.node es ins)) most_nodes) refl a h
     (subst (λ (d : Place). among d ins ≡ true) first r)
-nest_can g n ins c (Some (Pdo d k)) h a r t = none_only (CanNest g)
-nest_can g n ins c (Some (Gbk d o l k)) h a r t = none_only (CanNest g)
-nest_can g n ins c (Some (Barrier cs o l i)) h a r t = none_only (CanNest g)
+nest_can g n ins c _ h a r t = none_only (CanNest g)
 
 nest_can_at : (g : Graph) (n : ℕ) (x : Node) → node_at g.nodes n ≡ Some x
     → AllByRecursion (IsThere g.nodes) (reads x) → Only (CanNest g) (nest_at g.nodes n x)
-nest_can_at g n (Source r) h t = none_only (CanNest g)
 nest_can_at g n (Flatten ins) h t =
     least_only (CanNest g) (λ (c : Place). nest_of n ins c.node (node_at g.nodes c.node)) None ins
     (none_only (CanNest g))
@@ -142,19 +133,11 @@ nest_can_at g n (Flatten ins) h t =
     (λ (c : Place). Only (CanNest g) (nest_of n ins c.node (node_at g.nodes c.node)))
     (λ c r u. nest_can g n ins c (node_at g.nodes c.node) refl h r u) ins
     (all_among (λ c. among c ins ≡ true) ins (λ c i. i)) t)
-nest_can_at g n (Pdo c f) h t = none_only (CanNest g)
-nest_can_at g n (Gbk c o l k) h t = none_only (CanNest g)
-nest_can_at g n (Barrier ins o l a) h t = none_only (CanNest g)
+nest_can_at g n _ h t = none_only (CanNest g)
 
 pub next_nest_can : (g : Graph) → IsGraphOk g → Only (CanNest g) (next_nest g.nodes)
 next_nest_can g ok =
-    least_only (CanNest g) (λ (e : Entry). nest_at g.nodes e.number e.node) None g.nodes
-    (none_only (CanNest g))
-    (Each-both (λ (e : Entry). node_at g.nodes e.number ≡ Some e.node)
-    (λ (e : Entry). AllByRecursion (IsThere g.nodes) (reads e.node))
-    (λ (e : Entry). Only (CanNest g) (nest_at g.nodes e.number e.node))
-    (λ e a b. nest_can_at g e.number e.node a b) g.nodes
-    (each_found g.nodes (differ_ascends g.nodes ok.founded.ascends)) ok.founded.there)
+    least_node (CanNest g) g (nest_at g.nodes) ok (nest_can_at g)
 
 -- ---- the chain
 
@@ -223,14 +206,6 @@ pub next_has_no_room : (g : Graph) (p : Pair) → next_nest g.nodes ≡ None
 unfolding next_graph
 next_has_no_room g p a b c = ap (next_by g) a ∙ ap (sink_next g) b ∙ rw c refl
 
-pub nest_lighter : (g : Graph) (n : Pair) → IsGraphOk g → CanNest g n
-    → total_weight (after_nest g n) < total_weight g
-nest_lighter g n ok can =
-    let ins : List Place = ins_of (node_at g.nodes n.flatten) in
-    let es : List Place = ins_of (node_at g.nodes n.other) in
-    merge_lighter g n.flatten ins n.other es ok.founded
-    (IsFounded-merged g n.flatten ins n.other es ok.founded can) can
-
 -- ---- the normal form
 
 lesser_none : (a b : Option Pair) → lesser a b ≡ None → (a ≡ None) × (b ≡ None)
@@ -256,11 +231,8 @@ no_call_of n p ins o h e =
     let i : call_of n p (Some (Flatten ins)) ≡ None = ap (call_of n p) (sym e) ∙ h in cc
 
 no_call : (es : List Entry) (p : ℕ) (x : Node) → call_at es p x ≡ None → ReadsNoFlatten es x
-no_call es p (Source r) h = tt
-no_call es p (Flatten ins) h = tt
 no_call es p (Pdo c f) h = λ ins e. no_call_of c.node p ins (node_at es c.node) h e
-no_call es p (Gbk c o l k) h = tt
-no_call es p (Barrier ins o l a) h = tt
+no_call es p _ h = tt
 
 no_room : (g h : Graph) (b : Bool) → cond b (Some h) None ≡ None → b ≡ false
 no_room g h true e = let bad : ⊥ = cc in absurd bad

@@ -9,7 +9,7 @@ use Rattle.graph_laws.specs.of_exec_graph.Readers.{same_place, among, any_node, 
 use Rattle.graph_laws.specs.of_exec_graph.Wellformed.{IsLiftedOk, IsNodeOk, comb_at, size, total_size, most_nodes}
 use Rattle.graph_laws.specs.of_exec_graph.declared.graph.Place.{Place}
 use Rattle.graph_laws.specs.of_exec_graph.declared.graph.Node.{Node}
-use Rattle.graph_laws.specs.of_exec_graph.declared.graph.Node.TheVariants.{Source, Flatten, Pdo, Gbk, Barrier}
+use Rattle.graph_laws.specs.of_exec_graph.declared.graph.Node.TheVariants.{Flatten, Pdo, Gbk}
 use Rattle.graph_laws.specs.of_exec_graph.declared.graph.Entry.{Entry}
 use Rattle.graph_laws.specs.of_exec_graph.declared.graph.Graph.{Graph}
 use Rattle.graph_laws.proofs.of_exec_graph.Bools.{no_or, or_false, or_left, or_right}
@@ -20,8 +20,9 @@ use Rattle.graph_laws.specs.of_exec_graph.Wellformed.{Ascends}
 use Rattle.graph_laws.specs.Joining.{set_node}
 use Rattle.graph_laws.proofs.Changes.{all_set_others}
 use Rattle.graph_laws.proofs.Wellness.{node_at-set_other}
+use Rattle.graph_laws.proofs.Reading.{any_set, those_set}
 use Rattle.sink_laws.specs.Merging.{spliced, merged, CanMerge}
-use Rattle.sink_laws.proofs.Readership.{any_set, any_set_up, those_set}
+use Rattle.sink_laws.proofs.Readership.{any_set_up}
 use Rattle.sink_laws.proofs.Rerouting.{apart_input}
 use Rattle.sink_laws.proofs.SinkNodes.{NodesOk, two_kinds}
 use Rattle.sink_laws.proofs.Unread.{none_passes, same_true}
@@ -125,7 +126,7 @@ lifted_merged g f ins e es q k can a =
       uncollected = any_set (collects d) g.nodes f x (Flatten ins) can.outer
           (among_none d e es ins not_es not_ins ∙ sym not_ins) ∙ a.uncollected;
       reader = a.reader;
-      alone = those_set (calls_on d) g.nodes f x (Flatten ins) can.outer refl refl ∙ a.alone;
+      alone = those_set (calls_on d) g.nodes f x (Flatten ins) can.outer refl ∙ a.alone;
       root = comb_set g.nodes f a.reader ins x k (node_at g.nodes a.reader) refl can.outer a.root;
     }
   where
@@ -143,7 +144,6 @@ lifted_merged g f ins e es q k can a =
 node_merged : (g : Graph) (f : ℕ) (ins : List Place) (e : ℕ) (es : List Place) (q : ℕ) (x : Node)
     → CanMerge g f ins e es → node_at g.nodes q ≡ Some x → IsNodeOk g q x
     → IsNodeOk (merged g f ins e es) q x
-node_merged g f ins e es q (Source r) can at a = tt
 node_merged g f ins e es q (Flatten cs) can at a = a
 node_merged g f ins e es q (Pdo c h) can at a = record {
   order = a.order;
@@ -151,9 +151,8 @@ node_merged g f ins e es q (Pdo c h) can at a = record {
       (two_kinds g q e (Pdo c h) (Flatten es) at can.inner (λ e. let bad : ⊥ = cc in bad))
       (a.read j i);
 }
-node_merged g f ins e es q (Gbk c o l None) can at a = tt
 node_merged g f ins e es q (Gbk c o l (Some k)) can at a = lifted_merged g f ins e es q k can a
-node_merged g f ins e es q (Barrier cs o l i) can at a = tt
+node_merged g f ins e es q _ can at a = tt
 
 pub NodesOk-merged : (g : Graph) (f : ℕ) (ins : List Place) (e : ℕ) (es : List Place)
     → Ascends g.nodes → CanMerge g f ins e es → NodesOk g → NodesOk (merged g f ins e es)

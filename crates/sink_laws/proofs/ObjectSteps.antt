@@ -5,7 +5,7 @@ use Rattle.std.proofs.lemmas.Bool.{eqb-true, eq-eqb, false≢true}
 use Rattle.flume_value.proofs.EachLemmas.{Each-weaker}
 use Rattle.graph_laws.specs.of_exec_graph.declared.graph.Place.{Place}
 use Rattle.graph_laws.specs.of_exec_graph.declared.graph.Node.{Node}
-use Rattle.graph_laws.specs.of_exec_graph.declared.graph.Node.TheVariants.{Source, Flatten, Pdo, Gbk, Barrier}
+use Rattle.graph_laws.specs.of_exec_graph.declared.graph.Node.TheVariants.{Flatten, Pdo, Barrier}
 use Rattle.graph_laws.specs.of_exec_graph.declared.graph.Entry.{Entry}
 use Rattle.graph_laws.specs.of_exec_graph.declared.graph.Graph.{Graph}
 use Rattle.graph_laws.specs.of_exec_graph.Forests.{Forest, numbered}
@@ -29,12 +29,9 @@ use Rattle.sink_laws.proofs.SinkFounded.{all_sunk, flatten_at, node_at-sunk_othe
 node_alike : (old new : List Entry)
     → ((c : Place) → is_object_at new c ≡ is_object_at old c) → (x : Node)
     → has_objects old x ≡ true → has_objects new x ≡ true
-node_alike old new h (Source s) a = a
-node_alike old new h (Flatten ins) a = a
-node_alike old new h (Pdo c f) a = a
-node_alike old new h (Gbk c o l k) a = a
 node_alike old new h (Barrier ins o l d) a =
     ap (takes_such d) (map_same (is_object_at new) (is_object_at old) h ins) ∙ a
+node_alike old new h _ a = a
 
 all_alike : (old new : List Entry)
     → ((c : Place) → is_object_at new c ≡ is_object_at old c) → (es : List Entry)

@@ -10,7 +10,7 @@ use Rattle.graph_laws.specs.of_exec_graph.Readers.{same_place, among, any_node, 
 use Rattle.graph_laws.specs.of_exec_graph.Wellformed.{IsFounded, IsForestOk, IsLiftedOk, IsNodeOk, comb_at, most_nodes}
 use Rattle.graph_laws.specs.of_exec_graph.declared.graph.Place.{Place}
 use Rattle.graph_laws.specs.of_exec_graph.declared.graph.Node.{Node}
-use Rattle.graph_laws.specs.of_exec_graph.declared.graph.Node.TheVariants.{Source, Flatten, Pdo, Gbk, Barrier}
+use Rattle.graph_laws.specs.of_exec_graph.declared.graph.Node.TheVariants.{Source, Flatten, Pdo, Gbk}
 use Rattle.graph_laws.specs.of_exec_graph.declared.graph.Entry.{Entry}
 use Rattle.graph_laws.specs.of_exec_graph.declared.graph.Graph.{Graph}
 use Rattle.graph_laws.proofs.of_exec_graph.Bools.{or_left, or_right}
@@ -20,11 +20,12 @@ use Rattle.graph_laws.proofs.of_exec_graph.Soundness.{differ_ascends}
 use Rattle.graph_laws.specs.Joining.{reread, reread_entry}
 use Rattle.graph_laws.proofs.ReadPlaces.{same_self}
 use Rattle.graph_laws.proofs.Wellness.{differ_map}
+use Rattle.graph_laws.proofs.Reading.{any_here}
 use Rattle.sink_laws.specs.Sinking.{copies, copied, flattens, outputs_of, flatten_number, first_flatten, rerouted, sunk_once, CanSink}
 use Rattle.sink_laws.proofs.Instead.{Maybe}
 use Rattle.sink_laws.proofs.Outs.{has_below}
 use Rattle.sink_laws.proofs.Ranges.{length-copied}
-use Rattle.sink_laws.proofs.Readership.{all_instead_others, any_found, any_none, only_passes}
+use Rattle.sink_laws.proofs.Readership.{all_instead_others, any_none, only_passes}
 use Rattle.sink_laws.proofs.Rerouting.{IsOutside, apart_input, among_rerouted, any_sunk, those_sunk, collects_skipped, calls_skipped, read_sunk}
 use Rattle.sink_laws.proofs.SinkFounded.{kept_nodes, first_nodes, last_nodes, flatten_at, node_at-sunk_other}
 use Rattle.sink_laws.proofs.Unread.{none_passes}
@@ -87,10 +88,7 @@ old_lifted g n p f ins q c o l m k ok can at apart below a =
     comb_reread : (r : Place → Place) (x : Node) (k : Comb) → comb_at (Some x) ≡ Some k
         → comb_at (Some (reread r x)) ≡ Some k
     comb_reread r (Source s) k h = h
-    comb_reread r (Flatten ins) k h = h
-    comb_reread r (Pdo c f) k h = h
-    comb_reread r (Gbk c o l m) k h = h
-    comb_reread r (Barrier ins o l a) k h = h
+    comb_reread r _ k h = h
 
     comb_kept : (g : Graph) (p q : ℕ) (f : Forest) (ins : List Place) (k : Comb) (o : Option Node)
         → node_at g.nodes q ≡ o → (q ≡ p → ⊥) → comb_at (node_at g.nodes q) ≡ Some k
@@ -105,7 +103,6 @@ old_ok : (g : Graph) (n p : ℕ) (f : Forest) (ins : List Place) (q : ℕ) (x : 
     → CanSink g n p f ins → node_at g.nodes q ≡ Some x → (q ≡ p → ⊥) → q < g.next
     → IsNodeOk g q x
     → IsNodeOk (sunk_once g p f ins) q (reread (rerouted p (g.next + length ins)) x)
-old_ok g n p f ins q (Source r) ok can at apart below a = tt
 old_ok g n p f ins q (Flatten cs) ok can at apart below a =
     let e = map_length (rerouted p (g.next + length ins)) cs in
     (let h = a.0 in omega arith, let h = a.1 in omega arith)
@@ -119,10 +116,9 @@ old_ok g n p f ins q (Pdo c h) ok can at apart below a = record {
       (two_kinds g q n (Pdo c h) (Flatten ins) at can.flatten (λ e. let bad : ⊥ = cc in bad))
       (a.read j i);
 }
-old_ok g n p f ins q (Gbk c o l None) ok can at apart below a = tt
 old_ok g n p f ins q (Gbk c o l (Some k)) ok can at apart below a =
     old_lifted g n p f ins q c o l (Some k) k ok can at apart below a
-old_ok g n p f ins q (Barrier cs o l i) ok can at apart below a = tt
+old_ok g n p f ins q _ ok can at apart below a = tt
 
 -- ---- the copies and the Flattens
 
@@ -181,7 +177,7 @@ copy_read g n p f ins j i ok order can h l =
     let new : Graph = sunk_once g p f ins in
     let c : Place = place (g.next + i) j in
     or_left (any_node (uses c) new.nodes) (among c new.outputs)
-    (any_found (uses c) new.nodes (flatten_number p (g.next + length ins) j)
+    (any_here (uses c) new.nodes (flatten_number p (g.next + length ins) j)
     (Flatten (copied g.next j ins))
     (flatten_at g n p f ins j ok.ascends ok.below can (has_below f j order h))
     (among_copied g.next j i ins l))

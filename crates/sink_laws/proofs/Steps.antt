@@ -1,7 +1,7 @@
 -- Whole merges and steps: a graph stays well-formed and keeps its meaning.
 use Rattle.std.proofs.Common.{◌≡◌, ℕ, ◌+◌, ◌<◌, ◌≤◌, Bool, true, false, cond, eqb, List, [], ◌∷◌, Some, map, length, refl, sym, ap, ◌∙◌, subst, arith, inl, inr}
 use Rattle.std.proofs.lemmas.Bool.{eqb-true, false≢true}
-use Rattle.std.specs.List.{AllByRecursion}
+use Rattle.std.specs.List.{AllByRecursion, list_any}
 use Rattle.graph_laws.specs.of_exec_graph.Forests.{Forest}
 use Rattle.graph_laws.specs.of_exec_graph.Meaning.{place, node_at, IsRankedBy, KeepsMeaning}
 use Rattle.graph_laws.specs.of_exec_graph.Readers.{same_place, among, uses, is_read}
@@ -19,6 +19,7 @@ use Rattle.graph_laws.specs.Joining.{set_node, without}
 use Rattle.graph_laws.proofs.Changes.{node_at-without_other}
 use Rattle.graph_laws.proofs.Kids.{KeepsMeaning-then}
 use Rattle.graph_laws.proofs.Wellness.{node_at-set_same, node_at-set_other}
+use Rattle.graph_laws.proofs.Reading.{any_here}
 use Rattle.sink_laws.specs.Kept.{IsGood}
 use Rattle.sink_laws.specs.Merging.{spliced, merged, dropped, merge_step, CanMerge}
 use Rattle.sink_laws.specs.Sinking.{copies, rerouted, sunk_once, sink_step, CanSink}
@@ -27,7 +28,6 @@ use Rattle.sink_laws.proofs.DropNodes.{IsReplaced, NodesOk-dropped, size_without
 use Rattle.sink_laws.proofs.MergeMeaning.{KeepsMeaning-merged, IsFounded-merged}
 use Rattle.sink_laws.proofs.MergeNodes.{NodesOk-merged, among_put, size-set}
 use Rattle.sink_laws.proofs.Ranges.{IsFoundIn}
-use Rattle.sink_laws.proofs.Readership.{any_found}
 use Rattle.sink_laws.proofs.SinkFounded.{IsFounded-sunk, copies_there, inputs_apart, node_at-sunk_other}
 use Rattle.sink_laws.proofs.SinkMeaning.{KeepsMeaning-sunk}
 use Rattle.sink_laws.proofs.ObjectSteps.{HaveObjects-dropped, HaveObjects-merged, HaveObjects-sunk}
@@ -47,26 +47,26 @@ map_apart p base (c ∷ cs) a =
     let e : eqb c.node p ≡ false = not_true (eqb c.node p) (λ h. a.0 (eqb-true c.node p h)) in
     rw (e, i) refl
 
--- A copy that reads the collection.
-record IsCopyOf (all : List Entry) (m : ℕ) (f : Forest) (c : Place) : Type 0 where
+-- A copy that reads a collection that passes.
+pub record IsCopy (all : List Entry) (m : ℕ) (f : Forest) (t : Place → Bool) : Type 0 where
   pub number : ℕ
   pub input : Place
   pub above : m ≤ number
   pub there : node_at all number ≡ Some (Pdo input f)
-  pub same : same_place c input ≡ true
+  pub passes : t input ≡ true
 
-found_copy : (all : List Entry) (m : ℕ) (f : Forest) (c : Place) (cs : List Place)
-    → among c cs ≡ true → IsFoundIn all (copies m f cs) → IsCopyOf all m f c
-found_copy all m f c [] h a = absurd (false≢true h)
-found_copy all m f c (d ∷ ds) h a =
-    elim (or_cases (same_place c d) (among c ds) h) [
-      | inl i ↦ record { number = m; input = d; above = omega arith; there = a.0; same = i }
-      | inr i ↦ (let r = found_copy all (m + 1) f c ds i a.1 in record {
+pub found_copy : (all : List Entry) (m : ℕ) (f : Forest) (t : Place → Bool) (cs : List Place)
+    → list_any t cs ≡ true → IsFoundIn all (copies m f cs) → IsCopy all m f t
+found_copy all m f t [] h a = absurd (false≢true h)
+found_copy all m f t (d ∷ ds) h a =
+    elim (or_cases (t d) (list_any t ds) h) [
+      | inl i ↦ record { number = m; input = d; above = omega arith; there = a.0; passes = i }
+      | inr i ↦ (let r = found_copy all (m + 1) f t ds i a.1 in record {
         number = r.number;
         input = r.input;
         above = let l = r.above in omega arith;
         there = r.there;
-        same = r.same;
+        passes = r.passes;
       })
     ]
 
@@ -74,14 +74,14 @@ replaced_sunk : (g : Graph) (n p : ℕ) (f : Forest) (ins : List Place) → IsGr
     → CanSink g n p f ins → IsReplaced (sunk_once g p f ins) n ins
 replaced_sunk g n p f ins ok can c h =
     let new : List Entry = (sunk_once g p f ins).nodes in
-    let r = found_copy new g.next f c ins h
+    let r = found_copy new g.next f (same_place c) ins h
     (copies_there g n p f ins ok.founded.ascends ok.founded.below can) in
     let low : n < g.next = all_found (λ e. e.number < g.next) g.nodes n (Flatten ins) can.flatten
     ok.founded.below in
     let l : g.next ≤ r.number = r.above in
-    any_found (uses c) (without new n) r.number (Pdo r.input f)
+    any_here (uses c) (without new n) r.number (Pdo r.input f)
     (node_at-without_other new n r.number (Pdo r.input f) (λ e. omega arith) r.there)
-    (or_left (same_place c r.input) false r.same)
+    (or_left (same_place c r.input) false r.passes)
 
 sink_by : (g : Graph) (n p : ℕ) (f : Forest) (ins : List Place) (b : Bool)
     → is_read (sunk_once g p f ins) (place n 0) ≡ b → IsGraphOk g → CanSink g n p f ins
@@ -144,7 +144,7 @@ IsGood-sink_step g n p f ins ok can room =
 
 -- ---- a merge
 
-lower : (r : ℕ → ℕ) (e x : ℕ) (ins : List Place) → among (place e 0) ins ≡ true
+pub lower : (r : ℕ → ℕ) (e x : ℕ) (ins : List Place) → among (place e 0) ins ≡ true
     → AllByRecursion (λ c. r c.node < x) ins → r e < x
 lower r e x [] h a = absurd (false≢true h)
 lower r e x (c ∷ cs) h a =
@@ -165,7 +165,7 @@ replaced_merged : (g : Graph) (f : ℕ) (ins : List Place) (e : ℕ) (es : List 
 replaced_merged g f ins e es apart can c h =
     let x : Node = Flatten (spliced e es ins) in
     let new : List Entry = set_node g.nodes f x in
-    any_found (uses c) (without new e) f x
+    any_here (uses c) (without new e) f x
     (node_at-without_other new e f x (λ i. apart (sym i))
     (node_at-set_same g.nodes f x (Flatten ins) can.outer))
     (among_put c e es ins can.nested h)

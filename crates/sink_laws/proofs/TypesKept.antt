@@ -1,16 +1,16 @@
 -- Merges and steps keep types, and make no other steps.
-use Rattle.std.proofs.Common.{◌≡◌, ℕ, ◌+◌, ◌-◌, ◌<◌, ◌≤◌, Bool, true, false, cond, ltb, eqb, List, [], ◌∷◌, Option, Some, None, map, length, zero, suc, refl, sym, ap, ◌∙◌, subst, arith}
+use Rattle.std.proofs.Common.{◌≡◌, ℕ, ◌+◌, ◌-◌, ◌<◌, ◌≤◌, Bool, true, false, cond, ltb, eqb, List, [], ◌∷◌, Some, map, length, zero, suc, refl, sym, ap, ◌∙◌, subst, arith}
 use Rattle.std.proofs.lemmas.Bool.{eqb-true, lt-ltb, le-ltb}
 use Rattle.std.specs.List.{AllByRecursion}
-use Rattle.flume_value.proofs.EachLemmas.{Each-both, Each-weaker}
+use Rattle.flume_value.proofs.EachLemmas.{Each-weaker}
 use Rattle.graph_laws.specs.of_flume_types.declared.types.Ty.{Ty}
-use Rattle.graph_laws.specs.of_exec_graph.Forests.{Forest, Bare, Grow}
+use Rattle.graph_laws.specs.of_exec_graph.Forests.{Forest}
 use Rattle.graph_laws.specs.of_exec_graph.Meaning.{place, node_at, reads, IsThere}
 use Rattle.graph_laws.specs.of_exec_graph.Readers.{is_read}
-use Rattle.graph_laws.specs.of_exec_graph.Typing.{ActTyped, Signatures, OutTyped, ForestTyped, IsGrouped, NodeTyped, IsTyped}
+use Rattle.graph_laws.specs.of_exec_graph.Typing.{Signatures, ForestTyped, NodeTyped, IsTyped}
 use Rattle.graph_laws.specs.of_exec_graph.declared.graph.Place.{Place}
 use Rattle.graph_laws.specs.of_exec_graph.declared.graph.Node.{Node}
-use Rattle.graph_laws.specs.of_exec_graph.declared.graph.Node.TheVariants.{Source, Flatten, Pdo, Gbk, Barrier}
+use Rattle.graph_laws.specs.of_exec_graph.declared.graph.Node.TheVariants.{Flatten, Pdo}
 use Rattle.graph_laws.specs.of_exec_graph.declared.graph.Entry.{Entry}
 use Rattle.graph_laws.specs.of_exec_graph.declared.graph.Graph.{Graph}
 use Rattle.graph_laws.specs.of_exec_graph.Wellformed.{IsGraphOk}
@@ -19,7 +19,8 @@ use Rattle.graph_laws.proofs.of_exec_graph.Solving.{each_found}
 use Rattle.graph_laws.proofs.of_exec_graph.Soundness.{differ_ascends}
 use Rattle.graph_laws.specs.Joining.{reread, reread_entry}
 use Rattle.graph_laws.specs.Single.{AllSteps, HasSteps}
-use Rattle.graph_laws.proofs.TypedGraphs.{types_reread}
+use Rattle.graph_laws.proofs.TypedForests.{typed_moved}
+use Rattle.graph_laws.proofs.TypedGraphs.{typed_at}
 use Rattle.graph_laws.proofs.Changes.{all_set, all_without}
 use Rattle.sink_laws.specs.Kept.{IsOfPdo, KeepsSteps}
 use Rattle.sink_laws.specs.Merging.{spliced, merged, dropped, tidied, merge_step, CanMerge}
@@ -64,47 +65,6 @@ type_by types next base p c false i h l k = type_old types next base p c k
 
 -- ---- nodes that read elsewhere
 
-out_moved : (types more : Place → Ty) (n i : ℕ) (o : Option ℕ) (u : Ty)
-    → ((j : ℕ) → more (place i j) ≡ types (place n j)) → OutTyped types n o u → OutTyped more i o u
-out_moved types more n i None u h a = tt
-out_moved types more n i (Some j) u h a = h j ∙ a
-
-forest_moved : (s : Signatures) (types more : Place → Ty) (n i : ℕ) (t : Ty) (f : Forest)
-    → ((j : ℕ) → more (place i j) ≡ types (place n j)) → ForestTyped s types n t f
-    → ForestTyped s more i t f
-forest_moved s types more n i t Bare h a = tt
-forest_moved s types more n i t (Grow l kids rest) h a = (
-  (
-    a.0.0,
-    a.0.1,
-    out_moved types more n i l.out a.0.0 h a.0.2,
-    forest_moved s types more n i a.0.0 kids h a.0.3,
-  ),
-  forest_moved s types more n i t rest h a.1,
-)
-
-node_reread : (s : Signatures) (types more : Place → Ty) (r : Place → Place) (n : ℕ) (x : Node)
-    → AllByRecursion (λ c. more (r c) ≡ types c) (reads x)
-    → ((j : ℕ) → more (place n j) ≡ types (place n j)) → NodeTyped s types n x
-    → NodeTyped s more n (reread r x)
-node_reread s types more r n (Source k) a o h = o 0 ∙ h
-node_reread s types more r n (Flatten ins) a o h =
-    all_map r (λ (c : Place). (more (r c) ≡ types c) × (types c ≡ types (place n 0)))
-    (λ c. more c ≡ more (place n 0)) (λ c k. k.0 ∙ k.1 ∙ sym (o 0)) ins
-    (Each-both (λ (c : Place). more (r c) ≡ types c) (λ (c : Place). types c ≡ types (place n 0))
-    (λ (c : Place). (more (r c) ≡ types c) × (types c ≡ types (place n 0))) (λ c u v. (u, v))
-    ins a h)
-node_reread s types more r n (Pdo c f) a o h =
-    subst (λ (t : Ty). ForestTyped s more n t f) (sym a.0) (forest_moved s types more n n (types c)
-    f o h)
-node_reread s types more r n (Gbk c i l k) a o h =
-    subst (λ (t : Ty). IsGrouped t (more (place n 0))) (sym a.0)
-    (subst (λ (u : Ty). IsGrouped (types c) u) (sym (o 0)) h)
-node_reread s types more r n (Barrier ins i l d) a o h =
-    subst (ActTyped s d (map more (map r ins))) (sym (o 0))
-    (subst (λ (ts : List Ty). ActTyped s d ts (types (place n 0)))
-    (sym (types_reread more types r ins a)) h)
-
 kept_typed : (s : Signatures) (types more : Place → Ty) (r : Place → Place) (es : List Entry)
     → AllByRecursion (λ e. AllByRecursion (λ c. more (r c) ≡ types c) (reads e.node)) es
     → AllByRecursion (λ e. (j : ℕ) → more (place e.number j) ≡ types (place e.number j)) es
@@ -112,7 +72,7 @@ kept_typed : (s : Signatures) (types more : Place → Ty) (r : Place → Place) 
     → AllByRecursion (λ e. NodeTyped s more e.number e.node) (map (reread_entry r) es)
 kept_typed s types more r [] a b h = tt
 kept_typed s types more r (e ∷ es) a b h = (
-  node_reread s types more r e.number e.node a.0 b.0 h.0,
+  typed_at s types more r e.number e.number e.node a.0 b.0 h.0,
   kept_typed s types more r es a.1 b.1 h.1,
 )
 
@@ -134,8 +94,8 @@ copies_typed s types next base p m f t [] h l a b c = tt
 copies_typed s types next base p m f t (d ∷ ds) h l a b c = (
   subst (λ (u : Ty). ForestTyped s (new_types types next base p) m u f)
       (sym (type_old types next base p d c.0 ∙ b.0))
-      (forest_moved s types (new_types types next base p) p m t f
-      (λ j. type_copy types next base p m j h (omega arith)) a),
+      (typed_moved s types (new_types types next base p) p m t f
+      (λ j _. type_copy types next base p m j h (omega arith)) a),
   copies_typed s types next base p (m + 1) f t ds (omega arith) (omega arith) a b.1 c.1,
 )
 
@@ -232,11 +192,8 @@ IsTyped-tidied s g n typed = typed_by s g n (is_read g (place n 0)) typed
 
 module _ (P : Forest → Type 0) where
   steps_reread : (r : Place → Place) (x : Node) → HasSteps P x → HasSteps P (reread r x)
-  steps_reread r (Source k) h = tt
-  steps_reread r (Flatten ins) h = tt
   steps_reread r (Pdo c f) h = h
-  steps_reread r (Gbk c o l k) h = tt
-  steps_reread r (Barrier ins o l a) h = tt
+  steps_reread r _ h = tt
 
   copies_steps : (n : ℕ) (f : Forest) (cs : List Place) → P f
       → AllByRecursion (λ e. HasSteps P e.node) (copies n f cs)
@@ -276,11 +233,8 @@ module _ (P : Forest → Type 0) where
 -- ---- the steps are those of former Pdos
 
 own_steps : (g : Graph) (n : ℕ) (x : Node) → node_at g.nodes n ≡ Some x → HasSteps (IsOfPdo g) x
-own_steps g n (Source r) at = tt
-own_steps g n (Flatten ins) at = tt
 own_steps g n (Pdo c f) at = record { number = n; input = c; at = at }
-own_steps g n (Gbk c o l k) at = tt
-own_steps g n (Barrier ins o l a) at = tt
+own_steps g n _ at = tt
 
 pub KeepsSteps-self : (g : Graph) → IsGraphOk g → KeepsSteps g g
 KeepsSteps-self g ok =
@@ -290,12 +244,9 @@ KeepsSteps-self g ok =
 
 module _ (P : Forest → Type 0) where
   node_steps : (g : Graph) (x : Node) → AllSteps P g → HasSteps (IsOfPdo g) x → HasSteps P x
-  node_steps g (Source r) a h = tt
-  node_steps g (Flatten ins) a h = tt
   node_steps g (Pdo c f) a h =
       all_found (λ e. HasSteps P e.node) g.nodes h.number (Pdo h.input f) h.at a
-  node_steps g (Gbk c o l k) a h = tt
-  node_steps g (Barrier ins o l d) a h = tt
+  node_steps g _ a h = tt
 
   pub AllSteps-kept : (g h : Graph) → KeepsSteps g h → AllSteps P g → AllSteps P h
   AllSteps-kept g h k a =

@@ -15,14 +15,14 @@ use Rattle.sink_weights.proofs.MergeLighter.{merge_lighter}
 use Rattle.sink_weights.proofs.SinkLighter.{sink_lighter}
 
 -- The graph is well-formed, and lighter.
-record IsLess (g h : Graph) : Type 0 where
+pub record IsLess (g h : Graph) : Type 0 where
   pub ok : IsGraphOk h
   pub less : total_weight h < total_weight g
 
 some_same : (g h : Graph) → Some g ≡ Some h → g ≡ h
 some_same g h e = cc
 
-after_nest_less : (g : Graph) (n : Pair) → IsGraphOk g → next_nest g.nodes ≡ Some n
+pub after_nest_less : (g : Graph) (n : Pair) → IsGraphOk g → next_nest g.nodes ≡ Some n
     → IsLess g (after_nest g n)
 after_nest_less g n ok h =
     let can = next_nest_can g ok n h in

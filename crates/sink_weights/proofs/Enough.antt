@@ -99,26 +99,15 @@ copies_enough m next p f ins i q (c ∷ cs) h l a b =
           (let e : i + suc k ≡ (i + 1) + k = omega arith in e) (a (suc k))) b.1,
     )
 
-copies_from : (m : ℕ → ℕ) (next p : ℕ) (f : Forest) (ins : List Place) (i q : ℕ)
-    (cs : List Place) → q ≡ next + i → i + length cs ≡ length ins
-    → ((k : ℕ) → get_or ins (i + k) (place 0 0) ≡ get_or cs k (place 0 0))
-    → weigh (enough m next p ins) (copies q f cs) ≡ 2 * added m cs
-copies_from m next p f ins i q [] h l a = omega arith
-copies_from m next p f ins i q (c ∷ cs) h l a =
-    let here : get_or ins i (place 0 0) ≡ c =
-    subst (λ (k : ℕ). get_or ins k (place 0 0) ≡ c) (let e : i + 0 ≡ i = omega arith in e) (a 0) in
-    let one : enough m next p ins q ≡ 2 * m c.node =
-    enough_copy m next p ins i q h (omega arith) ∙ ap (λ (d : Place). 2 * m d.node) here in
-    let rest = copies_from m next p f ins (i + 1) (q + 1) cs (omega arith) (omega arith)
-    (λ k. subst (λ (b : ℕ). get_or ins b (place 0 0) ≡ get_or cs k (place 0 0))
-    (let e : i + suc k ≡ (i + 1) + k = omega arith in e) (a (suc k))) in
-    omega arith
+weigh_copies : (k : ℕ → ℕ) (q : ℕ) (f : Forest) (cs : List Place)
+    → weigh k (copies q f cs) ≡ added k (copied q 0 cs)
+weigh_copies k q f [] = refl
+weigh_copies k q f (c ∷ cs) = ap (λ (n : ℕ). k q + n) (weigh_copies k (q + 1) f cs)
 
 pub copies_weigh : (m : ℕ → ℕ) (next p : ℕ) (f : Forest) (ins : List Place)
     → weigh (enough m next p ins) (copies next f ins) ≡ 2 * added m ins
 copies_weigh m next p f ins =
-    copies_from m next p f ins 0 next ins (omega arith) (omega arith)
-    (λ k. ap (λ (a : ℕ). get_or ins a (place 0 0)) (omega arith))
+    weigh_copies (enough m next p ins) next f ins ∙ added_copied m next p ins 0
 
 pub flattens_enough : (m : ℕ → ℕ) (next p q : ℕ) (ins : List Place) (j k : ℕ)
     → next + length ins ≤ q → 1 + 2 * added m ins ≤ m p

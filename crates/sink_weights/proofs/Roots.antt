@@ -7,13 +7,13 @@ use Rattle.sink_laws.specs.of_exec_graph.Readers.{any_node, same_place, among, u
 use Rattle.sink_laws.specs.of_exec_graph.Wellformed.{IsFounded}
 use Rattle.sink_laws.specs.of_exec_graph.declared.graph.Place.{Place}
 use Rattle.sink_laws.specs.of_exec_graph.declared.graph.Node.{Node}
-use Rattle.sink_laws.specs.of_exec_graph.declared.graph.Node.TheVariants.{Source, Flatten, Pdo, Gbk, Barrier}
+use Rattle.sink_laws.specs.of_exec_graph.declared.graph.Node.TheVariants.{Gbk}
 use Rattle.sink_laws.specs.of_exec_graph.declared.graph.Entry.{Entry}
 use Rattle.sink_laws.specs.of_exec_graph.declared.graph.Graph.{Graph}
 use Rattle.sink_laws.proofs.of_exec_graph.Bools.{or_cases, or_left, or_right, no_or}
 use Rattle.sink_laws.proofs.of_exec_graph.Solving.{each_found, lower_most, place_of, ranked_at, short_ranked}
 use Rattle.sink_laws.proofs.of_exec_graph.Soundness.{differ_ascends}
-use Rattle.sink_laws.proofs.Readership.{any_found}
+use Rattle.sink_laws.proofs.of_graph_laws.Reading.{any_here}
 use Rattle.sink_laws.proofs.Unread.{same_true}
 use Rattle.sink_weights.specs.Weights.{is_of, is_node_read}
 
@@ -48,7 +48,7 @@ pub read_by_node : (g : Graph) (q r : ℕ) (x : Node) → node_at g.nodes r ≡ 
     → is_of q (reads x) ≡ true → is_node_read g q ≡ true
 read_by_node g q r x at h =
     or_left (any_node (reads_of q) g.nodes) (is_of q g.outputs)
-    (any_found (reads_of q) g.nodes r x at h)
+    (any_here (reads_of q) g.nodes r x at h)
 
 pub read_by_output : (g : Graph) (q : ℕ) → is_of q g.outputs ≡ true → is_node_read g q ≡ true
 read_by_output g q h = or_right (any_node (reads_of q) g.nodes) (is_of q g.outputs) h
@@ -79,11 +79,8 @@ among_is_of c (d ∷ ds) h =
     ]
 
 pub uses_among : (c : Place) (x : Node) → uses c x ≡ true → among c (reads x) ≡ true
-uses_among c (Source r) h = h
-uses_among c (Flatten ins) h = h
-uses_among c (Pdo d f) h = h
 uses_among c (Gbk d o l k) h = or_left (same_place c d) false h
-uses_among c (Barrier ins o l a) h = h
+uses_among c _ h = h
 
 any_up : (s t : Node → Bool) (es : List Entry) → ((x : Node) → s x ≡ true → t x ≡ true)
     → any_node s es ≡ true → any_node t es ≡ true

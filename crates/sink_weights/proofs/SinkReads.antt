@@ -7,17 +7,16 @@ use Rattle.sink_laws.specs.of_exec_graph.Readers.{any_node, same_place, among, u
 use Rattle.sink_laws.specs.of_exec_graph.Wellformed.{IsForestOk, IsGraphOk, IsNodeOk}
 use Rattle.sink_laws.specs.of_exec_graph.declared.graph.Place.{Place}
 use Rattle.sink_laws.specs.of_exec_graph.declared.graph.Node.{Node}
-use Rattle.sink_laws.specs.of_exec_graph.declared.graph.Node.TheVariants.{Source, Flatten, Pdo, Gbk, Barrier}
-use Rattle.sink_laws.specs.of_exec_graph.declared.graph.Entry.{Entry}
+use Rattle.sink_laws.specs.of_exec_graph.declared.graph.Node.TheVariants.{Source, Flatten, Pdo}
 use Rattle.sink_laws.specs.of_exec_graph.declared.graph.Graph.{Graph}
 use Rattle.sink_laws.proofs.of_exec_graph.Bools.{or_cases, or_left, or_right, not_true}
 use Rattle.sink_laws.proofs.of_exec_graph.Entries.{all_found}
 use Rattle.sink_laws.proofs.of_exec_graph.Solving.{ranked_at}
 use Rattle.sink_laws.specs.of_graph_laws.Joining.{reread}
-use Rattle.sink_laws.specs.Sinking.{copies, copied, outputs_of, flatten_number, rerouted, sunk_once, CanSink}
+use Rattle.sink_laws.specs.Sinking.{copied, outputs_of, flatten_number, rerouted, sunk_once, CanSink}
 use Rattle.sink_laws.proofs.Outs.{has_from}
-use Rattle.sink_laws.proofs.Ranges.{IsFoundIn}
 use Rattle.sink_laws.proofs.SinkFounded.{copies_there, flatten_at, node_at-sunk_other}
+use Rattle.sink_laws.proofs.Steps.{found_copy}
 use Rattle.sink_laws.proofs.Unread.{same_true}
 use Rattle.sink_weights.specs.Weights.{is_of, is_node_read}
 use Rattle.sink_weights.proofs.Roots.{IsPassing, reader_of, reads_of, read_by_node, read_by_output, ranked_over, among_is_of, uses_among}
@@ -57,41 +56,9 @@ among_map c k r (d ∷ ds) f h =
 
 pub reads_reread : (r : Place → Place) (x : Node) → reads (reread r x) ≡ map r (reads x)
 reads_reread r (Source s) = refl
-reads_reread r (Flatten ins) = refl
-reads_reread r (Pdo c f) = refl
-reads_reread r (Gbk c o l k) = refl
-reads_reread r (Barrier ins o l a) = refl
+reads_reread r _ = refl
 
 -- ---- copies
-
--- A copy that reads an output of node q.
-record IsCopyOver (all : List Entry) (m : ℕ) (f : Forest) (q : ℕ) : Type 0 where
-  pub number : ℕ
-  pub input : Place
-  pub above : m ≤ number
-  pub at : node_at all number ≡ Some (Pdo input f)
-  pub same : input.node ≡ q
-
-copy_over : (all : List Entry) (m : ℕ) (f : Forest) (q : ℕ) (cs : List Place)
-    → is_of q cs ≡ true → IsFoundIn all (copies m f cs) → IsCopyOver all m f q
-copy_over all m f q [] h a = absurd (false≢true h)
-copy_over all m f q (d ∷ ds) h a =
-    elim (or_cases (eqb d.node q) (is_of q ds) h) [
-      | inl i ↦ record {
-        number = m;
-        input = d;
-        above = omega arith;
-        at = a.0;
-        same = eqb-true d.node q i;
-      }
-      | inr i ↦ (let r = copy_over all (m + 1) f q ds i a.1 in record {
-        number = r.number;
-        input = r.input;
-        above = let l = r.above in omega arith;
-        at = r.at;
-        same = r.same;
-      })
-    ]
 
 is_copied : (next j i : ℕ) (cs : List Place) → i < length cs
     → is_of (next + i) (copied next j cs) ≡ true
@@ -234,13 +201,13 @@ module _ (g : Graph) (n p : ℕ) (f : Forest) (ins : List Place) (ok : IsGraphOk
           let s : r.node ≡ Flatten ins = one r.node (Flatten ins) (sym at ∙ can.flatten) in
           let z : is_of q ins ≡ true =
           subst (λ (x : Node). is_of q (reads x) ≡ true) s r.passes in
-          let c = copy_over (sunk_once g p f ins).nodes g.next f q ins z
+          let c = found_copy (sunk_once g p f ins).nodes g.next f (λ d. eqb d.node q) ins z
           (copies_there g n p f ins ok.founded.ascends ok.founded.below can) in
           let l : g.next ≤ c.number = c.above in
           let k = n_below in
           read_by_node t q c.number (Pdo c.input f)
-          (tidy.others c.number (Pdo c.input f) (λ e. omega arith) c.at)
-          (or_left (eqb c.input.node q) false (eq-eqb c.input.node q c.same))
+          (tidy.others c.number (Pdo c.input f) (λ e. omega arith) c.there)
+          (or_left (eqb c.input.node q) false c.passes)
       by r false false i j =
           read_by_node t q r.number (reread rr r.node)
           (other_at r.number r.node (λ e. false≢true (sym i ∙ eq-eqb r.number p e))

@@ -14,7 +14,7 @@ use Rattle.graph_laws.proofs.Changes.{all_without, differ_without}
 use Rattle.sink_laws.specs.Merging.{dropped, tidied}
 use Rattle.sink_laws.proofs.Dropping.{CanDrop, KeepsMeaning-dropped, there_without}
 use Rattle.sink_laws.proofs.Unread.{all_apart, unread_nodes, unread_outputs}
-use Rattle.sound_rewrites.proofs.Keeping.{IsAs, as_self}
+use Rattle.graph_rewrites.proofs.Keeping.{IsAs, as_self}
 
 others_apart : (g : Graph) (n : ℕ) (ins : List Place) → IsSound g → CanDrop g n ins
     → Each (λ e. Each (λ c. c.node ≡ n → ⊥) (reads e.node)) g.nodes
@@ -56,15 +56,15 @@ sound_dropped g n ins ok can =
 
 -- It goes where nothing reads it.
 pub tidied_as : (g : Graph) (n : ℕ) (ins : List Place) → IsSound g
-    → node_at g.nodes n ≡ Some (Flatten ins) → IsAs g (tidied g n)
+    → node_at g.nodes n ≡ Some (Flatten ins) → IsAs IsSound g (tidied g n)
 tidied_as g n ins ok at = by (is_read g (place n 0)) refl
   where
-    by : (b : Bool) → is_read g (place n 0) ≡ b → IsAs g (cond b g (dropped g n))
-    by true i = as_self g ok
+    by : (b : Bool) → is_read g (place n 0) ≡ b → IsAs IsSound g (cond b g (dropped g n))
+    by true i = as_self IsSound g ok
     by false i =
         let drop : CanDrop g n ins = record { flatten = at; free = i } in
         record {
-          sound = sound_dropped g n ins ok drop;
+          ok = sound_dropped g n ins ok drop;
           keeps = KeepsMeaning-dropped g n ins ok.there drop;
           types = λ s typed. (
             typed.0,

@@ -1,4 +1,3 @@
-pub mod Keeping
 pub mod Dropping
 pub mod Refilling
 pub mod Sinking

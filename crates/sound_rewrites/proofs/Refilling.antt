@@ -1,7 +1,6 @@
 -- A Flatten with other inputs of the same value; and so one with the inputs of a Flatten in place
 -- of it, however many these are.
-use Rattle.std.proofs.Common.{◌≡◌, ℕ, ◌<◌, true, List, [], ◌∷◌, Some, map, refl, sym, ap, ◌∙◌, subst, inl, inr, arith}
-use Rattle.std.proofs.lemmas.Bool.{false≢true}
+use Rattle.std.proofs.Common.{◌≡◌, ℕ, ◌<◌, List, [], Some, map, refl, sym, ap, ◌∙◌, subst, arith}
 use Rattle.std.specs.List.{AllByRecursion as Each, flat_map}
 use Rattle.flume_value.specs.Bag.{put}
 use Rattle.flume_value.proofs.EachLemmas.{Each-weaker}
@@ -12,7 +11,6 @@ use Rattle.flume_collection.specs.Traps.{trap_le}
 use Rattle.flume_collection.proofs.Orders.{bags, one_bag, sets}
 use Rattle.flume_types.specs.declared.types.Ty.{Ty}
 use Rattle.exec_graph.specs.Meaning.{HasOuts, Holds, IsSound, IsThere, KeepsMeaning, Meets, node_at, own, place, reads, traps}
-use Rattle.exec_graph.specs.Readers.{among, same_place}
 use Rattle.exec_graph.specs.Typing.{IsTypedBy, KeepsTypes, NodeTyped, Signatures}
 use Rattle.exec_graph.specs.World.{World}
 use Rattle.exec_graph.specs.declared.graph.Place.{Place}
@@ -20,7 +18,6 @@ use Rattle.exec_graph.specs.declared.graph.Node.{Node}
 use Rattle.exec_graph.specs.declared.graph.Node.TheVariants.{Flatten}
 use Rattle.exec_graph.specs.declared.graph.Entry.{Entry}
 use Rattle.exec_graph.specs.declared.graph.Graph.{Graph}
-use Rattle.exec_graph.proofs.Bools.{or_cases}
 use Rattle.exec_graph.proofs.Entries.{all_found}
 use Rattle.exec_graph.proofs.Solving.{ranked_at}
 use Rattle.graph_laws.specs.Joining.{set_node, without}
@@ -28,10 +25,10 @@ use Rattle.graph_laws.proofs.Changes.{all_set, sum_at, sum_set}
 use Rattle.graph_laws.proofs.Wellness.{differ_set, node_at-set_other}
 use Rattle.sink_laws.specs.Merging.{merge_step, merged, spliced}
 use Rattle.sink_laws.proofs.MergeMeaning.{all_spliced, merged_value, there_set}
-use Rattle.sink_laws.proofs.Unread.{same_true}
+use Rattle.sink_laws.proofs.Steps.{lower}
+use Rattle.graph_rewrites.proofs.Keeping.{IsAs, as_then}
 use Rattle.sound_rewrites.specs.Making.{IsNested}
 use Rattle.sound_rewrites.proofs.Dropping.{tidied_as}
-use Rattle.sound_rewrites.proofs.Keeping.{IsAs, as_then}
 
 -- ---- other inputs
 module _ (g : Graph) (f : ℕ) (ins outs : List Place) (ok : IsSound g)
@@ -103,15 +100,6 @@ module _ (g : Graph) (f : ℕ) (ins outs : List Place) (ok : IsSound g)
 
 -- ---- the inputs of a Flatten in place of it
 
-lower : (r : ℕ → ℕ) (e k : ℕ) (ins : List Place) → among (place e 0) ins ≡ true
-    → Each (λ c. r c.node < k) ins → r e < k
-lower r e k [] h a = absurd (false≢true h)
-lower r e k (c ∷ cs) h a =
-    elim (or_cases (same_place (place e 0) c) (among (place e 0) cs) h) [
-      | inl i ↦ subst (λ (d : Place). r d.node < k) (sym (same_true (place e 0) c i)) a.0
-      | inr i ↦ lower r e k cs i a.1
-    ]
-
 -- what holds of all inputs of both holds of the new ones
 each_spliced : (P : Place → Type 0) (e : ℕ) (es ins : List Place) → Each P ins
     → (P (place e 0) → Each P es) → Each P (spliced e es ins)
@@ -166,9 +154,9 @@ module _ (g : Graph) (f : ℕ) (ins : List Place) (e : ℕ) (es : List Place) (o
       (λ (c : Place). types c ≡ types (place f 0)) (λ c u. u ∙ i) es
       (all_found (λ e. NodeTyped s types e.number e.node) g.nodes e (Flatten es) can.inner h)))
 
-  pub merge_as : IsAs g (merge_step g f ins e es)
+  pub merge_as : IsAs IsSound g (merge_step g f ins e es)
   merge_as =
-      as_then g (merged g f ins e es) (merge_step g f ins e es)
-      (record { sound = sound; keeps = keeps; types = types })
+      as_then IsSound g (merged g f ins e es) (merge_step g f ins e es)
+      (record { ok = sound; keeps = keeps; types = types })
       (tidied_as (merged g f ins e es) e es sound
       (node_at-set_other g.nodes f e (Flatten (spliced e es ins)) (Flatten es) apart can.inner))

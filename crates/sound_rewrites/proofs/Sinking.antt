@@ -17,8 +17,8 @@ use Rattle.sink_laws.specs.Sinking.{CanSink, copies, flattens, outputs_of, rerou
 use Rattle.sink_laws.proofs.SinkFounded.{IsFounded-sunk, all_sunk, node_at-sunk_other}
 use Rattle.sink_laws.proofs.SinkMeaning.{KeepsMeaning-sunk}
 use Rattle.sink_laws.proofs.TypesKept.{IsTyped-sunk}
+use Rattle.graph_rewrites.proofs.Keeping.{IsAs, as_then}
 use Rattle.sound_rewrites.proofs.Dropping.{tidied_as}
-use Rattle.sound_rewrites.proofs.Keeping.{IsAs, as_then}
 
 copies_outs : (n : ℕ) (f : Forest) (cs : List Place) → OutsDiffer f
     → Each (λ e. HasOuts e.node) (copies n f cs)
@@ -78,11 +78,11 @@ module _ (g : Graph) (n p : ℕ) (f : Forest) (ins : List Place) (ok : IsSound g
   at_n : node_at new.nodes n ≡ Some (Flatten (map (rerouted p base) ins))
   at_n = node_at-sunk_other g p n f ins (Flatten ins) apart can.flatten
 
-  pub sink_as : IsAs g (sink_step g n p f ins)
+  pub sink_as : IsAs IsSound g (sink_step g n p f ins)
   sink_as =
-      as_then g new (sink_step g n p f ins)
+      as_then IsSound g new (sink_step g n p f ins)
       (record {
-        sound = sound;
+        ok = sound;
         keeps = KeepsMeaning-sunk g n p f ins
             (record { sound = ok; below = below; order = order }) can;
         types = λ s t. IsTyped-sunk s g n p f ins below ok.there can t;

@@ -8,7 +8,6 @@ use Rattle.flume_grammar.specs.declared.tree.Repeat.{Repeat}
 use Rattle.flume_grammar.specs.declared.tree.Statement.{Statement}
 use Rattle.flume_grammar.specs.declared.tree.TurnLet.{TurnLet}
 use Rattle.script_keys.specs.Outlines.{called_in, callees, operands, outline_of, read_in}
-use Rattle.script_keys.specs.declared.outline.Outline.{Outline}
 use Rattle.script_keys.specs.declared.outline.Outline.TheVariants as outline
 use Rattle.statement_law.specs.Outlined.{outlines_of}
 use Rattle.statement_law.specs.Lineless.{form_lineless, let_lineless, repeat_lineless, statement_lineless}

@@ -10,7 +10,7 @@ use Rattle.flume_grammar.specs.Grammar as g
 use Rattle.flume_grammar.specs.Limits.{Limits}
 use Rattle.flume_grammar.specs.Terminals.{key, mark, name}
 use Rattle.statement_law.proofs.Expressions.{go_expr}
-use Rattle.statement_law.proofs.Moving.{Goes, at_close, join, plain, stop, under}
+use Rattle.statement_law.proofs.Moving.{Goes, goes, at_close, join, plain, stop, under}
 use Rattle.statement_law.proofs.Plain.{go_numbered}
 use Rattle.statement_law.specs.Lineless.{body_lineless, layer_lineless}
 
@@ -62,80 +62,52 @@ module _ (limits : Limits) where
   mutual
     go_body : {ts us : List Token} {s : Body} {a : ℕ} → g.IsBody limits ts us s a → (d : ℕ)
         (vs : List Token) → Goes (suc d) ts us vs (λ ws. g.IsBody limits ws vs (body_lineless s) a)
-    go_body (g.let_ {x} {n} {m} {k} {a} {ts} {us} {e} y) d vs =
+    go_body (g.let_ {x} {n} {e} y) d vs =
         let value = go_expr limits y d vs in
-        record {
-          without =
-              key keyword.Let 0 ∷ name x 0 ∷ mark sign.Assign 0 ∷ value.without;
-          moved = under (plain refl (plain refl value.moved));
-          is = as_body (lineless_let n x e) (g.let_ value.is);
-        }
-    go_body (g.emit {n} {a} {ts} {us} {vs = left} {to} {e} o y) d vs =
+        goes (under (plain refl (plain refl value.moved)))
+        (as_body (lineless_let n x e) (g.let_ value.is))
+    go_body (g.emit {n} {to} {e} o y) d vs =
         let value = go_expr limits y d vs in
         let number = go_numbered {k = keyword.To} refl o (suc d) value.without in
-        record {
-          without = key keyword.Emit 0 ∷ number.without;
-          moved = plain refl (join number.moved value.moved);
-          is = as_body (lineless_emit n to e) (g.emit number.is value.is);
-        }
-    go_body (g.if_ {n} {a} {b} {ts} {us} {vs = left} {e} {ss} y block) d vs =
+        goes (plain refl (join number.moved value.moved))
+        (as_body (lineless_emit n to e) (g.emit number.is value.is))
+    go_body (g.if_ {n} {e} {ss} y block) d vs =
         let yes = go_block block (suc d) vs in
         let test = go_expr limits y d yes.without in
-        record {
-          without = key keyword.If 0 ∷ test.without;
-          moved = plain refl (join test.moved yes.moved);
-          is = as_body (lineless_if n e ss []) (g.if_ test.is yes.is);
-        }
-    go_body (g.if_else {n} {m} {a} {b} {c} {ts} {us} {vs = left} {ws} {e} {ss} {rs} y block other)
-        d vs =
+        goes (plain refl (join test.moved yes.moved))
+        (as_body (lineless_if n e ss []) (g.if_ test.is yes.is))
+    go_body (g.if_else {n} {e} {ss} {rs} y block other) d vs =
         let no = go_block other (suc d) vs in
         let yes = go_block block (suc d) (key keyword.Else 0 ∷ no.without) in
         let test = go_expr limits y d yes.without in
-        record {
-          without = key keyword.If 0 ∷ test.without;
-          moved = plain refl (join test.moved (join yes.moved (plain refl no.moved)));
-          is = as_body (lineless_if n e ss rs) (g.if_else test.is yes.is no.is);
-        }
-    go_body (g.for_ {x} {n} {m} {k} {a} {b} {ts} {us} {vs = left} {e} {ss} y block) d vs =
+        goes (plain refl (join test.moved (join yes.moved (plain refl no.moved))))
+        (as_body (lineless_if n e ss rs) (g.if_else test.is yes.is no.is))
+    go_body (g.for_ {x} {n} {e} {ss} y block) d vs =
         let each = go_block block (suc d) vs in
         let list = go_expr limits y d each.without in
-        record {
-          without = key keyword.For 0 ∷ name x 0 ∷ key keyword.In 0 ∷ list.without;
-          moved = plain refl (plain refl (plain refl (join list.moved each.moved)));
-          is = as_body (lineless_for n x e ss) (g.for_ list.is each.is);
-        }
-    go_body (g.case_ {x} {y} {n} {m} {k} {i} {j} {a} {b} {c} {ts} {us} {vs = left} {ws} {e} {ss}
-        {rs} z block other) d vs =
+        goes (plain refl (plain refl (plain refl (join list.moved each.moved))))
+        (as_body (lineless_for n x e ss) (g.for_ list.is each.is))
+    go_body (g.case_ {x} {y} {n} {e} {ss} {rs} z block other) d vs =
         let second = go_block other (suc d) vs in
         let first = go_block block (suc d) (key keyword.Right 0 ∷ name y 0 ∷ second.without) in
         let test = go_expr limits z d (key keyword.Left 0 ∷ name x 0 ∷ first.without) in
-        record {
-          without = key keyword.Case 0 ∷ test.without;
-          moved = plain refl (join test.moved (plain refl (plain refl (join first.moved
-              (plain refl (plain refl second.moved))))));
-          is = as_body (lineless_case n e x ss y rs) (g.case_ test.is first.is second.is);
-        }
+        goes (plain refl (join test.moved (plain refl (plain refl
+        (join first.moved (plain refl (plain refl second.moved)))))))
+        (as_body (lineless_case n e x ss y rs) (g.case_ test.is first.is second.is))
 
     pub go_block : {ts us : List Token} {ss : List Body} {a : ℕ} → g.IsBlock limits ts us ss a
         → (d : ℕ) (vs : List Token)
         → Goes d ts us vs (λ ws. g.IsBlock limits ws vs (map body_lineless ss) a)
     go_block (g.braces b) d vs =
         let all = go_bodies b d (mark sign.CloseBrace 0 ∷ vs) in
-        record {
-          without = mark sign.OpenBrace 0 ∷ all.without;
-          moved = plain refl (join all.moved (at_close stop));
-          is = g.braces all.is;
-        }
+        goes (plain refl (join all.moved (at_close stop))) (g.braces all.is)
 
     go_bodies : {ts us : List Token} {ss : List Body} {a : ℕ} → g.AreBodies limits ts us ss a
         → (d : ℕ) (vs : List Token)
         → Goes (suc d) ts us vs (λ ws. g.AreBodies limits ws vs (map body_lineless ss) a)
-    go_bodies g.none_ d vs = record { without = vs; moved = stop; is = g.none_ }
-    go_bodies (g.some {a} {b} {ts} {us} {vs = left} {s} {ss} m x) d vs =
+    go_bodies g.none_ d vs = goes stop g.none_
+    go_bodies (g.some {s} {ss} m x) d vs =
         let last = go_body x d vs in
         let others = go_bodies m d last.without in
-        record {
-          without = others.without;
-          moved = join others.moved last.moved;
-          is = as_bodies (map_more body_lineless ss s) (g.some others.is last.is);
-        }
+        goes (join others.moved last.moved) (as_bodies (map_more body_lineless ss s) (g.some
+        others.is last.is))

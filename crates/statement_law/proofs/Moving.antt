@@ -1,6 +1,6 @@
 -- Tokens that are taken before others: the same without their lines, before any others, and how
 -- they stand to statements and braces.
-use Rattle.std.proofs.Common.{◌≡◌, ℕ, zero, suc, ◌-◌, ◌==◌, ◌&&◌, Bool, true, false, List, [], ◌∷◌, ◌++◌, map, Option, Some, refl, sym, ap, ◌∙◌, subst, arith}
+use Rattle.std.proofs.Common.{◌≡◌, ℕ, suc, ◌-◌, ◌==◌, ◌&&◌, Bool, true, false, List, [], ◌∷◌, ◌++◌, map, Some, refl, ap, ◌∙◌, subst, arith}
 use Rattle.std.proofs.lemmas.Bool.{eqb-true}
 use Rattle.flume_tokens.specs.declared.sign.Sign.TheVariants as sign
 use Rattle.flume_tokens.specs.declared.token.Token.{Token}
@@ -63,11 +63,8 @@ at_close {d} {e} {n} {us} {vs} {ws} {xs} m =
 
 -- the name of a field, under a brace
 word_level : (d : ℕ) (k : TokenKind) (x : List ℕ) → word_of k ≡ Some x → d ≡ braces_behind d k
-word_level d (kind.Name y) x e = refl
-word_level d (kind.Keyword k) x e = refl
-word_level d (kind.Number y) x e = refl
-word_level d (kind.Text y) x e = refl
 word_level d (kind.Sign s) x e = absurd (cc)
+word_level d _ x e = refl
 
 pub at_word : {d e : ℕ} {w : Token} {x : List ℕ} {us vs ws xs : List Token}
     → word_of w.kind ≡ Some x → Moved (suc d) us e vs ws xs
@@ -78,32 +75,9 @@ at_word {d} {e} {w} {x} {us} {vs} {ws} {xs} q m =
 -- an operator, under a brace
 operator_level : (d : ℕ) (k : TokenKind) (o : Binary) → operator_of k ≡ Some o
     → d ≡ braces_behind d k
-operator_level d (kind.Name y) o e = refl
-operator_level d (kind.Keyword k) o e = refl
-operator_level d (kind.Number y) o e = refl
-operator_level d (kind.Text y) o e = refl
-operator_level d (kind.Sign sign.Equal) o e = refl
-operator_level d (kind.Sign sign.NotEqual) o e = refl
-operator_level d (kind.Sign sign.AtMost) o e = refl
-operator_level d (kind.Sign sign.AtLeast) o e = refl
-operator_level d (kind.Sign sign.Arrow) o e = refl
 operator_level d (kind.Sign sign.OpenBrace) o e = absurd (cc)
 operator_level d (kind.Sign sign.CloseBrace) o e = absurd (cc)
-operator_level d (kind.Sign sign.Open) o e = refl
-operator_level d (kind.Sign sign.Close) o e = refl
-operator_level d (kind.Sign sign.OpenBracket) o e = refl
-operator_level d (kind.Sign sign.CloseBracket) o e = refl
-operator_level d (kind.Sign sign.Less) o e = refl
-operator_level d (kind.Sign sign.Greater) o e = refl
-operator_level d (kind.Sign sign.Comma) o e = refl
-operator_level d (kind.Sign sign.Colon) o e = refl
-operator_level d (kind.Sign sign.Dot) o e = refl
-operator_level d (kind.Sign sign.Assign) o e = refl
-operator_level d (kind.Sign sign.Plus) o e = refl
-operator_level d (kind.Sign sign.Minus) o e = refl
-operator_level d (kind.Sign sign.Times) o e = refl
-operator_level d (kind.Sign sign.Divide) o e = refl
-operator_level d (kind.Sign sign.Remainder) o e = refl
+operator_level d _ o e = refl
 
 pub at_operator : {d e : ℕ} {t : Token} {o : Binary} {us vs ws xs : List Token}
     → operator_of t.kind ≡ Some o → Moved (suc d) us e vs ws xs
@@ -143,3 +117,7 @@ pub record Goes (d : ℕ) (ts us vs : List Token) (R : List Token → Type 0) : 
   pub without : List Token
   pub moved : Moved d ts d us without vs
   pub is : R without
+
+pub goes : {d : ℕ} {ts us ws vs : List Token} {R : List Token → Type 0} → Moved d ts d us ws vs
+    → R ws → Goes d ts us vs R
+goes {d} {ts} {us} {ws} m r = record { without = ws; moved = m; is = r }

@@ -1,5 +1,5 @@
 -- Types, names and operations, read without lines.
-use Rattle.std.proofs.Common.{◌≡◌, ℕ, suc, false, List, [], ◌∷◌, Option, refl}
+use Rattle.std.proofs.Common.{◌≡◌, ℕ, suc, false, List, ◌∷◌, Option, refl}
 use Rattle.flume_tokens.specs.declared.keyword.Keyword.{Keyword}
 use Rattle.flume_tokens.specs.declared.keyword.Keyword.TheVariants as keyword
 use Rattle.flume_tokens.specs.declared.sign.Sign.TheVariants as sign
@@ -11,200 +11,104 @@ use Rattle.flume_grammar.specs.declared.tree.Operation.{Operation}
 use Rattle.flume_grammar.specs.Grammar as g
 use Rattle.flume_grammar.specs.Limits.{Limits}
 use Rattle.flume_grammar.specs.Parts.{Tree}
-use Rattle.flume_grammar.specs.Terminals.{key, mark, name, number}
+use Rattle.flume_grammar.specs.Terminals.{key, mark, name}
 use Rattle.statement_texts.specs.Texts.{is_beginning_word}
-use Rattle.statement_law.proofs.Moving.{Goes, at_close, at_word, join, plain, stop, unlined}
+use Rattle.statement_law.proofs.Moving.{Goes, goes, at_close, at_word, join, plain, stop, unlined}
 
 go_combiner : {ts us : List Token} {c : Combiner} → g.IsCombiner ts us c → (d : ℕ)
     (vs : List Token) → Goes d ts us vs (λ ws. g.IsCombiner ws vs c)
-go_combiner g.sum d vs =
-    record { without = key keyword.Sum 0 ∷ vs; moved = plain refl stop; is = g.sum }
-go_combiner g.count d vs =
-    record { without = key keyword.Count 0 ∷ vs; moved = plain refl stop; is = g.count }
-go_combiner g.min d vs =
-    record { without = key keyword.Min 0 ∷ vs; moved = plain refl stop; is = g.min }
-go_combiner g.max_ d vs =
-    record { without = key keyword.Max 0 ∷ vs; moved = plain refl stop; is = g.max_ }
-go_combiner g.all d vs =
-    record { without = key keyword.All 0 ∷ vs; moved = plain refl stop; is = g.all }
-go_combiner g.any d vs =
-    record { without = key keyword.Any 0 ∷ vs; moved = plain refl stop; is = g.any }
-go_combiner (g.top {digits}) d vs = record {
-  without = key keyword.Top 0 ∷ number digits 0 ∷ vs;
-  moved = plain refl (plain refl stop);
-  is = g.top;
-}
-go_combiner g.mean d vs =
-    record { without = key keyword.Mean 0 ∷ vs; moved = plain refl stop; is = g.mean }
-go_combiner g.distinct d vs =
-    record { without = key keyword.Distinct 0 ∷ vs; moved = plain refl stop; is = g.distinct }
+go_combiner g.sum d vs = goes (plain refl stop) g.sum
+go_combiner g.count d vs = goes (plain refl stop) g.count
+go_combiner g.min d vs = goes (plain refl stop) g.min
+go_combiner g.max_ d vs = goes (plain refl stop) g.max_
+go_combiner g.all d vs = goes (plain refl stop) g.all
+go_combiner g.any d vs = goes (plain refl stop) g.any
+go_combiner g.top d vs = goes (plain refl (plain refl stop)) g.top
+go_combiner g.mean d vs = goes (plain refl stop) g.mean
+go_combiner g.distinct d vs = goes (plain refl stop) g.distinct
 
 pub go_names : {ts us : List Token} {xs : List (List ℕ)} → g.AreNames ts us xs → (d : ℕ)
     (vs : List Token) → Goes d ts us vs (λ ws. g.AreNames ws vs xs)
-go_names (g.one {x}) d vs =
-    record { without = name x 0 ∷ vs; moved = plain refl stop; is = g.one }
+go_names g.one d vs = goes (plain refl stop) g.one
 go_names (g.more {x} y) d vs =
     let first = go_names y d (mark sign.Comma 0 ∷ name x 0 ∷ vs) in
-    record {
-      without = first.without;
-      moved = join first.moved (plain refl (plain refl stop));
-      is = g.more first.is;
-    }
+    goes (join first.moved (plain refl (plain refl stop))) (g.more first.is)
 
 pub go_numbered : {k : Keyword} {ts us : List Token} {o : Option (List ℕ)}
     → is_beginning_word (kind.Keyword k) ≡ false → g.IsNumbered k ts us o → (d : ℕ)
     (vs : List Token) → Goes d ts us vs (λ ws. g.IsNumbered k ws vs o)
-go_numbered q g.absent d vs = record { without = vs; moved = stop; is = g.absent }
-go_numbered {k} q (g.present {digits}) d vs = record {
-  without = key k 0 ∷ number digits 0 ∷ vs;
-  moved = plain q (plain refl stop);
-  is = g.present;
-}
+go_numbered q g.absent d vs = goes stop g.absent
+go_numbered q g.present d vs = goes (plain q (plain refl stop)) g.present
 
 module _ (limits : Limits) where
   mutual
     pub go_type : {ts us : List Token} {t : Tree} {a : ℕ} → g.IsType limits ts us t a → (d : ℕ)
         (vs : List Token) → Goes d ts us vs (λ ws. g.IsType limits ws vs t a)
-    go_type g.int d vs =
-        record { without = key keyword.Int 0 ∷ vs; moved = plain refl stop; is = g.int }
-    go_type g.bool d vs =
-        record { without = key keyword.Bool 0 ∷ vs; moved = plain refl stop; is = g.bool }
-    go_type g.text_ d vs =
-        record { without = key keyword.Text 0 ∷ vs; moved = plain refl stop; is = g.text_ }
-    go_type (g.named {x}) d vs =
-        record { without = name x 0 ∷ vs; moved = plain refl stop; is = g.named }
+    go_type g.int d vs = goes (plain refl stop) g.int
+    go_type g.bool d vs = goes (plain refl stop) g.bool
+    go_type g.text_ d vs = goes (plain refl stop) g.text_
+    go_type g.named d vs = goes (plain refl stop) g.named
     go_type (g.list x) d vs =
         let first = go_type x d (mark sign.Greater 0 ∷ vs) in
-        record {
-          without = key keyword.List 0 ∷ mark sign.Less 0 ∷ first.without;
-          moved = plain refl (plain refl (join first.moved (plain refl stop)));
-          is = g.list first.is;
-        }
+        goes (plain refl (plain refl (join first.moved (plain refl stop)))) (g.list first.is)
     go_type (g.either x y) d vs =
         let second = go_type y d (mark sign.Greater 0 ∷ vs) in
         let first = go_type x d (mark sign.Comma 0 ∷ second.without) in
-        record {
-          without = key keyword.Either 0 ∷ mark sign.Less 0 ∷ first.without;
-          moved = plain refl (plain refl (join first.moved (plain refl
-              (join second.moved (plain refl stop)))));
-          is = g.either first.is second.is;
-        }
+        goes (plain refl (plain refl (join first.moved (plain refl
+        (join second.moved (plain refl stop)))))) (g.either first.is second.is)
     go_type (g.table x y) d vs =
         let second = go_type y d (mark sign.Greater 0 ∷ vs) in
         let first = go_type x d (mark sign.Comma 0 ∷ second.without) in
-        record {
-          without = key keyword.Table 0 ∷ mark sign.Less 0 ∷ first.without;
-          moved = plain refl (plain refl (join first.moved (plain refl
-              (join second.moved (plain refl stop)))));
-          is = g.table first.is second.is;
-        }
+        goes (plain refl (plain refl (join first.moved (plain refl
+        (join second.moved (plain refl stop)))))) (g.table first.is second.is)
     go_type (g.record_ f l) d vs =
         let fields = go_types f d (mark sign.CloseBrace 0 ∷ vs) in
-        record {
-          without = mark sign.OpenBrace 0 ∷ fields.without;
-          moved = plain refl (join fields.moved (at_close stop));
-          is = g.record_ fields.is l;
-        }
+        goes (plain refl (join fields.moved (at_close stop))) (g.record_ fields.is l)
 
     go_types : {ts us : List Token} {p : Parts Tree} → g.AreFieldTypes limits ts us p → (d : ℕ)
         (vs : List Token) → Goes (suc d) ts us vs (λ ws. g.AreFieldTypes limits ws vs p)
-    go_types (g.first {w} q x) d vs =
+    go_types (g.first q x) d vs =
         let first = go_type x (suc d) vs in
-        record {
-          without = unlined w ∷ mark sign.Colon 0 ∷ first.without;
-          moved = at_word q (plain refl first.moved);
-          is = g.first q first.is;
-        }
+        goes (at_word q (plain refl first.moved)) (g.first q first.is)
     go_types (g.next {w} f q x) d vs =
         let last = go_type x (suc d) vs in
         let fields = go_types f d
         (mark sign.Comma 0 ∷ unlined w ∷ mark sign.Colon 0 ∷ last.without) in
-        record {
-          without = fields.without;
-          moved = join fields.moved (plain refl (at_word q (plain refl last.moved)));
-          is = g.next fields.is q last.is;
-        }
+        goes (join fields.moved (plain refl (at_word q (plain refl last.moved))))
+        (g.next fields.is q last.is)
 
   pub go_whole : {ts us : List Token} {t : Tree} → g.IsWholeType limits ts us t → (d : ℕ)
       (vs : List Token) → Goes d ts us vs (λ ws. g.IsWholeType limits ws vs t)
   go_whole w d vs =
       let type = go_type w.spelled d vs in
-      record {
-        without = type.without;
-        moved = type.moved;
-        is = record { depth = w.depth; spelled = type.is; small = w.small };
-      }
+      goes type.moved (record { depth = w.depth; spelled = type.is; small = w.small })
 
   pub go_more : {ts us : List Token} {types : List Tree} → g.AreMoreTypes limits ts us types
       → (d : ℕ) (vs : List Token) → Goes d ts us vs (λ ws. g.AreMoreTypes limits ws vs types)
-  go_more g.none_ d vs = record { without = vs; moved = stop; is = g.none_ }
+  go_more g.none_ d vs = goes stop g.none_
   go_more (g.some m w) d vs =
       let last = go_whole w d vs in
       let types = go_more m d (mark sign.Comma 0 ∷ last.without) in
-      record {
-        without = types.without;
-        moved = join types.moved (plain refl last.moved);
-        is = g.some types.is last.is;
-      }
+      goes (join types.moved (plain refl last.moved)) (g.some types.is last.is)
 
   pub go_operation : {ts us : List Token} {o : Operation} → g.IsOperation limits ts us o → (d : ℕ)
       (vs : List Token) → Goes d ts us vs (λ ws. g.IsOperation limits ws vs o)
-  go_operation (g.do_ {c} {f}) d vs = record {
-    without = key keyword.Do 0 ∷ name c 0 ∷ name f 0 ∷ vs;
-    moved = plain refl (plain refl (plain refl stop));
-    is = g.do_;
-  }
-  go_operation (g.group {c}) d vs = record {
-    without = key keyword.Group 0 ∷ name c 0 ∷ vs;
-    moved = plain refl (plain refl stop);
-    is = g.group;
-  }
-  go_operation (g.combine {c} x) d vs =
+  go_operation g.do_ d vs = goes (plain refl (plain refl (plain refl stop))) g.do_
+  go_operation g.group d vs = goes (plain refl (plain refl stop)) g.group
+  go_operation (g.combine x) d vs =
       let by = go_combiner x d vs in
-      record {
-        without = key keyword.Combine 0 ∷ name c 0 ∷ key keyword.By 0 ∷ by.without;
-        moved = plain refl (plain refl (plain refl by.moved));
-        is = g.combine by.is;
-      }
+      goes (plain refl (plain refl (plain refl by.moved))) (g.combine by.is)
   go_operation (g.flatten x l) d vs =
       let names = go_names x d vs in
-      record {
-        without = key keyword.Flatten 0 ∷ names.without;
-        moved = plain refl names.moved;
-        is = g.flatten names.is l;
-      }
-  go_operation (g.count {c}) d vs = record {
-    without = key keyword.Count 0 ∷ name c 0 ∷ vs;
-    moved = plain refl (plain refl stop);
-    is = g.count;
-  }
-  go_operation (g.join {a} {b}) d vs = record {
-    without = key keyword.Join 0 ∷ name a 0 ∷ mark sign.Comma 0 ∷ name b 0 ∷ vs;
-    moved = plain refl (plain refl (plain refl (plain refl stop)));
-    is = g.join;
-  }
-  go_operation (g.top {digits} {c}) d vs = record {
-    without = key keyword.Top 0 ∷ number digits 0 ∷ name c 0 ∷ vs;
-    moved = plain refl (plain refl (plain refl stop));
-    is = g.top;
-  }
-  go_operation (g.combine_all {c} x) d vs =
+      goes (plain refl names.moved) (g.flatten names.is l)
+  go_operation g.count d vs = goes (plain refl (plain refl stop)) g.count
+  go_operation g.join d vs = goes (plain refl (plain refl (plain refl (plain refl stop)))) g.join
+  go_operation g.top d vs = goes (plain refl (plain refl (plain refl stop))) g.top
+  go_operation (g.combine_all x) d vs =
       let by = go_combiner x d vs in
-      record {
-        without = key keyword.Combineall 0 ∷ name c 0 ∷ key keyword.By 0 ∷ by.without;
-        moved = plain refl (plain refl (plain refl by.moved));
-        is = g.combine_all by.is;
-      }
+      goes (plain refl (plain refl (plain refl by.moved))) (g.combine_all by.is)
   go_operation (g.operate {f} x l) d vs =
       let names = go_names x d (key keyword.By 0 ∷ name f 0 ∷ vs) in
-      record {
-        without = key keyword.Operate 0 ∷ names.without;
-        moved = plain refl (join names.moved (plain refl (plain refl stop)));
-        is = g.operate names.is l;
-      }
-  go_operation (g.do_with {c} {f} {o}) d vs = record {
-    without =
-        key keyword.Do 0 ∷ name c 0 ∷ name f 0 ∷ key keyword.With 0 ∷ name o 0 ∷ vs;
-    moved = plain refl (plain refl (plain refl (plain refl (plain refl stop))));
-    is = g.do_with;
-  }
+      goes (plain refl (join names.moved (plain refl (plain refl stop)))) (g.operate names.is l)
+  go_operation g.do_with d vs =
+      goes (plain refl (plain refl (plain refl (plain refl (plain refl stop))))) g.do_with

@@ -1,5 +1,5 @@
 -- The texts of a script, statement by statement.
-use Rattle.std.proofs.Common.{◌≡◌, ℕ, zero, suc, ◌&&◌, Bool, true, false, List, [], ◌∷◌, ◌++◌, map, length, Option, Some, slice_get, refl, sym, ap, ◌∙◌, subst, append_assoc}
+use Rattle.std.proofs.Common.{◌≡◌, ℕ, zero, suc, true, List, [], ◌∷◌, ◌++◌, map, length, Some, slice_get, refl, sym, ap, ◌∙◌, subst, append_assoc}
 use Rattle.std.proofs.lemmas.List.{append-nil, map-append}
 use Rattle.std.proofs.lemmas.List.Elements.{All-from_recursion, recursion_from_All}
 use Rattle.std.specs.List.{All, AllByRecursion}
@@ -10,10 +10,10 @@ use Rattle.flume_grammar.specs.declared.tree.Statement.{Statement}
 use Rattle.flume_grammar.specs.Grammar as g
 use Rattle.flume_grammar.specs.Limits.{Limits, the_limits}
 use Rattle.token_spelling.specs.Spellable.{IsSpellable}
-use Rattle.statement_texts.specs.Texts.{Parts, before, braces_behind, is_beginning, is_beginning_word, spaced, kinds_of, parts_from, texts_of}
+use Rattle.statement_texts.specs.Texts.{Parts, before, braces_behind, is_beginning_word, spaced, kinds_of, parts_from, texts_of}
 use Rattle.statement_law.proofs.Bodies.{map_more}
-use Rattle.statement_law.proofs.Moving.{Taken, ahead, taken, unlined}
-use Rattle.statement_law.proofs.Statements.{Begun, go_statement}
+use Rattle.statement_law.proofs.Moving.{taken, unlined}
+use Rattle.statement_law.proofs.Statements.{go_statement}
 use Rattle.statement_law.specs.Lineless.{statement_lineless}
 
 abbrev pub Spelled : List Token → Type 0

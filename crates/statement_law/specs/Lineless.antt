@@ -1,5 +1,5 @@
 -- The tree of a statement without the lines on which its parts stand: each is 0.
-use Rattle.std.specs.Prelude.{ℕ, List, map}
+use Rattle.std.specs.Prelude.{map}
 use Rattle.flume_grammar.specs.declared.tree.Body.{Body, Body-F, fold-Body}
 use Rattle.flume_grammar.specs.declared.tree.Body.TheVariants as body
 use Rattle.flume_grammar.specs.declared.tree.Form.{Form}
@@ -21,35 +21,18 @@ abbrev pub body_lineless : Body → Body
 body_lineless = fold-Body Body layer_lineless
 
 abbrev pub function_lineless : Function → Function
-function_lineless f = record {
-  name = f.name;
-  argument = f.argument;
-  takes = f.takes;
-  gives = f.gives;
-  more = f.more;
-  scale = f.scale;
-  body = map body_lineless f.body;
-}
+function_lineless f = record f { body = map body_lineless f.body }
 
 abbrev pub let_lineless : TurnLet → TurnLet
-let_lineless own = record { line = 0; names = own.names; by = own.by }
+let_lineless own = record own { line = 0 }
 
 abbrev pub repeat_lineless : Repeat → Repeat
-repeat_lineless r = record {
-  turns = r.turns;
-  from = r.from;
-  entering = r.entering;
-  lets = map let_lineless r.lets;
-  gives = r.gives;
-}
+repeat_lineless r = record r { lets = map let_lineless r.lets }
 
 abbrev pub form_lineless : Form → Form
 form_lineless (form.Function f) = form.Function (function_lineless f)
 form_lineless (form.Repeat names r) = form.Repeat names (repeat_lineless r)
-form_lineless (form.Type name type) = form.Type name type
-form_lineless (form.Input name type file) = form.Input name type file
-form_lineless (form.Let names by) = form.Let names by
-form_lineless (form.Output name file) = form.Output name file
+form_lineless f = f
 
 abbrev pub statement_lineless : Statement → Statement
 statement_lineless s = record { line = 0; form = form_lineless s.form }

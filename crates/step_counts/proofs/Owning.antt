@@ -1,5 +1,6 @@
 -- Owners, step by step and output by output.
-use Rattle.std.proofs.Common.{◌≡◌, ℕ, suc, List, [], ◌∷◌, ◌++◌, map, append_assoc, refl, sym, ap, ◌∙◌}
+use Rattle.std.proofs.Common.{◌≡◌, ◌≤◌, ℕ, suc, List, [], ◌∷◌, ◌++◌, Option, drop, length, map, append-nil, append_assoc, refl, sym, ap, ◌∙◌}
+use Rattle.std.proofs.Math.ListN.{drop_of_length-le}
 use Rattle.exec_graph.specs.Forests.{Branch, Forest, Twig, grown, label_at, twigs}
 use Rattle.task_lists.specs.Runs.{labels_in}
 use Rattle.step_counts.specs.Owners.{owner, owners_in}
@@ -23,3 +24,9 @@ grown_are [] = refl
 grown_are (b ∷ bs) =
     twigs_are b 0 (b.first ∷ b.more) (grown bs)
     ∙ ap (λ l. branch_owners b ++ l) (grown_are bs)
+
+-- behind the last branch
+pub all_owned : (now whole : List (Option ℕ)) (bs : List Branch) (i : ℕ) → length bs ≤ i
+    → now ++ branches_owners (drop i bs) ≡ whole → now ≡ whole
+all_owned now whole bs i past along =
+    sym (ap (λ l. now ++ branches_owners l) (drop_of_length-le bs past) ∙ append-nil now) ∙ along

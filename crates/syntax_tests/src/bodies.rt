@@ -145,19 +145,12 @@ fn is_read(alloc: Global, text: &[u8], line: u32, wanted: Wanted) -> bool {
     }
 }
 
-/// The place of the first text that is read otherwise.
-fn first_other(alloc: Global, table: &[(&[u8], u32, Wanted)]) -> Option<usize> {
-    for place in 0..table.len() {
-        let (text, line, wanted) = table[place];
-        if !is_read(alloc, text, line, wanted) {
-            return Some(place);
-        }
-    }
-    None
-}
-
 #[test]
 fn bodies(rt: HostRuntime) -> Result<(), Fail> {
-    assert_eq!(rt; first_other(rt.alloc(), &BODIES), None);
+    let alloc = rt.alloc();
+    let other = BODIES
+        .iter()
+        .position(|row| !is_read(alloc, row.0, row.1, row.2));
+    assert_eq!(rt; other, None);
     Ok(())
 }

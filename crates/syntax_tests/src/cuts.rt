@@ -37,17 +37,6 @@ static CUTS: [(&[u8], Cut); 11] = [
     (b"# \xc3\xa9\n12ab", Cut::Tokens(2, 2)),
 ];
 
-/// The place of the first text that is cut otherwise.
-fn first_other(alloc: Global, table: &[(&[u8], Cut)]) -> Option<usize> {
-    for place in 0..table.len() {
-        let (text, wanted) = table[place];
-        if told(alloc, text) != wanted {
-            return Some(place);
-        }
-    }
-    None
-}
-
 /// A token.
 #[derive(Clone, Copy)]
 enum Wanted {
@@ -108,7 +97,8 @@ fn has_tokens(alloc: Global, text: &[u8], wanted: &[(Wanted, u32)]) -> bool {
 #[test]
 fn tokens_of_texts(rt: HostRuntime) -> Result<(), Fail> {
     let alloc = rt.alloc();
-    assert_eq!(rt; first_other(alloc, &CUTS), None);
+    let other = CUTS.iter().position(|row| told(alloc, row.0) != row.1);
+    assert_eq!(rt; other, None);
     assert!(rt; has_tokens(alloc, LINES, &TOKENS));
     Ok(())
 }

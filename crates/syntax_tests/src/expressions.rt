@@ -156,19 +156,12 @@ fn is_read(alloc: Global, text: &[u8], wanted: Wanted) -> bool {
     }
 }
 
-/// The place of the first text that is read otherwise.
-fn first_other(alloc: Global, table: &[(&[u8], Wanted)]) -> Option<usize> {
-    for place in 0..table.len() {
-        let (text, wanted) = table[place];
-        if !is_read(alloc, text, wanted) {
-            return Some(place);
-        }
-    }
-    None
-}
-
 #[test]
 fn expressions(rt: HostRuntime) -> Result<(), Fail> {
-    assert_eq!(rt; first_other(rt.alloc(), &EXPRESSIONS), None);
+    let alloc = rt.alloc();
+    let other = EXPRESSIONS
+        .iter()
+        .position(|row| !is_read(alloc, row.0, row.1));
+    assert_eq!(rt; other, None);
     Ok(())
 }

@@ -1,6 +1,6 @@
 //! The first fault of a script: its line and its kind.
 
-use crate::outcome::{Outcome, Repeated, first_made_other, first_other};
+use crate::outcome::{Outcome, Repeated, as_it_is, told};
 use flume_syntax::ScriptKind;
 use std::test::Fail;
 
@@ -163,45 +163,21 @@ static FAULTS: [(&[u8], Outcome); 42] = [
 
 const EMIT: &[u8] = b"fn f(x: r) -> r { emit ";
 
-/// One part or one level more than there may be: the token that needs it stands on line 2, all that
-/// is before it on line 1.
-static ONE_TOO_MANY: [(Repeated<'static>, Outcome); 9] = [
-    (
-        (b"type r = {a: int", b",a: int", 15, b"\n, a: int}"),
-        Outcome::Refused(2, ScriptKind::TooMany),
-    ),
-    (
-        (b"fn f(x: r) -> r { emit {a: 1", b",a: 1", 15, b"\n, a: 1}}"),
-        Outcome::Refused(2, ScriptKind::TooMany),
-    ),
-    (
-        (b"let a = flatten b", b",b", 255, b"\n, b"),
-        Outcome::Refused(2, ScriptKind::TooMany),
-    ),
-    (
-        (b"let a = operate b", b",b", 255, b"\n, b by f"),
-        Outcome::Refused(2, ScriptKind::TooMany),
-    ),
-    (
-        (b"fn f(x: r) -> r { emit [a", b",a", 63, b"\n, a]}"),
-        Outcome::Refused(2, ScriptKind::TooMany),
-    ),
-    (
-        (b"fn f(x: r) -> r", b",r", 7, b"\n, r {}"),
-        Outcome::Refused(2, ScriptKind::TooMany),
-    ),
-    (
-        (b"type t = ", b"list<", 31, b"\nlist<int"),
-        Outcome::Refused(2, ScriptKind::TooDeep),
-    ),
-    (
-        (EMIT, b"1+", 30, b"1\n+ 1}"),
-        Outcome::Refused(2, ScriptKind::TooDeep),
-    ),
-    (
-        (EMIT, b"[", 30, b"1\n+ 1"),
-        Outcome::Refused(2, ScriptKind::TooDeep),
-    ),
+/// One part more than there may be, and one level: the token that needs it stands on line 2, all
+/// that is before it on line 1.
+static ONE_TOO_MANY: [Repeated<'static>; 6] = [
+    (b"type r = {a: int", b",a: int", 15, b"\n, a: int}"),
+    (b"fn f(x: r) -> r { emit {a: 1", b",a: 1", 15, b"\n, a: 1}}"),
+    (b"let a = flatten b", b",b", 255, b"\n, b"),
+    (b"let a = operate b", b",b", 255, b"\n, b by f"),
+    (b"fn f(x: r) -> r { emit [a", b",a", 63, b"\n, a]}"),
+    (b"fn f(x: r) -> r", b",r", 7, b"\n, r {}"),
+];
+
+static ONE_TOO_DEEP: [Repeated<'static>; 3] = [
+    (b"type t = ", b"list<", 31, b"\nlist<int"),
+    (EMIT, b"1+", 30, b"1\n+ 1}"),
+    (EMIT, b"[", 30, b"1\n+ 1"),
 ];
 
 /// Scripts that are too long, or nearly so.
@@ -220,8 +196,27 @@ static LONG: [(Repeated<'static>, Outcome); 3] = [
 #[test]
 fn first_faults(rt: HostRuntime) -> Result<(), Fail> {
     let alloc = rt.alloc();
-    assert_eq!(rt; first_other(alloc, &FAULTS), None);
-    assert_eq!(rt; first_made_other(alloc, &ONE_TOO_MANY), None);
-    assert_eq!(rt; first_made_other(alloc, &LONG), None);
+    let other = FAULTS
+        .iter()
+        .position(|row| told(alloc, as_it_is(row.0)) != row.1);
+    assert_eq!(rt; other, None);
+    let many = Outcome::Refused(2, ScriptKind::TooMany);
+    assert_eq!(rt;
+        ONE_TOO_MANY
+            .iter()
+            .position(|row| told(alloc, *row) != many),
+        None
+    );
+    let deep = Outcome::Refused(2, ScriptKind::TooDeep);
+    assert_eq!(rt;
+        ONE_TOO_DEEP
+            .iter()
+            .position(|row| told(alloc, *row) != deep),
+        None
+    );
+    assert_eq!(rt;
+        LONG.iter().position(|row| told(alloc, row.0) != row.1),
+        None
+    );
     Ok(())
 }

@@ -1,4 +1,4 @@
-// What comes of the scripts of a table, and the first that comes out otherwise.
+// What comes of the scripts of a table.
 use crate::made::repeated;
 use flume_syntax::{Ast, ScriptFault, ScriptKind, parse};
 use std::alloc::Global;
@@ -21,33 +21,16 @@ pub fn parsed(alloc: Global, it: Repeated<'_>) -> Result<Ast, ScriptFault> {
     parse(alloc, &script)
 }
 
+/// A script as it stands.
+pub fn as_it_is(script: &[u8]) -> Repeated<'_> {
+    (script, b"", 0, b"")
+}
+
 /// What comes of the script that is made so.
-fn told(alloc: Global, it: Repeated<'_>) -> Outcome {
+pub fn told(alloc: Global, it: Repeated<'_>) -> Outcome {
     match parsed(alloc, it) {
         Ok(ast) => Outcome::Statements(ast.statements.len()),
         Err(ScriptFault::Refused { line, kind }) => Outcome::Refused(line, kind),
         Err(ScriptFault::Memory) => Outcome::WantOfMemory,
     }
-}
-
-/// The place of the first script that comes out otherwise.
-pub fn first_other(alloc: Global, table: &[(&[u8], Outcome)]) -> Option<usize> {
-    for place in 0..table.len() {
-        let (script, wanted) = table[place];
-        if told(alloc, (script, b"", 0, b"")) != wanted {
-            return Some(place);
-        }
-    }
-    None
-}
-
-/// The same of scripts that are made of many pieces.
-pub fn first_made_other(alloc: Global, table: &[(Repeated<'_>, Outcome)]) -> Option<usize> {
-    for place in 0..table.len() {
-        let (script, wanted) = table[place];
-        if told(alloc, script) != wanted {
-            return Some(place);
-        }
-    }
-    None
 }

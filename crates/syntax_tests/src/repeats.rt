@@ -133,19 +133,10 @@ fn is_read(alloc: Global, script: &[u8], wanted: Wanted) -> bool {
     }
 }
 
-/// The place of the first script that is read otherwise.
-fn first_other(alloc: Global, table: &[(&[u8], Wanted)]) -> Option<usize> {
-    for place in 0..table.len() {
-        let (script, wanted) = table[place];
-        if !is_read(alloc, script, wanted) {
-            return Some(place);
-        }
-    }
-    None
-}
-
 #[test]
 fn repeats(rt: HostRuntime) -> Result<(), Fail> {
-    assert_eq!(rt; first_other(rt.alloc(), &REPEATS), None);
+    let alloc = rt.alloc();
+    let other = REPEATS.iter().position(|row| !is_read(alloc, row.0, row.1));
+    assert_eq!(rt; other, None);
     Ok(())
 }

@@ -1,6 +1,6 @@
 // Rows of scripts that are accepted, at the limits too, and of pairs of trees.
 use crate::made::repeated;
-use crate::outcome::{Outcome, Repeated, first_made_other, first_other, parsed};
+use crate::outcome::{Outcome, Repeated, as_it_is, parsed, told};
 use flume_syntax::Ast;
 use std::alloc::Global;
 use std::test::Fail;
@@ -46,47 +46,23 @@ static SMALL: [(&[u8], Outcome); 6] = [
 const EMIT: &[u8] = b"fn f(x: r) -> r { emit ";
 
 /// As many parts and levels as there may be.
-static MOST: [(Repeated<'static>, Outcome); 10] = [
-    ((EMIT, b"1+", 30, b"1}"), Outcome::Statements(1)),
+static MOST: [Repeated<'static>; 10] = [
+    (EMIT, b"1+", 30, b"1}"),
     (
-        (
-            b"type t = ",
-            b"list<",
-            31,
-            b"int>>>>>>>>>>>>>>>>>>>>>>>>>>>>>>>",
-        ),
-        Outcome::Statements(1),
+        b"type t = ",
+        b"list<",
+        31,
+        b"int>>>>>>>>>>>>>>>>>>>>>>>>>>>>>>>",
     ),
-    (
-        (b"fn f(x: r) -> r {", b"emit 1\n", 9000, b"}"),
-        Outcome::Statements(1),
-    ),
-    (
-        (b"let a = flatten b", b",b", 255, b""),
-        Outcome::Statements(1),
-    ),
-    (
-        (b"let a = operate b", b",b", 255, b" by f"),
-        Outcome::Statements(1),
-    ),
-    (
-        (b"fn f(x: r) -> r", b",r", 7, b" {}"),
-        Outcome::Statements(1),
-    ),
+    (b"fn f(x: r) -> r {", b"emit 1\n", 9000, b"}"),
+    (b"let a = flatten b", b",b", 255, b""),
+    (b"let a = operate b", b",b", 255, b" by f"),
+    (b"fn f(x: r) -> r", b",r", 7, b" {}"),
     // the names of a let have no limit here
-    ((b"let a", b",a", 300, b" = do c f"), Outcome::Statements(1)),
-    (
-        (b"fn f(x: r) -> r { emit [a", b",a", 63, b"] }"),
-        Outcome::Statements(1),
-    ),
-    (
-        (b"type r = {a: int", b",a: int", 15, b"}"),
-        Outcome::Statements(1),
-    ),
-    (
-        (b"fn f(x: r) -> r { emit {a: 1", b",a: 1", 15, b"} }"),
-        Outcome::Statements(1),
-    ),
+    (b"let a", b",a", 300, b" = do c f"),
+    (b"fn f(x: r) -> r { emit [a", b",a", 63, b"] }"),
+    (b"type r = {a: int", b",a: int", 15, b"}"),
+    (b"fn f(x: r) -> r { emit {a: 1", b",a: 1", 15, b"} }"),
 ];
 
 /// Whether the script is read, and its tree is, or is not, the same as another.
@@ -103,6 +79,11 @@ fn are_beside(alloc: Global, one: Repeated<'_>, other: Repeated<'_>, same: bool)
         Ok(ast) => is_beside(alloc, other, &ast, same),
         Err(_) => false,
     }
+}
+
+/// Whether the trees of both expressions are, or are not, the same.
+fn are_pair(alloc: Global, one: &[u8], other: &[u8], same: bool) -> bool {
+    are_beside(alloc, (EMIT, one, 1, b" }"), (EMIT, other, 1, b" }"), same)
 }
 
 /// Two expressions, and whether their trees are the same.
@@ -127,17 +108,6 @@ static PARENTHESES: [Pair<'static>; 8] = [
     ),
 ];
 
-/// The place of the first pair whose trees are otherwise.
-fn first_other_pair(alloc: Global, table: &[Pair<'_>]) -> Option<usize> {
-    for place in 0..table.len() {
-        let (one, other, same) = table[place];
-        if !are_beside(alloc, (EMIT, one, 1, b" }"), (EMIT, other, 1, b" }"), same) {
-            return Some(place);
-        }
-    }
-    None
-}
-
 /// Whether `x.v` in so many parentheses has the tree of `x.v` alone. Parentheses open no depth, and
 /// none is kept open on the stack.
 fn is_field_within(alloc: Global, parentheses: usize) -> bool {
@@ -151,15 +121,24 @@ fn is_field_within(alloc: Global, parentheses: usize) -> bool {
 #[test]
 fn accepted_scripts(rt: HostRuntime) -> Result<(), Fail> {
     let alloc = rt.alloc();
-    assert_eq!(rt; first_other(alloc, &SMALL), None);
-    assert_eq!(rt; first_made_other(alloc, &MOST), None);
+    let other = SMALL
+        .iter()
+        .position(|row| told(alloc, as_it_is(row.0)) != row.1);
+    assert_eq!(rt; other, None);
+    let other = MOST
+        .iter()
+        .position(|row| told(alloc, *row) != Outcome::Statements(1));
+    assert_eq!(rt; other, None);
     Ok(())
 }
 
 #[test]
 fn parentheses_show_the_tree(rt: HostRuntime) -> Result<(), Fail> {
     let alloc = rt.alloc();
-    assert_eq!(rt; first_other_pair(alloc, &PARENTHESES), None);
+    let other = PARENTHESES
+        .iter()
+        .position(|row| !are_pair(alloc, row.0, row.1, row.2));
+    assert_eq!(rt; other, None);
     assert!(rt; is_field_within(alloc, 30000));
     Ok(())
 }

@@ -207,35 +207,24 @@ fn is_read(alloc: Global, before: &[u8], script: &[u8], wanted: Wanted) -> bool 
     }
 }
 
-/// The place of the first script that is read otherwise.
-fn first_other(alloc: Global, table: &[(&[u8], Wanted)]) -> Option<usize> {
-    for place in 0..table.len() {
-        let (script, wanted) = table[place];
-        if !is_read(alloc, b"", script, wanted) {
-            return Some(place);
-        }
-    }
-    None
-}
-
-/// The place of the first combiner that is read otherwise.
-fn first_other_combiner(alloc: Global) -> Option<usize> {
-    for place in 0..COMBINATIONS.len() {
-        let (word, by) = COMBINATIONS[place];
-        let one = Wanted::Let(Operated::Combine(by));
-        let whole = Wanted::Let(Operated::CombineAll(by));
-        if !is_read(alloc, b"let l = combine c by ", word, one)
-            || !is_read(alloc, b"let l = combineall c by ", word, whole)
-        {
-            return Some(place);
-        }
-    }
-    None
+/// Whether the combiner is read behind both words.
+fn are_combined(alloc: Global, word: &[u8], by: By) -> bool {
+    let one = Wanted::Let(Operated::Combine(by));
+    let whole = Wanted::Let(Operated::CombineAll(by));
+    is_read(alloc, b"let l = combine c by ", word, one)
+        && is_read(alloc, b"let l = combineall c by ", word, whole)
 }
 
 #[test]
 fn statements(rt: HostRuntime) -> Result<(), Fail> {
-    assert_eq!(rt; first_other(rt.alloc(), &STATEMENTS), None);
-    assert_eq!(rt; first_other_combiner(rt.alloc()), None);
+    let alloc = rt.alloc();
+    let other = STATEMENTS
+        .iter()
+        .position(|row| !is_read(alloc, b"", row.0, row.1));
+    assert_eq!(rt; other, None);
+    let other = COMBINATIONS
+        .iter()
+        .position(|row| !are_combined(alloc, row.0, row.1));
+    assert_eq!(rt; other, None);
     Ok(())
 }

@@ -113,44 +113,55 @@ module _ (w : World) (n : Split) (t : Lists) (s : Mscr) (outs : List MapOut) (r 
   partials_are (Some sent) partitions pairs lifted c e h =
       subst (λ l. AreSentPairs l partitions sent pairs) e h
 
+  -- all pairs of the partition
+  pub pairs_whole : (p : ℕ) (g : Grouping) → p < n.partitions
+      → slice_get s.outputs r ≡ Some (Group g) → g.lifted ≡ None
+      → all_pairs outs r p ≡ Some (part_of n.partitions p (gathered w n t s.inputs g.takes))
+  pairs_whole p g below at unlifted =
+      let P = n.partitions in
+      all_pairs-are P r p outs (listed (given_by g.takes) (length outs)) below
+      (zipped (Group g) g.takes (λ out pairs. ArePairsOf P (sent_at r out) pairs) at
+      (λ k out sent. pairs_are (sent_at r out) P (given_by g.takes k) g.lifted unlifted sent))
+      ∙ ap (λ l. Some (part_of P p l)) (given_all g.takes)
+
+  -- accumulators that stand for them
+  pub partials_whole : (p : ℕ) (g : Grouping) (c : Comb) → p < n.partitions
+      → slice_get s.outputs r ≡ Some (Group g) → g.lifted ≡ Some c
+      → IsSomeAnd (all_partials outs r p) (λ partials. StandFor c partials
+      (pairs_of (part_of n.partitions p (gathered w n t s.inputs g.takes))))
+  partials_whole p g c below at lifted =
+      let P = n.partitions in
+      subst
+      (λ l. IsSomeAnd (all_partials outs r p) (λ ps. StandFor c ps (pairs_of (part_of P p l))))
+      (given_all g.takes)
+      (all_partials-stand c P r p outs (listed (given_by g.takes) (length outs)) below
+      (zipped (Group g) g.takes (λ out pairs. ArePartialsOf c P (sent_at r out) pairs) at
+      (λ k out sent. partials_are (sent_at r out) P (given_by g.takes k) g.lifted c lifted sent)))
+
   pub groups_whole : (p : ℕ) (g : Grouping) → p < n.partitions
       → slice_get s.outputs r ≡ Some (Group g) → g.lifted ≡ None
       → IsSomeAnd (all_pairs outs r p)
       (λ pairs. grouped pairs ≡ (reduce_task w n t s.inputs g p).elements)
   groups_whole p g below at unlifted =
-      let P = n.partitions in
-      let given : List (List Value) = listed (given_by g.takes) (length outs) in
-      let pairs : all_pairs outs r p ≡ Some (part_of P p (flat_map (λ pairs. pairs) given)) =
-      all_pairs-are P r p outs given below
-      (zipped (Group g) g.takes (λ out pairs. ArePairsOf P (sent_at r out) pairs) at
-      (λ k out sent. pairs_are (sent_at r out) P (given_by g.takes k) g.lifted unlifted sent)) in
       subst (λ o. IsSomeAnd o (λ l. grouped l ≡ (reduce_task w n t s.inputs g p).elements))
-      (sym pairs)
-      (ap (λ l. grouped (part_of P p l)) (given_all g.takes)
-      ∙ grouped-passing (is_in P p) (gathered w n t s.inputs g.takes))
+      (sym (pairs_whole p g below at unlifted))
+      (grouped-passing (is_in n.partitions p) (gathered w n t s.inputs g.takes))
 
   pub combined_whole : (p : ℕ) (g : Grouping) (c : Comb) → p < n.partitions
       → slice_get s.outputs r ≡ Some (Group g) → g.lifted ≡ Some c
       → IsSomeAnd (all_partials outs r p) (λ partials. finished_each c (merged_by_key c partials)
       ≡ combined_groups c (groups_in (reduce_task w n t s.inputs g p).elements))
   combined_whole p g c below at lifted =
-      let P = n.partitions in
-      let given : List (List Value) = listed (given_by g.takes) (length outs) in
-      let pairs : List Value = part_of P p (flat_map (λ pairs. pairs) given) in
-      let stands : IsSomeAnd (all_partials outs r p) (λ l. StandFor c l (pairs_of pairs)) =
-      all_partials-stand c P r p outs given below
-      (zipped (Group g) g.takes (λ out pairs. ArePartialsOf c P (sent_at r out) pairs) at
-      (λ k out sent. partials_are (sent_at r out) P (given_by g.takes k) g.lifted c lifted sent)) in
+      let all : List Value = gathered w n t s.inputs g.takes in
+      let pairs : List Value = part_of n.partitions p all in
       some_weaker (λ l. StandFor c l (pairs_of pairs))
       (λ l. finished_each c (merged_by_key c l)
       ≡ combined_groups c (groups_in (reduce_task w n t s.inputs g p).elements))
       (λ l stand.
       ap (finished_each c) (merged-accumulated c l (pairs_of pairs) stand)
       ∙ finished-accumulated c pairs
-      ∙ ap (λ l. combined_groups c (groups_in l))
-      (ap (λ l. grouped (part_of P p l)) (given_all g.takes)
-      ∙ grouped-passing (is_in P p) (gathered w n t s.inputs g.takes)))
-      (all_partials outs r p) stands
+      ∙ ap (λ l. combined_groups c (groups_in l)) (grouped-passing (is_in n.partitions p) all))
+      (all_partials outs r p) (partials_whole p g c below at lifted)
 
   -- so the root of a lifted reducer answers of the groups what their accumulators finish as
   pub answered_whole : (p : ℕ) (g : Grouping) (c : Comb) → p < n.partitions

@@ -57,39 +57,34 @@ one_more : (m : ℕ) (o : Option ℕ) → m + length (kept_out (new_out m o)) �
 one_more m None = omega arith
 one_more m (Some j) = refl
 
-outs_more : (m : ℕ) (f : Forest) → m + length (outs_of (numbered m f)) ≡ after m f
-outs_more m Bare = omega arith
-outs_more m (Grow l kids rest) =
+outs_numbered : (m : ℕ) (f : Forest)
+    → (m + length (outs_of (numbered m f)) ≡ after m f) × AreFrom m (outs_of (numbered m f))
+outs_numbered m Bare = (omega arith, tt)
+outs_numbered m (Grow l kids rest) =
     let first : ℕ = after_out m l.out in
     let second : ℕ = after first kids in
     let here = kept_out (new_out m l.out) in
     let below = outs_of (numbered first kids) in
     let beside = outs_of (numbered second rest) in
-    omega (
-      arith,
-      length-append here (below ++ beside),
-      length-append below beside,
-      one_more m l.out,
-      outs_more first kids,
-      outs_more second rest,
+    let kid = outs_numbered first kids in
+    let other = outs_numbered second rest in (
+      omega (
+        arith,
+        length-append here (below ++ beside),
+        length-append below beside,
+        one_more m l.out,
+        kid.0,
+        other.0,
+      ),
+      from_append m here (below ++ beside) (one_from m l.out)
+          (subst (λ n. AreFrom n (below ++ beside)) (sym (one_more m l.out))
+          (from_append first below beside kid.1
+          (subst (λ n. AreFrom n beside) (sym kid.0) other.1))),
     )
-
-outs_from : (m : ℕ) (f : Forest) → AreFrom m (outs_of (numbered m f))
-outs_from m Bare = tt
-outs_from m (Grow l kids rest) =
-    let first : ℕ = after_out m l.out in
-    let second : ℕ = after first kids in
-    let here = kept_out (new_out m l.out) in
-    let below = outs_of (numbered first kids) in
-    let beside = outs_of (numbered second rest) in
-    from_append m here (below ++ beside) (one_from m l.out)
-    (subst (λ n. AreFrom n (below ++ beside)) (sym (one_more m l.out))
-    (from_append first below beside (outs_from first kids)
-    (subst (λ n. AreFrom n beside) (sym (outs_more first kids)) (outs_from second rest))))
 
 pub numbers_from : (f : Option Forest) → IsNumbered f → AreFrom 0 (numbers f)
 numbers_from None ok = (refl, tt)
-numbers_from (Some f) ok = subst (λ g. AreFrom 0 (outs_of g)) ok (outs_from 0 f)
+numbers_from (Some f) ok = subst (λ g. AreFrom 0 (outs_of g)) ok (outs_numbered 0 f).1
 
 numbers_are : (f : Option Forest) → AllByRecursion (IsOutput f) (numbers f)
 numbers_are None = (refl, tt)

@@ -21,59 +21,7 @@ passes w = is_ascii_alphabetic (slice_index w 0) && (list_all is_word w && nat_l
 
 keyword_passes : (k : Keyword) → passes (spelling k) ≡ true
 keyword_passes keyword.Type = refl
-keyword_passes keyword.Input = refl
-keyword_passes keyword.Fn = refl
-keyword_passes keyword.Let = refl
-keyword_passes keyword.Output = refl
-keyword_passes keyword.From = refl
-keyword_passes keyword.To = refl
-keyword_passes keyword.Scale = refl
-keyword_passes keyword.Do = refl
-keyword_passes keyword.Group = refl
-keyword_passes keyword.Combine = refl
-keyword_passes keyword.By = refl
-keyword_passes keyword.Flatten = refl
-keyword_passes keyword.Count = refl
-keyword_passes keyword.Join = refl
-keyword_passes keyword.Top = refl
-keyword_passes keyword.Sum = refl
-keyword_passes keyword.Min = refl
-keyword_passes keyword.Max = refl
-keyword_passes keyword.All = refl
-keyword_passes keyword.Any = refl
-keyword_passes keyword.Mean = refl
-keyword_passes keyword.Distinct = refl
-keyword_passes keyword.Int = refl
-keyword_passes keyword.Bool = refl
-keyword_passes keyword.Text = refl
-keyword_passes keyword.List = refl
-keyword_passes keyword.Either = refl
-keyword_passes keyword.Table = refl
-keyword_passes keyword.If = refl
-keyword_passes keyword.Else = refl
-keyword_passes keyword.For = refl
-keyword_passes keyword.In = refl
-keyword_passes keyword.Emit = refl
-keyword_passes keyword.Case = refl
-keyword_passes keyword.Left = refl
-keyword_passes keyword.Right = refl
-keyword_passes keyword.True = refl
-keyword_passes keyword.False = refl
-keyword_passes keyword.And = refl
-keyword_passes keyword.Or = refl
-keyword_passes keyword.Not = refl
-keyword_passes keyword.Len = refl
-keyword_passes keyword.Words = refl
-keyword_passes keyword.Concat = refl
-keyword_passes keyword.Number = refl
-keyword_passes keyword.Pick = refl
-keyword_passes keyword.Empty = refl
-keyword_passes keyword.Repeat = refl
-keyword_passes keyword.As = refl
-keyword_passes keyword.Give = refl
-keyword_passes keyword.Combineall = refl
-keyword_passes keyword.Operate = refl
-keyword_passes keyword.With = refl
+keyword_passes _ = refl
 
 word_from : (w : List ℕ) → passes w ≡ true → IsWord w
 word_from w e =
@@ -105,27 +53,7 @@ plain_from b e =
 sign_passes : (s : Sign)
     → (nat_le 1 (length (sign_spelling s)) && list_all is_plain (sign_spelling s)) ≡ true
 sign_passes sign.Equal = refl
-sign_passes sign.NotEqual = refl
-sign_passes sign.AtMost = refl
-sign_passes sign.AtLeast = refl
-sign_passes sign.Arrow = refl
-sign_passes sign.OpenBrace = refl
-sign_passes sign.CloseBrace = refl
-sign_passes sign.Open = refl
-sign_passes sign.Close = refl
-sign_passes sign.OpenBracket = refl
-sign_passes sign.CloseBracket = refl
-sign_passes sign.Less = refl
-sign_passes sign.Greater = refl
-sign_passes sign.Comma = refl
-sign_passes sign.Colon = refl
-sign_passes sign.Dot = refl
-sign_passes sign.Assign = refl
-sign_passes sign.Plus = refl
-sign_passes sign.Minus = refl
-sign_passes sign.Times = refl
-sign_passes sign.Divide = refl
-sign_passes sign.Remainder = refl
+sign_passes _ = refl
 
 -- a sign ends no line
 pub sign_plain : (s : Sign) → All IsPlain (sign_spelling s)

@@ -361,6 +361,20 @@ module _ (law : DepthLaw) (entries : List (Shape × ℕ)) (s : Shape) where
   tree-depth form is = ap (λ s. depth_of (tree_of ts s)) is ∙ law (tree_of ts form)
       ∙ ap (layer_depth depth_of) (out-tree ts form)
 
+  -- a type without parts is of one level
+  one_level : (form : Shape) → s ≡ form → layer_depth depth_of (level ts form) ≡ 1
+      → 1 ≡ capped (depth_of (tree_of ts s))
+  one_level form is one = let e = tree-depth form is ∙ one in omega (arith, e)
+
+  pub depth-Int : s ≡ shape.Int → 1 ≡ capped (depth_of (tree_of ts s))
+  depth-Int is = one_level shape.Int is refl
+
+  pub depth-Bool : s ≡ shape.Bool → 1 ≡ capped (depth_of (tree_of ts s))
+  depth-Bool is = one_level shape.Bool is refl
+
+  pub depth-Text : s ≡ shape.Text → 1 ≡ capped (depth_of (tree_of ts s))
+  depth-Text is = one_level shape.Text is refl
+
 -- ---- equality of types
 
 pub same-as-numbers : (entries : List (Shape × ℕ)) (types : List Ty) (a b : ℕ)

@@ -1,5 +1,5 @@
 -- What was written is read again, where it has no more levels than that.
-use Rattle.std.proofs.Common.{◌≡◌, ℕ, zero, suc, ◌+◌, ◌≤◌, ◌&&◌, true, ℤ, Bool, List, [], ◌∷◌, ◌++◌, length, Some, refl, sym, ap, ◌∙◌, subst, append_assoc, arith}
+use Rattle.std.proofs.Common.{◌≡◌, ℕ, zero, suc, ◌+◌, ◌≤◌, ◌&&◌, true, List, [], ◌∷◌, ◌++◌, length, Some, refl, sym, ap, ◌∙◌, subst, append_assoc, arith}
 use Rattle.std.specs.List.{list_all, flat_map}
 use Rattle.flume_value.specs.declared.value.Value.{Value, Value-F, out-Value, roll-Value, roll-out-Value}
 use Rattle.flume_value.specs.declared.value.Value.TheVariants as variant
@@ -7,7 +7,7 @@ use Rattle.flume_value.specs.Canonical.{length_bytes, int_bytes, wide_bytes, can
 use Rattle.flume_value.specs.Ranges.{fits_length, fits}
 use Rattle.flume_value.proofs.BoolLemmas.{both_true}
 use Rattle.flume_value.proofs.CanonicalLemmas.{canonical-Int, canonical-Bool, canonical-Text, canonical-List, canonical-Rec, canonical-Left, canonical-Right, canonical-Wide}
-use Rattle.flume_value.proofs.RangeLemmas.{fits-Int, fits-Bool, fits-Text, fits-List, fits-Rec, fits-Left, fits-Right, fits-Wide}
+use Rattle.flume_value.proofs.RangeLemmas.{fits-Int, fits-Text, fits-List, fits-Rec, fits-Left, fits-Right, fits-Wide}
 use Rattle.value_reading.specs.Levels.{greatest_by, levels_of}
 use Rattle.value_reading.specs.declared.tag.Tag.{Tag}
 use Rattle.value_reading.specs.declared.tag.Tag.TheVariants as tag
@@ -61,76 +61,58 @@ module _ (n : ℕ) (again : (v : Value) → IsReadBy (value_at n) n v) where
   abbrev Above : Value → Type 0
   Above v = IsReadBy (value_at (suc n)) (suc n) v
 
-  int_above : (z : ℤ) → Above (variant.Int z)
-  int_above z rest p h =
+  -- a value that a list makes, and one that a value makes, each by its tag
+  items_above : (t : Tag) (make : List Value → Value) (xs : List Value)
+      → ((bs : List ℕ) → behind (value_at n) t bs ≡ made make (items_at (value_at n) bs))
+      → canonical (make xs) ≡ tag_byte t ∷ (length_bytes (length xs) ++ flat_map canonical xs)
+      → fits (make xs) ≡ (fits_length (length xs) && list_all fits xs)
+      → levels_of (make xs) ≡ greatest_by levels_of xs + 1 → Above (make xs)
+  items_above t make xs read bytes held levels rest p h =
+      by_tag n t (make xs) (length_bytes (length xs) ++ flat_map canonical xs) rest bytes
+      (read _ ∙ ap (made make) (items_again (value_at n) n again xs rest (sym held ∙ p)
+      (within_greatest n xs (lower n (greatest_by levels_of xs) (make xs) levels h))))
+
+  part_above : (t : Tag) (make : Value → Value) (x : Value)
+      → ((bs : List ℕ) → behind (value_at n) t bs ≡ made make (value_at n bs))
+      → canonical (make x) ≡ tag_byte t ∷ canonical x → fits (make x) ≡ fits x
+      → levels_of (make x) ≡ levels_of x + 1 → Above (make x)
+  part_above t make x read bytes held levels rest p h =
+      by_tag n t (make x) (canonical x) rest bytes
+      (read _ ∙ ap (made make) (again x rest (sym held ∙ p)
+      (lower n (levels_of x) (make x) levels h)))
+
+  -- what holds of a variant holds of its layer
+  of_layer : (v : Value) (x : Value-F Value) → out-Value v ≡ x → Above v → Above (roll-Value x)
+  of_layer v x is = subst Above (sym (roll-out-Value v) ∙ ap roll-Value is)
+
+  layer_above : (x : Value-F Value) → Above (roll-Value x)
+  layer_above (Value-F.Int z) = of_layer (variant.Int z) _ (variant.outs-Int z) (λ rest p h.
       by_tag n tag.Int (variant.Int z) (int_bytes z) rest (canonical-Int z)
-      (ap (made variant.Int) (int_again z rest (sym (fits-Int z) ∙ p)))
-
-  bool_above : (b : Bool) → Above (variant.Bool b)
-  bool_above b rest p h =
+      (ap (made variant.Int) (int_again z rest (sym (fits-Int z) ∙ p))))
+  layer_above (Value-F.Bool b) = of_layer (variant.Bool b) _ (variant.outs-Bool b) (λ rest p h.
       by_tag n tag.Bool (variant.Bool b) _ rest (canonical-Bool b)
-      (ap (made variant.Bool) (bool_again b rest))
-
-  text_above : (s : List ℕ) → Above (variant.Text s)
-  text_above s rest p h =
+      (ap (made variant.Bool) (bool_again b rest)))
+  layer_above (Value-F.Text s) = of_layer (variant.Text s) _ (variant.outs-Text s) (λ rest p h.
       by_tag n tag.Text (variant.Text s) (length_bytes (length s) ++ s) rest (canonical-Text s)
-      (ap (made variant.Text) (text_again s rest (sym (fits-Text s) ∙ p)))
-
-  list_above : (xs : List Value) → Above (variant.List xs)
-  list_above xs rest p h =
-      by_tag n tag.List (variant.List xs) (length_bytes (length xs) ++ flat_map canonical xs) rest
-      (canonical-List xs)
-      (ap (made variant.List) (items_again (value_at n) n again xs rest (sym (fits-List xs) ∙ p)
-      (within_greatest n xs (lower n (greatest_by levels_of xs) (variant.List xs)
-      (levels-List xs) h))))
-
-  rec_above : (xs : List Value) → Above (variant.Rec xs)
-  rec_above xs rest p h =
-      by_tag n tag.Rec (variant.Rec xs) (length_bytes (length xs) ++ flat_map canonical xs) rest
-      (canonical-Rec xs)
-      (ap (made variant.Rec) (items_again (value_at n) n again xs rest (sym (fits-Rec xs) ∙ p)
-      (within_greatest n xs (lower n (greatest_by levels_of xs) (variant.Rec xs)
-      (levels-Rec xs) h))))
-
-  left_above : (x : Value) → Above (variant.Left x)
-  left_above x rest p h =
-      by_tag n tag.Left (variant.Left x) (canonical x) rest (canonical-Left x)
-      (ap (made variant.Left) (again x rest (sym (fits-Left x) ∙ p)
-      (lower n (levels_of x) (variant.Left x) (levels-Left x) h)))
-
-  right_above : (x : Value) → Above (variant.Right x)
-  right_above x rest p h =
-      by_tag n tag.Right (variant.Right x) (canonical x) rest (canonical-Right x)
-      (ap (made variant.Right) (again x rest (sym (fits-Right x) ∙ p)
-      (lower n (levels_of x) (variant.Right x) (levels-Right x) h)))
-
-  wide_above : (z : ℤ) → Above (variant.Wide z)
-  wide_above z rest p h =
+      (ap (made variant.Text) (text_again s rest (sym (fits-Text s) ∙ p))))
+  layer_above (Value-F.List xs) = of_layer (variant.List xs) _ (variant.outs-List xs)
+      (items_above tag.List variant.List xs (λ bs. refl) (canonical-List xs) (fits-List xs)
+      (levels-List xs))
+  layer_above (Value-F.Rec xs) = of_layer (variant.Rec xs) _ (variant.outs-Rec xs)
+      (items_above tag.Rec variant.Rec xs (λ bs. refl) (canonical-Rec xs) (fits-Rec xs)
+      (levels-Rec xs))
+  layer_above (Value-F.Left x) = of_layer (variant.Left x) _ (variant.outs-Left x)
+      (part_above tag.Left variant.Left x (λ bs. refl) (canonical-Left x) (fits-Left x)
+      (levels-Left x))
+  layer_above (Value-F.Right x) = of_layer (variant.Right x) _ (variant.outs-Right x)
+      (part_above tag.Right variant.Right x (λ bs. refl) (canonical-Right x) (fits-Right x)
+      (levels-Right x))
+  layer_above (Value-F.Wide z) = of_layer (variant.Wide z) _ (variant.outs-Wide z) (λ rest p h.
       by_tag n tag.Wide (variant.Wide z) (wide_bytes z) rest (canonical-Wide z)
-      (ap (made variant.Wide) (wide_again z rest (sym (fits-Wide z) ∙ p)))
-
-  -- a value is one of the variants
-  same : (v w : Value) (x : Value-F Value) → out-Value v ≡ x → out-Value w ≡ x → w ≡ v
-  same v w x e f = sym (roll-out-Value w) ∙ ap roll-Value (f ∙ sym e) ∙ roll-out-Value v
-
-  above : (v : Value) (x : Value-F Value) → out-Value v ≡ x → Above v
-  above v (Value-F.Int z) e = subst Above (same v (variant.Int z) _ e (variant.outs-Int z))
-      (int_above z)
-  above v (Value-F.Bool b) e = subst Above (same v (variant.Bool b) _ e (variant.outs-Bool b))
-      (bool_above b)
-  above v (Value-F.Text s) e = subst Above (same v (variant.Text s) _ e (variant.outs-Text s))
-      (text_above s)
-  above v (Value-F.List xs) e = subst Above (same v (variant.List xs) _ e (variant.outs-List xs))
-      (list_above xs)
-  above v (Value-F.Rec xs) e = subst Above (same v (variant.Rec xs) _ e (variant.outs-Rec xs))
-      (rec_above xs)
-  above v (Value-F.Left x) e = subst Above (same v (variant.Left x) _ e (variant.outs-Left x))
-      (left_above x)
-  above v (Value-F.Right x) e = subst Above (same v (variant.Right x) _ e (variant.outs-Right x))
-      (right_above x)
-  above v (Value-F.Wide z) e = subst Above (same v (variant.Wide z) _ e (variant.outs-Wide z))
-      (wide_above z)
+      (ap (made variant.Wide) (wide_again z rest (sym (fits-Wide z) ∙ p))))
 
 pub value_again : (n : ℕ) (v : Value) → IsReadBy (value_at n) n v
-value_again zero v rest p h = let one = levels_positive v in absurd (omega (arith, one, h))
-value_again (suc n) v rest p h = above n (value_again n) v (out-Value v) refl rest p h
+value_again zero v =
+    λ rest p h. let one = levels_positive v in absurd (omega (arith, one, h))
+value_again (suc n) v =
+    subst (Above n (value_again n)) (roll-out-Value v) (layer_above n (value_again n) (out-Value v))

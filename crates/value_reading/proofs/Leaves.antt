@@ -1,16 +1,18 @@
 -- Parts without parts: what is read is what was written, and what was written is read again.
-use Rattle.std.proofs.Common.{◌≡◌, ℕ, ◌+◌, ◌*◌, ◌%◌, ◌^◌, ◌<◌, ◌≤◌, ◌==◌, ℤ, pos, negsuc, Bool, true, false, cond, ltb, eqb, List, [], ◌∷◌, ◌++◌, length, take, drop, Option, Some, None, Fits, FitsSigned, if◌then◌else◌, refl, sym, ap, ◌∙◌, subst, append_assoc, arith}
-use Rattle.std.specs.Int.{w64, w128, bytes_high_first, cast_signed, cast_unsigned}
+use Rattle.std.proofs.Common.{◌≡◌, ℕ, ◌+◌, ◌*◌, ◌%◌, ◌^◌, ◌<◌, ◌≤◌, ◌==◌, ℤ, Bool, true, false, ltb, List, [], ◌∷◌, ◌++◌, length, take, drop, Option, Some, None, Fits, FitsSigned, if◌then◌else◌, refl, sym, ap, ◌∙◌, subst, append_assoc, arith}
+use Rattle.std.specs.Int.{Width, w64, w128, bytes_high_first, cast_signed, cast_unsigned}
 use Rattle.std.proofs.Math.Nat.{mod-eq_of_lt}
 use Rattle.std.proofs.lemmas.Bool.{ltb-true, ltb-false, le-ltb, eqb-true}
 use Rattle.std.proofs.lemmas.Int.{to_z-of_z, of_z-to_z}
 use Rattle.std.proofs.lemmas.List.{take_at, drop_at, take-append-drop, length-append, length-take-le}
 use Rattle.std.proofs.Math.Facts.{sfits_to_z}
+use mir.Val.{bits}
+use mir.ValLaws.{of_z_fits}
 use Rattle.flume_value.specs.Canonical.{length_bytes, int_bytes, wide_bytes}
 use Rattle.flume_value.specs.Ranges.{fits_int, fits_wide, fits_length}
 use Rattle.flume_value.specs.inner.Numbers.{number}
 use Rattle.flume_value.proofs.NumberLemmas.{small-drop}
-use Rattle.flume_value.proofs.RangeLemmas.{fits_int-signed, fits_wide-signed, fits_length-below}
+use Rattle.flume_value.proofs.RangeLemmas.{fits_int-signed, fits_wide-signed, fits_length-below, signed-fits_int, signed-fits_wide}
 use Rattle.value_reading.specs.declared.tag.Tag.{Tag}
 use Rattle.value_reading.specs.declared.tag.Tag.TheVariants as tag
 use Rattle.value_reading.specs.inner.Reading.{Out, bind, made, told, byte_at, front_at, number_at, int_at, wide_at, truth_of, bool_at, tag_of, tag_at, text_at}
@@ -102,69 +104,52 @@ length_again n rest p = number_again 8 n rest (ltb-true n (2 ^ 64) p)
 
 -- ---- signed numbers
 
+-- a signed number, in as many bytes as its width has
+module _ (w : Width) (k : ℕ) (whole : 256 ^ k ≡ 2 ^ bits w) where
+  signed_takes : (bytes : List ℕ) (x : ℤ × List ℕ) → Small bytes
+      → made (cast_signed w) (number_at k bytes) ≡ Some x
+      → Takes bytes (bytes_high_first k (cast_unsigned w x.0)) x.1 × FitsSigned w x.0
+  signed_takes bytes x s e =
+      let m = made_some (cast_signed w) (number_at k bytes) x e in
+      let n = m.0.0 in
+      let t = number_takes k bytes m.0 s m.1 in
+      let low : n < 2 ^ bits w = subst (λ b. n < b) whole t.1 in
+      let fits : Fits w n = record { fits = low } in
+      subst (λ (y : ℤ × List ℕ). Takes bytes (bytes_high_first k (cast_unsigned w y.0)) y.1
+      × FitsSigned w y.0) m.2 (
+        subst (λ b. Takes bytes (bytes_high_first k b) m.0.1) (sym (of_z-to_z w n low)) t.0,
+        sfits_to_z fits,
+      )
+
+  signed_again : (n : ℤ) (rest : List ℕ) → FitsSigned w n
+      → made (cast_signed w) (number_at k (bytes_high_first k (cast_unsigned w n) ++ rest))
+      ≡ Some (n, rest)
+  signed_again n rest f =
+      ap (made (cast_signed w)) (number_again k (cast_unsigned w n) rest
+      (subst (λ b. cast_unsigned w n < b) (sym whole) (of_z_fits w n f).fits))
+      ∙ ap (λ m. Some (m, rest)) (to_z-of_z w n f)
+
 pub int_takes : (bytes : List ℕ) (x : ℤ × List ℕ) → Small bytes → int_at bytes ≡ Some x
     → Takes bytes (int_bytes x.0) x.1 × (fits_int x.0 ≡ true)
 unfolding int_bytes
 int_takes bytes x s e =
-    let m = made_some (cast_signed w64) (number_at 8 bytes) x e in
-    let n = m.0.0 in
-    let t = number_takes 8 bytes m.0 s m.1 in
-    let bits : cast_unsigned w64 (cast_signed w64 n) ≡ n = of_z-to_z w64 n t.1 in
-    subst (λ (y : ℤ × List ℕ). Takes bytes (bytes_high_first 8 (cast_unsigned w64 y.0)) y.1
-    × (fits_int y.0 ≡ true)) m.2 (
-      subst (λ k. Takes bytes (bytes_high_first 8 k) m.0.1) (sym bits) t.0,
-      fits_int-signed (cast_signed w64 n) (signed_64 n t.1),
-    )
-  where
-    signed_64 : (n : ℕ) → n < 2 ^ 64 → FitsSigned w64 (cast_signed w64 n)
-    signed_64 n low = let f : Fits w64 n = record { fits = low } in sfits_to_z f
+    let t = signed_takes w64 8 refl bytes x s e in (t.0, fits_int-signed x.0 t.1)
 
 pub wide_takes : (bytes : List ℕ) (x : ℤ × List ℕ) → Small bytes → wide_at bytes ≡ Some x
     → Takes bytes (wide_bytes x.0) x.1 × (fits_wide x.0 ≡ true)
 unfolding wide_bytes
 wide_takes bytes x s e =
-    let m = made_some (cast_signed w128) (number_at 16 bytes) x e in
-    let n = m.0.0 in
-    let t = number_takes 16 bytes m.0 s m.1 in
-    let bits : cast_unsigned w128 (cast_signed w128 n) ≡ n = of_z-to_z w128 n t.1 in
-    subst (λ (y : ℤ × List ℕ). Takes bytes (bytes_high_first 16 (cast_unsigned w128 y.0)) y.1
-    × (fits_wide y.0 ≡ true)) m.2 (
-      subst (λ k. Takes bytes (bytes_high_first 16 k) m.0.1) (sym bits) t.0,
-      fits_wide-signed (cast_signed w128 n) (signed_128 n t.1),
-    )
-  where
-    signed_128 : (n : ℕ) → n < 2 ^ 128 → FitsSigned w128 (cast_signed w128 n)
-    signed_128 n low = let f : Fits w128 n = record { fits = low } in sfits_to_z f
-
-below_64 : (n : ℤ) → fits_int n ≡ true → cast_unsigned w64 n < 256 ^ 8
-below_64 (pos n) p = let low = ltb-true n (2 ^ 63) p in omega (arith, low)
-below_64 (negsuc n) p = omega arith
-
-held_64 : (n : ℤ) → fits_int n ≡ true → FitsSigned w64 n
-held_64 (pos n) p = record { sfits = ltb-true n (2 ^ 63) p }
-held_64 (negsuc n) p = record { sfits = ltb-true n (2 ^ 63) p }
-
-below_128 : (n : ℤ) → fits_wide n ≡ true → cast_unsigned w128 n < 256 ^ 16
-below_128 (pos n) p = let low = ltb-true n (2 ^ 127) p in omega (arith, low)
-below_128 (negsuc n) p = omega arith
-
-held_128 : (n : ℤ) → fits_wide n ≡ true → FitsSigned w128 n
-held_128 (pos n) p = record { sfits = ltb-true n (2 ^ 127) p }
-held_128 (negsuc n) p = record { sfits = ltb-true n (2 ^ 127) p }
+    let t = signed_takes w128 16 refl bytes x s e in (t.0, fits_wide-signed x.0 t.1)
 
 pub int_again : (n : ℤ) (rest : List ℕ) → fits_int n ≡ true
     → int_at (int_bytes n ++ rest) ≡ Some (n, rest)
 unfolding int_bytes
-int_again n rest p =
-    ap (made (cast_signed w64)) (number_again 8 (cast_unsigned w64 n) rest (below_64 n p))
-    ∙ ap (λ m. Some (m, rest)) (to_z-of_z w64 n (held_64 n p))
+int_again n rest p = signed_again w64 8 refl n rest (signed-fits_int n p)
 
 pub wide_again : (n : ℤ) (rest : List ℕ) → fits_wide n ≡ true
     → wide_at (wide_bytes n ++ rest) ≡ Some (n, rest)
 unfolding wide_bytes
-wide_again n rest p =
-    ap (made (cast_signed w128)) (number_again 16 (cast_unsigned w128 n) rest (below_128 n p))
-    ∙ ap (λ m. Some (m, rest)) (to_z-of_z w128 n (held_128 n p))
+wide_again n rest p = signed_again w128 16 refl n rest (signed-fits_wide n p)
 
 -- ---- one byte
 

@@ -85,8 +85,11 @@ module _ (part : List ℕ → Out Value) (n : ℕ)
         levels = (first.levels, others.levels);
       })
 
+  abbrev items_bytes : List Value → List ℕ
+  items_bytes xs = length_bytes (length xs) ++ flat_map canonical xs
+
   record Items (bytes : List ℕ) (xs : List Value) (rest : List ℕ) : Type 0 where
-    all : Takes bytes (length_bytes (length xs) ++ flat_map canonical xs) rest
+    all : Takes bytes (items_bytes xs) rest
     count : fits_length (length xs) ≡ true
     held : list_all fits xs ≡ true
     levels : Within n xs
@@ -108,90 +111,69 @@ module _ (part : List ℕ → Out Value) (n : ℕ)
         levels = members.levels;
       }
 
+  -- a variant of what was taken, behind its tag
+  variant_takes : {A : Type 0} (make : A → Value) (t : ℕ) (text : A → List ℕ) (o : Out A)
+      (bytes : List ℕ) (x : Value × List ℕ)
+      → ((a : A) → canonical (make a) ≡ t ∷ text a)
+      → ((y : A × List ℕ) → o ≡ Some y
+      → Takes bytes (text y.0) y.1 × (fits (make y.0) ≡ true) × (levels_of (make y.0) ≤ suc n))
+      → made make o ≡ Some x → Behind (suc n) t bytes x.0 x.1
+  variant_takes make t text o bytes x bytes_are taken e =
+      let m = made_some make o x e in
+      let (took, held, levels) = taken m.0 m.1 in
+      at_pair (Behind (suc n) t bytes) x (make m.0.0) m.0.1 m.2 (record {
+        text = text m.0.0;
+        takes = took;
+        bytes_are = bytes_are m.0.0;
+        held = held;
+        levels = levels;
+      })
+
   behind_takes : (t : Tag) (bytes : List ℕ) (x : Value × List ℕ) → Small bytes
       → behind part t bytes ≡ Some x → Behind (suc n) (tag_byte t) bytes x.0 x.1
-  behind_takes tag.Int bytes x s e =
-      let m = made_some variant.Int (int_at bytes) x e in
-      let t = int_takes bytes m.0 s m.1 in
-      at_pair (Behind (suc n) 1 bytes) x (variant.Int m.0.0) m.0.1 m.2 (record {
-        text = int_bytes m.0.0;
-        takes = t.0;
-        bytes_are = canonical-Int m.0.0;
-        held = fits-Int m.0.0 ∙ t.1;
-        levels = one_level n (variant.Int m.0.0) (levels-Int m.0.0);
-      })
-  behind_takes tag.Bool bytes x s e =
-      let m = made_some variant.Bool (bool_at bytes) x e in
-      let t = bool_takes bytes m.0 s m.1 in
-      at_pair (Behind (suc n) 2 bytes) x (variant.Bool m.0.0) m.0.1 m.2 (record {
-        text = truth_byte m.0.0 ∷ [];
-        takes = t;
-        bytes_are = canonical-Bool m.0.0;
-        held = fits-Bool m.0.0;
-        levels = one_level n (variant.Bool m.0.0) (levels-Bool m.0.0);
-      })
-  behind_takes tag.Text bytes x s e =
-      let m = made_some variant.Text (text_at bytes) x e in
-      let t = text_takes bytes m.0 s m.1 in
-      at_pair (Behind (suc n) 3 bytes) x (variant.Text m.0.0) m.0.1 m.2 (record {
-        text = text_bytes m.0.0;
-        takes = t.0;
-        bytes_are = canonical-Text m.0.0;
-        held = fits-Text m.0.0 ∙ t.1;
-        levels = one_level n (variant.Text m.0.0) (levels-Text m.0.0);
-      })
-  behind_takes tag.List bytes x s e =
-      let m = made_some variant.List (items_at part bytes) x e in
-      let t = items_take bytes m.0 s m.1 in
-      at_pair (Behind (suc n) 4 bytes) x (variant.List m.0.0) m.0.1 m.2 (record {
-        text = length_bytes (length m.0.0) ++ flat_map canonical m.0.0;
-        takes = t.all;
-        bytes_are = canonical-List m.0.0;
-        held = fits-List m.0.0 ∙ and_both _ _ t.count t.held;
-        levels = more_level n _ (variant.List m.0.0) (levels-List m.0.0)
-            (greatest_within n m.0.0 t.levels);
-      })
-  behind_takes tag.Rec bytes x s e =
-      let m = made_some variant.Rec (items_at part bytes) x e in
-      let t = items_take bytes m.0 s m.1 in
-      at_pair (Behind (suc n) 5 bytes) x (variant.Rec m.0.0) m.0.1 m.2 (record {
-        text = length_bytes (length m.0.0) ++ flat_map canonical m.0.0;
-        takes = t.all;
-        bytes_are = canonical-Rec m.0.0;
-        held = fits-Rec m.0.0 ∙ and_both _ _ t.count t.held;
-        levels = more_level n _ (variant.Rec m.0.0) (levels-Rec m.0.0)
-            (greatest_within n m.0.0 t.levels);
-      })
-  behind_takes tag.Left bytes x s e =
-      let m = made_some variant.Left (part bytes) x e in
-      let t = takes bytes m.0 s m.1 in
-      at_pair (Behind (suc n) 6 bytes) x (variant.Left m.0.0) m.0.1 m.2 (record {
-        text = canonical m.0.0;
-        takes = t.takes;
-        bytes_are = canonical-Left m.0.0;
-        held = fits-Left m.0.0 ∙ t.held;
-        levels = more_level n _ (variant.Left m.0.0) (levels-Left m.0.0) t.levels;
-      })
-  behind_takes tag.Right bytes x s e =
-      let m = made_some variant.Right (part bytes) x e in
-      let t = takes bytes m.0 s m.1 in
-      at_pair (Behind (suc n) 7 bytes) x (variant.Right m.0.0) m.0.1 m.2 (record {
-        text = canonical m.0.0;
-        takes = t.takes;
-        bytes_are = canonical-Right m.0.0;
-        held = fits-Right m.0.0 ∙ t.held;
-        levels = more_level n _ (variant.Right m.0.0) (levels-Right m.0.0) t.levels;
-      })
-  behind_takes tag.Wide bytes x s e =
-      let m = made_some variant.Wide (wide_at bytes) x e in
-      let t = wide_takes bytes m.0 s m.1 in
-      at_pair (Behind (suc n) 8 bytes) x (variant.Wide m.0.0) m.0.1 m.2 (record {
-        text = wide_bytes m.0.0;
-        takes = t.0;
-        bytes_are = canonical-Wide m.0.0;
-        held = fits-Wide m.0.0 ∙ t.1;
-        levels = one_level n (variant.Wide m.0.0) (levels-Wide m.0.0);
-      })
+  behind_takes tag.Int bytes x s =
+      variant_takes variant.Int 1 int_bytes (int_at bytes) bytes x canonical-Int (λ y e.
+      let t = int_takes bytes y s e in
+      (t.0, fits-Int y.0 ∙ t.1, one_level n (variant.Int y.0) (levels-Int y.0)))
+  behind_takes tag.Bool bytes x s =
+      variant_takes variant.Bool 2 (λ b. truth_byte b ∷ []) (bool_at bytes) bytes x canonical-Bool
+      (λ y e. (
+        bool_takes bytes y s e,
+        fits-Bool y.0,
+        one_level n (variant.Bool y.0) (levels-Bool y.0),
+      ))
+  behind_takes tag.Text bytes x s =
+      variant_takes variant.Text 3 text_bytes (text_at bytes) bytes x canonical-Text (λ y e.
+      let t = text_takes bytes y s e in
+      (t.0, fits-Text y.0 ∙ t.1, one_level n (variant.Text y.0) (levels-Text y.0)))
+  behind_takes tag.List bytes x s =
+      variant_takes variant.List 4 items_bytes (items_at part bytes) bytes x canonical-List
+      (λ y e. let t = items_take bytes y s e in (
+        t.all,
+        fits-List y.0 ∙ and_both _ _ t.count t.held,
+        more_level n _ (variant.List y.0) (levels-List y.0) (greatest_within n y.0 t.levels),
+      ))
+  behind_takes tag.Rec bytes x s =
+      variant_takes variant.Rec 5 items_bytes (items_at part bytes) bytes x canonical-Rec
+      (λ y e. let t = items_take bytes y s e in (
+        t.all,
+        fits-Rec y.0 ∙ and_both _ _ t.count t.held,
+        more_level n _ (variant.Rec y.0) (levels-Rec y.0) (greatest_within n y.0 t.levels),
+      ))
+  behind_takes tag.Left bytes x s =
+      variant_takes variant.Left 6 canonical (part bytes) bytes x canonical-Left (λ y e.
+      let t = takes bytes y s e in
+      let levels = more_level n _ (variant.Left y.0) (levels-Left y.0) t.levels in
+      (t.takes, fits-Left y.0 ∙ t.held, levels))
+  behind_takes tag.Right bytes x s =
+      variant_takes variant.Right 7 canonical (part bytes) bytes x canonical-Right (λ y e.
+      let t = takes bytes y s e in
+      let levels = more_level n _ (variant.Right y.0) (levels-Right y.0) t.levels in
+      (t.takes, fits-Right y.0 ∙ t.held, levels))
+  behind_takes tag.Wide bytes x s =
+      variant_takes variant.Wide 8 wide_bytes (wide_at bytes) bytes x canonical-Wide (λ y e.
+      let t = wide_takes bytes y s e in
+      (t.0, fits-Wide y.0 ∙ t.1, one_level n (variant.Wide y.0) (levels-Wide y.0)))
 
 pub value_takes : (n : ℕ) (bytes : List ℕ) (x : Value × List ℕ) → Small bytes
     → value_at n bytes ≡ Some x → Read n bytes x.0 x.1

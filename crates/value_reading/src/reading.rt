@@ -53,17 +53,12 @@ fn value_of(alloc: Global, left: &mut Cursor<'_>, levels: u32) -> Result<Value, 
         return Err(ReadFault::NotOne);
     }
     let tag = left.tag()?;
-    after_tag(alloc, left, levels - 1, tag)
+    behind(alloc, left, levels - 1, tag)
 }
 
 // A value of this variant, whose parts have so many levels at most.
 #[cycle(values)]
-fn after_tag(
-    alloc: Global,
-    left: &mut Cursor<'_>,
-    levels: u32,
-    tag: Tag,
-) -> Result<Value, ReadFault>
+fn behind(alloc: Global, left: &mut Cursor<'_>, levels: u32, tag: Tag) -> Result<Value, ReadFault>
     ensures { ReadsFront (spec.behind (spec.value_at levels) tag) left.old left.new result }
 {
     match tag {

@@ -76,18 +76,12 @@ fn is_written(alloc: Global, it: Written) -> Result<bool, AllocError> {
     is_so(alloc, &value, it)
 }
 
-/// The place of the first value that is written otherwise.
-fn first_other(alloc: Global, table: &[Written]) -> Option<usize> {
-    for place in 0..table.len() {
-        if !matches!(is_written(alloc, table[place]), Ok(true)) {
-            return Some(place);
-        }
-    }
-    None
-}
-
 #[test]
 fn writes_and_parts_values(rt: HostRuntime) -> Result<(), Fail> {
-    assert_eq!(rt; first_other(rt.alloc(), &WRITTEN), None);
+    let alloc = rt.alloc();
+    let other = WRITTEN
+        .iter()
+        .position(|it| !matches!(is_written(alloc, *it), Ok(true)));
+    assert_eq!(rt; other, None);
     Ok(())
 }

@@ -22,18 +22,10 @@ static TEXTS: [(&[u8], Option<i64>); 16] = [
     (b"\xff", None),
 ];
 
-/// The place of the first text that is read otherwise.
-fn first_other(table: &[(&[u8], Option<i64>)]) -> Option<usize> {
-    for place in 0..table.len() {
-        let (text, wanted) = table[place];
-        if int_of_text(text) != wanted {
-            return Some(place);
-        }
-    }
-    None
-}
-
 #[test]
 fn reads_ints_and_nothing_else(rt: HostRuntime) {
-    assert_eq!(rt; first_other(&TEXTS), None);
+    assert_eq!(rt;
+        TEXTS.iter().position(|row| int_of_text(row.0) != row.1),
+        None
+    );
 }

@@ -62,35 +62,27 @@ fn is_read(alloc: Global, it: Read) -> Result<bool, ReadFault> {
     Ok(is_value(alloc, &read, it.1)?)
 }
 
-/// The place of the first bytes that are read otherwise.
-fn first_other(alloc: Global, table: &[Read]) -> Option<usize> {
-    for place in 0..table.len() {
-        if !matches!(is_read(alloc, table[place]), Ok(true)) {
-            return Some(place);
-        }
-    }
-    None
-}
-
-/// The place of the first bytes that are taken for a value.
-fn first_taken(alloc: Global, table: &[&[u8]]) -> Option<usize> {
-    for place in 0..table.len() {
-        if !matches!(read_canonical(alloc, table[place]), Err(ReadFault::NotOne)) {
-            return Some(place);
-        }
-    }
-    None
+fn is_taken(alloc: Global, bytes: &[u8]) -> bool {
+    !matches!(read_canonical(alloc, bytes), Err(ReadFault::NotOne))
 }
 
 #[test]
 fn reads_what_was_written(rt: HostRuntime) -> Result<(), Fail> {
-    assert_eq!(rt; first_other(rt.alloc(), &READ), None);
+    let alloc = rt.alloc();
+    let other = READ
+        .iter()
+        .position(|it| !matches!(is_read(alloc, *it), Ok(true)));
+    assert_eq!(rt; other, None);
     Ok(())
 }
 
 #[test]
 fn reads_nothing_else(rt: HostRuntime) -> Result<(), Fail> {
-    assert_eq!(rt; first_taken(rt.alloc(), &NOT_ONE), None);
+    let alloc = rt.alloc();
+    assert_eq!(rt;
+        NOT_ONE.iter().position(|bytes| is_taken(alloc, *bytes)),
+        None
+    );
     Ok(())
 }
 

@@ -123,18 +123,12 @@ fn are_so(alloc: Global, it: Pair) -> Result<bool, AllocError> {
     Ok(stands_so(alloc, &back, it)? && is_joined(alloc, it.0, &back, it.3)?)
 }
 
-/// The place of the first pair that comes out otherwise.
-fn first_other(alloc: Global, table: &[Pair]) -> Option<usize> {
-    for place in 0..table.len() {
-        if !matches!(are_so(alloc, table[place]), Ok(true)) {
-            return Some(place);
-        }
-    }
-    None
-}
-
 #[test]
 fn orders_and_joins_texts(rt: HostRuntime) -> Result<(), Fail> {
-    assert_eq!(rt; first_other(rt.alloc(), &PAIRS), None);
+    let alloc = rt.alloc();
+    let other = PAIRS
+        .iter()
+        .position(|pair| !matches!(are_so(alloc, *pair), Ok(true)));
+    assert_eq!(rt; other, None);
     Ok(())
 }

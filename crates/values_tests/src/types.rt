@@ -210,19 +210,11 @@ fn holds(alloc: Global, claim: Claim) -> bool {
     }
 }
 
-/// The place of the first claim that does not hold.
-fn first_wrong(alloc: Global, claims: &[Claim]) -> Option<usize> {
-    for place in 0..claims.len() {
-        if !holds(alloc, claims[place]) {
-            return Some(place);
-        }
-    }
-    None
-}
-
 #[test]
 fn types_of_values_and_their_columns(rt: HostRuntime) -> Result<(), Fail> {
-    assert_eq!(rt; first_wrong(rt.alloc(), &CLAIMS), None);
+    let alloc = rt.alloc();
+    let wrong = CLAIMS.iter().position(|claim| !holds(alloc, *claim));
+    assert_eq!(rt; wrong, None);
     assert!(rt; matches!(has_columns(rt.alloc(), &COLUMNS), Ok(true)));
     Ok(())
 }

@@ -43,12 +43,7 @@ name_of id =
 
 named_back : (name : Name) → name_of (id_of name) ≡ Some name
 named_back Script = refl
-named_back Workers = refl
-named_back Shards = refl
-named_back Partitions = refl
-named_back Tries = refl
-named_back Fail = refl
-named_back PlanFile = refl
+named_back _ = refl
 
 same_name : (m n : Name) → id_of m ≡ id_of n → m ≡ n
 same_name m n same =
@@ -95,12 +90,7 @@ find_past p (part ∷ seen) rest none =
 
 pub names_itself : (name : Name) → bytes_eq (id_of name) (id_of name) ≡ true
 names_itself Script = refl
-names_itself Workers = refl
-names_itself Shards = refl
-names_itself Partitions = refl
-names_itself Tries = refl
-names_itself Fail = refl
-names_itself PlanFile = refl
+names_itself _ = refl
 
 found_there : (part : Part) (parts seen : List Part) → list_any (is_named part.name) seen ≡ false
     → value_of part.name (seen ++ part ∷ parts) ≡ Some part.value

@@ -18,7 +18,7 @@ use Rattle.clap.specs.declared.parser.matches.ValueSource.{ValueSource}
 use Rattle.clap.specs.declared.parser.matches.ValueSource.TheVariants.{CommandLine}
 use Rattle.drill_text.proofs.DrillLemmas.{neither}
 use Rattle.drill_text.proofs.NumberLemmas.{both}
-use Rattle.word_laws.specs.Parts.{Fail, Name, Part, Partitions, PlanFile, Script, Shards, Tries, Workers, id_of, value_of}
+use Rattle.word_laws.specs.Parts.{Name, Part, Script, id_of, value_of}
 use Rattle.word_laws.proofs.StepLemmas.{rules, running, script, waiting_fault, with_part}
 
 -- ---- the rows of parts
@@ -86,12 +86,7 @@ used_rows : (name : Name) (value : Text) (rows : List Row)
     → settled_rows rules (Some (id_of name, value ∷ [])) rows
     ≡ rows ++ row (record { name = name; value = value }) ∷ []
 used_rows Script value rows none = new_row _ _ _ _ rows none
-used_rows Workers value rows none = new_row _ _ _ _ rows none
-used_rows Shards value rows none = new_row _ _ _ _ rows none
-used_rows Partitions value rows none = new_row _ _ _ _ rows none
-used_rows Tries value rows none = new_row _ _ _ _ rows none
-used_rows Fail value rows none = new_row _ _ _ _ rows none
-used_rows PlanFile value rows none = new_row _ _ _ _ rows none
+used_rows _ value rows none = new_row _ _ _ _ rows none
 
 no_repeat : (b : Bool) → b ≡ false
     → or_else (if b && not false then ArgumentConflict ∷ [] else []) [] ≡ []
@@ -105,12 +100,7 @@ use_passes : (name : Name) (value : Text) (rows : List Row) (skip : ℕ)
       skip = skip;
     }) ≡ []
 use_passes Script value rows skip none = no_repeat (has_row (id_of Script) rows) none
-use_passes Workers value rows skip none = no_repeat (has_row (id_of Workers) rows) none
-use_passes Shards value rows skip none = no_repeat (has_row (id_of Shards) rows) none
-use_passes Partitions value rows skip none = no_repeat (has_row (id_of Partitions) rows) none
-use_passes Tries value rows skip none = no_repeat (has_row (id_of Tries) rows) none
-use_passes Fail value rows skip none = no_repeat (has_row (id_of Fail) rows) none
-use_passes PlanFile value rows skip none = no_repeat (has_row (id_of PlanFile) rows) none
+use_passes name value rows skip none = no_repeat (has_row (id_of name) rows) none
 
 pub holds_more : (seen : List Part) (h : Held) (part : Part) → Holds seen h
     → list_any (is_named part.name) seen ≡ false

@@ -35,12 +35,7 @@ IsPlaced seen position = list_any (is_named Script) seen ≡ false → position 
 at_place : (name : Name) (seen : List Part) (position : ℕ) → IsPlaced seen position
     → list_any (is_named name) seen ≡ false → IsAtPlace name position
 at_place Script seen position placed new = placed new
-at_place Workers seen position placed new = tt
-at_place Shards seen position placed new = tt
-at_place Partitions seen position placed new = tt
-at_place Tries seen position placed new = tt
-at_place Fail seen position placed new = tt
-at_place PlanFile seen position placed new = tt
+at_place _ seen position placed new = tt
 
 placed_behind : (name : Name) (value : Text) (seen : List Part) (position : ℕ)
     → IsPlaced seen position
@@ -54,12 +49,7 @@ placed_behind name value seen position placed none = behind name
         × ((is_named Script (record { name = n; value = value }) || false) ≡ false)
         → place_behind n position ≡ 1
     behind Script apart = absurd (true≢false apart.1)
-    behind Workers apart = placed apart.0
-    behind Shards apart = placed apart.0
-    behind Partitions apart = placed apart.0
-    behind Tries apart = placed apart.0
-    behind Fail apart = placed apart.0
-    behind PlanFile apart = placed apart.0
+    behind _ apart = placed apart.0
 
 -- where the walk comes to over the words of parts, and the faults from there on
 record IsWalked (seen parts : List Part) (h : Held) (position : ℕ) : Type 0 where

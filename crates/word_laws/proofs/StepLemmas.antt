@@ -7,7 +7,7 @@ use Rattle.clap.specs.Faults.{settle_fault, turn_fault, walk_fault}
 use Rattle.clap.specs.Walk.{Held, Rule, Step, Text, Walk, after_step, is_pending, option, plain_word, pushed, settled, settled_rows, walked, word_met}
 use Rattle.clap.proofs.OnLiterals.{clap_on_literals}
 use Rattle.command_words.specs.Words.{dash, is_operand, run_app, script_rule}
-use Rattle.word_laws.specs.Parts.{Fail, Name, Partitions, PlanFile, Script, Shards, Tries, Workers, id_of, words_for}
+use Rattle.word_laws.specs.Parts.{Name, Script, id_of, words_for}
 use Rattle.word_laws.proofs.GrammarLemmas.{built_command}
 use Rattle.word_laws.proofs.OperandLemmas.{at_position, faults_from, is_false, last_fault, operand_turn, operand_walked}
 
@@ -92,23 +92,13 @@ name_walked : (name : Name) (h : Held) (position : ℕ) → IsOption name
     → walked rules [] (at_position h position) (named name) ≡ at_value name h position
 unfolding clap_on_literals
 name_walked Script h position is = absurd is
-name_walked Workers h position is = refl
-name_walked Shards h position is = refl
-name_walked Partitions h position is = refl
-name_walked Tries h position is = refl
-name_walked Fail h position is = refl
-name_walked PlanFile h position is = refl
+name_walked _ h position is = refl
 
 name_turn : (name : Name) (h : Held) (position : ℕ) → IsOption name
     → turn_fault running [] (at_position h position) (named name) ≡ waiting_fault h
 unfolding clap_on_literals
 name_turn Script h position is = absurd is
-name_turn Workers h position is = or_nothing (waiting_fault h)
-name_turn Shards h position is = or_nothing (waiting_fault h)
-name_turn Partitions h position is = or_nothing (waiting_fault h)
-name_turn Tries h position is = or_nothing (waiting_fault h)
-name_turn Fail h position is = or_nothing (waiting_fault h)
-name_turn PlanFile h position is = or_nothing (waiting_fault h)
+name_turn _ h position is = or_nothing (waiting_fault h)
 
 value_met : (c : List Rule) (id : Text) (h : Held) (position : ℕ) (word : Text)
     → is_operand word ≡ true
@@ -131,12 +121,7 @@ value_taken : (name : Name) (h : Held) (position : ℕ) (word : Text)
     (plain_word rules (option (id_of name)) word (at_value name h position).held).1
     ≡ at_position (with_part name word h) position
 value_taken Script h position word = refl
-value_taken Workers h position word = refl
-value_taken Shards h position word = refl
-value_taken Partitions h position word = refl
-value_taken Tries h position word = refl
-value_taken Fail h position word = refl
-value_taken PlanFile h position word = refl
+value_taken _ h position word = refl
 
 value_walked : (name : Name) (h : Held) (position : ℕ) (word : Text) → is_operand word ≡ true
     → walked rules [] (at_value name h position) word ≡ at_position (with_part name word h) position
@@ -186,18 +171,8 @@ part_faults Script h position value words at is none =
     ap (λ n. faults_from running (at_position h n) (value ∷ words)) at
     ∙ no_fault (at_position h 1) value words (script_turn h value is ∙ none)
     ∙ ap (λ (w : Walk). faults_from running w words) (script_walked h value is)
-part_faults Workers h position value words at is none =
-    option_part Workers h position value words tt is none
-part_faults Shards h position value words at is none =
-    option_part Shards h position value words tt is none
-part_faults Partitions h position value words at is none =
-    option_part Partitions h position value words tt is none
-part_faults Tries h position value words at is none =
-    option_part Tries h position value words tt is none
-part_faults Fail h position value words at is none =
-    option_part Fail h position value words tt is none
-part_faults PlanFile h position value words at is none =
-    option_part PlanFile h position value words tt is none
+part_faults name h position value words at is none =
+    option_part name h position value words tt is none
 
 -- the walk over the words of a part
 pub part_fold : (name : Name) (h : Held) (position : ℕ) (value : Text) (words : List Text)
@@ -208,12 +183,4 @@ pub part_fold : (name : Name) (h : Held) (position : ℕ) (value : Text) (words 
 part_fold Script h position value words at is =
     ap (λ n. fold (walked rules []) (at_position h n) (value ∷ words)) at
     ∙ ap (λ (w : Walk). fold (walked rules []) w words) (script_walked h value is)
-part_fold Workers h position value words at is =
-    option_fold Workers h position value words tt is
-part_fold Shards h position value words at is = option_fold Shards h position value words tt is
-part_fold Partitions h position value words at is =
-    option_fold Partitions h position value words tt is
-part_fold Tries h position value words at is = option_fold Tries h position value words tt is
-part_fold Fail h position value words at is = option_fold Fail h position value words tt is
-part_fold PlanFile h position value words at is =
-    option_fold PlanFile h position value words tt is
+part_fold name h position value words at is = option_fold name h position value words tt is

@@ -1,6 +1,6 @@
 -- Names in memory, as contracts see them: look-ups, one name more, and what stays as types are
 -- added.
-use Rattle.std.proofs.Common.{◌≡◌, ℕ, ◌<◌, Bool, true, false, cond, List, [], ◌∷◌, ◌++◌, length, map, Option, Some, None, refl, sym, ap, ◌∙◌, subst}
+use Rattle.std.proofs.Common.{◌≡◌, ℕ, ◌<◌, Bool, true, false, cond, List, [], ◌∷◌, ◌++◌, length, map, Option, Some, None, refl, sym, ap, ◌∙◌, subst, arith}
 use Rattle.std.specs.List.{All, AllByRecursion}
 use Rattle.std.specs.Option.{option_map}
 use Rattle.std.specs.Str.{bytes_eq}
@@ -69,6 +69,21 @@ same-map {X = X} {Y = Y} f g P same xs all = by-recursion xs (recursion_from_All
     by-recursion : (xs : List X) → AllByRecursion P xs → map f xs ≡ map g xs
     by-recursion [] h = refl
     by-recursion (x ∷ xs) h = λ i. same x h.0 i ∷ by-recursion xs h.1 i
+
+pub push-same : {X Y : Type 0} (f g : X → Y) (P : X → Type 0) → ((x : X) → P x → f x ≡ g x)
+    → (xs after : List X) (x : X) → after ≡ xs ++ x ∷ [] → All P xs
+    → map f after ≡ map g xs ++ f x ∷ []
+push-same f g P same xs after x put all =
+    ap (map f) put ∙ map_push f xs x ∙ ap (λ ys. ys ++ f x ∷ []) (same-map f g P same xs all)
+
+-- what has a type, and one more
+pub below-push : {X : Type 0} (type : X → ℕ) (old new : List Ty) → Extends old new
+    → (xs after : List X) (x : X) → after ≡ xs ++ x ∷ [] → All (λ y. type y < length old) xs
+    → type x < length new → All (λ y. type y < length new) after
+below-push type old new more xs after x put all in_ =
+    All-same (λ y. type y < length new) after (xs ++ x ∷ []) put
+    (All-push (λ y. type y < length new) xs x
+    (λ k d k_in. omega (arith, all k d k_in, more.longer)) in_)
 
 pub names-kept : (old new : List Ty) → Extends old new → (names : Named ℕ) → AreHeld old names
     → map (type_of new) names ≡ map (type_of old) names

@@ -1,7 +1,6 @@
 -- The equations of `written`, and a loop's step over the fields of a record.
-use Rattle.std.proofs.Common.{◌≡◌, ℕ, ◌+◌, ◌<◌, ◌≤◌, ◌⊎◌, inl, inr, not, List, [], ◌∷◌, ◌++◌, length, map, drop, get_or, Ok, refl, sym, ap, ◌∙◌, arith}
-use Rattle.std.proofs.lemmas.List.{drop_all, map_push}
-use Rattle.std.proofs.lemmas.List.Elements.{All-push, All-same}
+use Rattle.std.proofs.Common.{◌≡◌, ℕ, ◌+◌, ◌<◌, ◌≤◌, ◌⊎◌, inl, inr, not, List, [], ◌∷◌, ◌++◌, length, map, drop, get_or, Ok, refl, sym, ap, ◌∙◌}
+use Rattle.std.proofs.lemmas.List.{drop_all}
 use Rattle.flume_types.specs.declared.types.Ty.{Ty}
 use Rattle.flume_types.specs.declared.types.Ty.TheVariants as ty
 use Rattle.flume_types.specs.declared.types.Field.{Field}
@@ -16,7 +15,7 @@ use Rattle.written_types.specs.Answer.{Checked, ◌>>=◌, Fails, unless}
 use Rattle.written_types.specs.Named.{Named}
 use Rattle.written_types.specs.Written.{has_field, fields_behind, layer_written, written}
 use Rattle.written_types.proofs.FailsLemmas.{bind-same, Fails-first, Fails-same}
-use Rattle.written_types.proofs.NamedLemmas.{same-map}
+use Rattle.written_types.proofs.NamedLemmas.{push-same}
 
 -- ---- equations
 
@@ -67,12 +66,6 @@ written-fields line type names used_names types used_types known is names_is typ
     >>= λ fields. Ok (ty.Rec fields))
 
 -- ---- fields, one by one
-
-fields-kept : (old new : List Ty) → Extends old new → (parts : List Part)
-    → AreWithin (length old) parts → map (field_at new) parts ≡ map (field_at old) parts
-fields-kept old new more parts within =
-    same-map (field_at new) (field_at old) (λ (part : Part). part.ty < length old)
-    (λ part in_ i. record { name = part.name; ty = more.same part.ty in_ i }) parts within
 
 module _ (line : ℕ) (fields : List (Field Ty)) (names : List (List ℕ)) (types : List tree.Type)
     (known : Named Ty) (i : ℕ) where
@@ -135,23 +128,9 @@ module _ (line : ℕ) (fields : List (Field Ty)) (names : List (List ℕ)) (type
 
 -- ---- types more
 
-pub Extends-twice : (a b c : List Ty) → Extends a b → Extends b c → Extends a c
-Extends-twice a b c ab bc = record {
-  longer = omega (arith, ab.longer, bc.longer);
-  same = λ id in_. bc.same id (omega (arith, ab.longer)) ∙ ab.same id in_;
-}
-
 pub field-more : (old new : List Ty) → Extends old new → (parts after : List Part) (part : Part)
     → after ≡ parts ++ part ∷ [] → AreWithin (length old) parts
     → map (field_at new) after ≡ map (field_at old) parts ++ field_at new part ∷ []
-field-more old new more parts after part put within =
-    ap (map (field_at new)) put ∙ map_push (field_at new) parts part
-    ∙ ap (λ fields. fields ++ field_at new part ∷ []) (fields-kept old new more parts within)
-
-pub within-more : (old new : List Ty) → Extends old new → (parts after : List Part) (part : Part)
-    → after ≡ parts ++ part ∷ [] → AreWithin (length old) parts → part.ty < length new
-    → AreWithin (length new) after
-within-more old new more parts after part put within in_ =
-    All-same (λ part. part.ty < length new) after (parts ++ part ∷ []) put
-    (All-push (λ part. part.ty < length new) parts part
-    (λ k d k_in. omega (arith, within k d k_in, more.longer)) in_)
+field-more old new more =
+    push-same (field_at new) (field_at old) (λ (part : Part). part.ty < length old)
+    (λ part in_ i. record { name = part.name; ty = more.same part.ty in_ i })

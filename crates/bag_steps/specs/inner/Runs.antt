@@ -1,19 +1,16 @@
 -- Runs: members of one kind that stand ahead in a list; the keys that pairs begin with.
-use Rattle.std.specs.Prelude.{◌≡◌, ◌≢◌, ◌≤◌, ℕ, All, List, [], ◌∷◌, Option, Some, None, if◌then◌else◌, length, map, slice_get, take}
+use Rattle.std.specs.Prelude.{◌≡◌, ◌≢◌, ◌≤◌, ℕ, All, List, [], ◌∷◌, Option, Some, None, if◌then◌else◌, length, slice_get, take}
 use Rattle.std.specs.Ordering.{is_lt}
 use Rattle.flume_value.specs.declared.value.Value.{Value}
 use Rattle.flume_value.specs.Order.{value_cmp}
-use Rattle.keyed_steps.specs.of_bag_groups.Pairs.{key_of, pairs_of}
+use Rattle.keyed_steps.specs.of_bag_groups.Pairs.{key_of}
+pub use Rattle.keyed_steps.specs.of_bag_groups.Pairs.{held_by}
 
 -- f makes k of the first n values, and not of the next, where there is one
 pub record IsRun {A : Type 0} (f : Value → A) (k : A) (values : List Value) (n : ℕ) : Type 0 where
   pub within : n ≤ length values
   pub same : All (λ v. f v ≡ k) (take n values)
   pub ends : (v : Value) → slice_get values n ≡ Some v → f v ≢ k
-
--- the values of pairs, in order
-abbrev pub held_by : List Value → List Value
-held_by pairs = map (λ parts. parts.1) (pairs_of pairs)
 
 -- the key of the first pair, where there is one
 abbrev pub first_key : List Value → Option Value

@@ -1,31 +1,23 @@
 -- Whether a pair can be merged or sunk, as a test.
-use Rattle.std.specs.Prelude.{ℕ, nat_le, ◌&&◌, Bool, true, false, List, length, Option, Some, None}
+use Rattle.std.specs.Prelude.{ℕ, nat_le, ◌&&◌, Bool, true, false, List, length, Option, Some}
 use Rattle.exec_graph.specs.Meaning.{node_at, place}
 use Rattle.exec_graph.specs.Readers.{among, same_place}
 use Rattle.exec_graph.specs.Wellformed.{most_nodes}
 use Rattle.exec_graph.specs.declared.graph.Entry.{Entry}
 use Rattle.exec_graph.specs.declared.graph.Node.{Node}
-use Rattle.exec_graph.specs.declared.graph.Node.TheVariants.{Source, Flatten, Pdo, Gbk, Barrier}
+use Rattle.exec_graph.specs.declared.graph.Node.TheVariants.{Flatten, Pdo}
 use Rattle.sink_laws.specs.Chain.{ins_of}
 use Rattle.sink_laws.specs.Merging.{spliced}
 use Rattle.sink_laws.specs.declared.pair.Pair.{Pair}
 
 abbrev pub is_flatten : Option Node → Bool
-is_flatten None = false
-is_flatten (Some (Source r)) = false
 is_flatten (Some (Flatten ins)) = true
-is_flatten (Some (Pdo c f)) = false
-is_flatten (Some (Gbk c o l k)) = false
-is_flatten (Some (Barrier ins o l a)) = false
+is_flatten _ = false
 
 -- Whether it is a Pdo that reads the first output of n.
 abbrev pub calls_first : ℕ → Option Node → Bool
-calls_first n None = false
-calls_first n (Some (Source r)) = false
-calls_first n (Some (Flatten ins)) = false
 calls_first n (Some (Pdo c f)) = same_place (place n 0) c
-calls_first n (Some (Gbk c o l k)) = false
-calls_first n (Some (Barrier ins o l a)) = false
+calls_first n _ = false
 
 abbrev pub can_nest : List Entry → Pair → Bool
 can_nest es p =

@@ -5,7 +5,6 @@ use Rattle.flume_tokens.specs.declared.keyword.Keyword.TheVariants as keyword
 use Rattle.flume_tokens.specs.declared.sign.Sign.TheVariants as sign
 use Rattle.flume_tokens.specs.declared.token.Token.{Token}
 use Rattle.flume_tokens.specs.declared.token.TokenKind.{TokenKind}
-use Rattle.flume_tokens.specs.declared.token.TokenKind.TheVariants as kind
 use Rattle.flume_grammar.specs.declared.start.BodyStart.{BodyStart}
 use Rattle.flume_grammar.specs.declared.start.BodyStart.TheVariants as start
 use Rattle.flume_grammar.specs.declared.fault.ScriptKind.TheVariants.{Syntax, TooDeep}
@@ -14,8 +13,8 @@ use Rattle.flume_grammar.specs.declared.fault.Stop.TheVariants.{Fault}
 use Rattle.flume_grammar.specs.declared.tree.Expr.{Expr}
 use Rattle.flume_grammar.specs.declared.tree.Body.{Body}
 use Rattle.flume_grammar.specs.declared.tree.Body.TheVariants as tree
-use Rattle.flume_grammar.specs.inner.Out.{Out, give, bind, at, one, next, all_of}
-use Rattle.flume_grammar.specs.inner.Reading.{sign_at, keyword_at, name_at, is_at_keyword, numbered}
+use Rattle.flume_grammar.specs.inner.Out.{Out, give, bind, no_deeper, at, one, next, all_of}
+use Rattle.flume_grammar.specs.inner.Reading.{sign_at, keyword_at, name_at, is_at_keyword, of_keyword, numbered}
 use Rattle.flume_grammar.specs.inner.Expressions.{expression_within}
 use Rattle.flume_grammar.specs.Limits.{Limits, the_limits}
 
@@ -28,8 +27,7 @@ keyword_body keyword.Case = Some start.Case
 keyword_body _ = None
 
 abbrev pub body_of : TokenKind → Option BodyStart
-body_of (kind.Keyword k) = keyword_body k
-body_of _ = None
+body_of = of_keyword keyword_body
 
 abbrev pub begins_body : Option TokenKind → Bool
 begins_body (Some k) = is_some (body_of k)
@@ -125,9 +123,7 @@ module _ (limits : Limits) where
 
   -- a function's body is at most 32 deep
   abbrev pub whole_block : List Token → Out (List Body)
-  whole_block ts =
-      bind (block_within limits.depth ts)
-      (λ b us. if nat_le b.1 limits.depth then give b.0 us else Err (Fault None TooDeep))
+  whole_block ts = bind (block_within limits.depth ts) (no_deeper limits.depth)
 
 -- the blocks of a statement that may have that depth
 abbrev pub block_below : ℕ → List Token → Out Block

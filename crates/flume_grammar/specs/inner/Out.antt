@@ -1,9 +1,9 @@
 -- What a parser of tokens gives: what it read and the tokens that are left, or where it stopped.
-use Rattle.std.specs.Prelude.{ℕ, zero, suc, length, List, [], ◌∷◌, Bool, if◌then◌else◌, Option, Some, None, Result, Ok, Err}
+use Rattle.std.specs.Prelude.{ℕ, zero, suc, nat_le, length, List, [], ◌∷◌, Bool, if◌then◌else◌, Option, Some, None, Result, Ok, Err}
 use Rattle.flume_tokens.specs.declared.token.Token.{Token}
 use Rattle.flume_tokens.specs.declared.token.TokenKind.{TokenKind}
 use Rattle.flume_grammar.specs.declared.fault.ScriptKind.{ScriptKind}
-use Rattle.flume_grammar.specs.declared.fault.ScriptKind.TheVariants.{Syntax}
+use Rattle.flume_grammar.specs.declared.fault.ScriptKind.TheVariants.{Syntax, TooDeep}
 use Rattle.flume_grammar.specs.declared.fault.Stop.{Stop}
 use Rattle.flume_grammar.specs.declared.fault.Stop.TheVariants.{Fault}
 
@@ -17,6 +17,10 @@ give a ts = Ok (a, ts)
 abbrev pub bind : {A B : Type 0} → Out A → (A → List Token → Out B) → Out B
 bind (Ok x) f = f x.0 x.1
 bind (Err e) f = Err e
+
+-- what was read, if it is no deeper
+abbrev pub no_deeper : {A : Type 0} → ℕ → A × ℕ → List Token → Out A
+no_deeper limit x ts = if nat_le x.1 limit then give x.0 ts else Err (Fault None TooDeep)
 
 -- the fault at a token
 abbrev pub at : Token → ScriptKind → Stop

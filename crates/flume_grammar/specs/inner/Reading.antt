@@ -52,6 +52,11 @@ abbrev pub or_syntax : {A : Type 0} → Token → Option A → Result A Stop
 or_syntax t (Some a) = Ok a
 or_syntax t None = Err (at t Syntax)
 
+-- what the token begins, if it is a keyword
+abbrev pub of_keyword : {A : Type 0} → (Keyword → Option A) → TokenKind → Option A
+of_keyword f (kind.Keyword k) = f k
+of_keyword f _ = None
+
 abbrev pub name_at : Token → Result (List ℕ) Stop
 name_at t = or_syntax t (name_of t.kind)
 

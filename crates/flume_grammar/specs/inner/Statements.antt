@@ -4,8 +4,6 @@ use Rattle.flume_tokens.specs.declared.keyword.Keyword.{Keyword}
 use Rattle.flume_tokens.specs.declared.keyword.Keyword.TheVariants as keyword
 use Rattle.flume_tokens.specs.declared.sign.Sign.TheVariants as sign
 use Rattle.flume_tokens.specs.declared.token.Token.{Token}
-use Rattle.flume_tokens.specs.declared.token.TokenKind.{TokenKind}
-use Rattle.flume_tokens.specs.declared.token.TokenKind.TheVariants as kind
 use Rattle.flume_grammar.specs.declared.fault.ScriptKind.TheVariants.{Syntax}
 use Rattle.flume_grammar.specs.declared.fault.Stop.{Stop}
 use Rattle.flume_grammar.specs.declared.start.OperationStart.{OperationStart}
@@ -26,7 +24,7 @@ use Rattle.flume_grammar.specs.declared.tree.Form.{Form}
 use Rattle.flume_grammar.specs.declared.tree.Form.TheVariants as form
 use Rattle.flume_grammar.specs.declared.tree.Statement.{Statement}
 use Rattle.flume_grammar.specs.inner.Out.{Out, give, bind, at, one, next, all_of}
-use Rattle.flume_grammar.specs.inner.Reading.{sign_at, keyword_at, is_keyword, is_at_keyword, name_at, number_at, text_at, comma_at, or_syntax, numbered}
+use Rattle.flume_grammar.specs.inner.Reading.{sign_at, keyword_at, is_keyword, is_at_keyword, name_at, number_at, text_at, comma_at, or_syntax, of_keyword, numbered}
 use Rattle.flume_grammar.specs.Parts.{Tree}
 use Rattle.flume_grammar.specs.inner.Types.{at_comma, whole_type}
 use Rattle.flume_grammar.specs.inner.Bodies.{whole_block}
@@ -45,10 +43,6 @@ keyword_operation keyword.Top = Some begin.Top
 keyword_operation keyword.Combineall = Some begin.CombineAll
 keyword_operation keyword.Operate = Some begin.Operate
 keyword_operation _ = None
-
-abbrev pub of_keyword : {A : Type 0} → (Keyword → Option A) → TokenKind → Option A
-of_keyword f (kind.Keyword k) = f k
-of_keyword f _ = None
 
 abbrev pub operation_start : Token → Result OperationStart Stop
 operation_start t = or_syntax t (of_keyword keyword_operation t.kind)

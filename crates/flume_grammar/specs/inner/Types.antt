@@ -1,5 +1,5 @@
 -- Types as they are written.
-use Rattle.std.specs.Prelude.{ℕ, ◌≤◌, zero, suc, ◌+◌, ◌-◌, max, length, nat_lt, nat_le, List, Bool, None, if◌then◌else◌, Result, Ok, Err}
+use Rattle.std.specs.Prelude.{ℕ, ◌≤◌, zero, suc, ◌+◌, ◌-◌, max, length, nat_lt, List, Bool, None, if◌then◌else◌, Result, Ok, Err}
 use Rattle.flume_tokens.specs.declared.keyword.Keyword.{Keyword}
 use Rattle.flume_tokens.specs.declared.keyword.Keyword.TheVariants as keyword
 use Rattle.flume_tokens.specs.declared.sign.Sign.TheVariants as sign
@@ -13,7 +13,7 @@ use Rattle.flume_grammar.specs.declared.tree.Type.TheVariants as tree
 use Rattle.flume_grammar.specs.declared.parts.Parts.{Parts}
 use Rattle.flume_grammar.specs.declared.start.TypeStart.{TypeStart}
 use Rattle.flume_grammar.specs.declared.start.TypeStart.TheVariants as start
-use Rattle.flume_grammar.specs.inner.Out.{Out, give, bind, at, one, next, all_of}
+use Rattle.flume_grammar.specs.inner.Out.{Out, give, bind, no_deeper, at, one, next, all_of}
 use Rattle.flume_grammar.specs.inner.Reading.{sign_at, word_at, comma_at, is_at_sign}
 use Rattle.flume_grammar.specs.Limits.{Limits, the_limits}
 use Rattle.flume_grammar.specs.Parts.{Tree, none, with_part}
@@ -100,9 +100,7 @@ module _ (limits : Limits) where
 
   -- a type as it is written is at most 32 deep
   abbrev pub whole_type : List Token → Out Tree
-  whole_type ts =
-      bind (type_within limits.depth ts)
-      (λ x us. if nat_le x.1 limits.depth then give x.0 us else Err (Fault None TooDeep))
+  whole_type ts = bind (type_within limits.depth ts) (no_deeper limits.depth)
 
 -- the parts of a type that may have that depth
 abbrev pub type_below : ℕ → Inner

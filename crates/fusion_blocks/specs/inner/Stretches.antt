@@ -8,7 +8,7 @@ use Rattle.exec_graph.specs.Readers.{among}
 use Rattle.exec_graph.specs.Places.{code}
 use Rattle.exec_graph.specs.declared.graph.Place.{Place}
 use Rattle.exec_graph.specs.declared.graph.Node.{Node}
-use Rattle.exec_graph.specs.declared.graph.Node.TheVariants.{Source, Flatten, Pdo, Gbk, Barrier}
+use Rattle.exec_graph.specs.declared.graph.Node.TheVariants.{Flatten, Pdo, Gbk}
 use Rattle.exec_graph.specs.declared.graph.Entry.{Entry}
 use Rattle.fusion_blocks.specs.Estimates.{AreEstimates}
 use Rattle.fusion_blocks.specs.Feeding.{is_grouped}
@@ -56,11 +56,9 @@ HasGrouped s es = (n : ℕ) → contains nat_eq s n ≡ is_grouped es (place n 0
 
 -- the collections by which an entry is a Gbk, or a Flatten of a Gbk
 abbrev pub fed : List Entry → ℕ → Node → List Place
-fed es n (Source r) = []
 fed es n (Flatten ins) = cond (is_grouped es (place n 0)) ins []
-fed es n (Pdo c f) = []
 fed es n (Gbk c o l k) = c ∷ []
-fed es n (Barrier ins o l a) = []
+fed es n _ = []
 
 -- ---- marks
 

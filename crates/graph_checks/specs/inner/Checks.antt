@@ -6,7 +6,7 @@ use Rattle.combine_table.specs.declared.comb.Comb.{Comb}
 use Rattle.combine_table.specs.contracts.comb.CombPartialEq.TheImpl as combs
 use Rattle.exec_graph.specs.declared.graph.Place.{Place}
 use Rattle.exec_graph.specs.declared.graph.Node.{Node}
-use Rattle.exec_graph.specs.declared.graph.Node.TheVariants.{Source, Flatten, Pdo, Gbk, Barrier}
+use Rattle.exec_graph.specs.declared.graph.Node.TheVariants.{Flatten, Pdo, Gbk}
 use Rattle.exec_graph.specs.declared.graph.Entry.{Entry}
 use Rattle.exec_graph.specs.declared.graph.Graph.{Graph}
 use Rattle.exec_graph.specs.declared.spots.Spot.{Spot}
@@ -21,11 +21,8 @@ use Rattle.exec_graph.specs.Spots.{spots}
 
 -- ---- flattens
 abbrev pub flatten_ok : Node → Bool
-flatten_ok (Source r) = true
 flatten_ok (Flatten ins) = nat_lt 0 (length ins) && not (nat_lt most_nodes (length ins))
-flatten_ok (Pdo c f) = true
-flatten_ok (Gbk c o l k) = true
-flatten_ok (Barrier ins o l a) = true
+flatten_ok _ = true
 
 -- ---- forests
 abbrev pub is_next : ℕ → Option ℕ → Bool
@@ -46,11 +43,8 @@ abbrev pub all_read : Graph → ℕ → List Spot → Bool
 all_read g n ss = list_all (λ s. out_read g n s.out) ss
 
 abbrev pub forest_ok : Graph → ℕ → Node → Bool
-forest_ok g n (Source r) = true
-forest_ok g n (Flatten ins) = true
 forest_ok g n (Pdo c f) = in_order 0 (spots f) && all_read g n (spots f)
-forest_ok g n (Gbk c o l k) = true
-forest_ok g n (Barrier ins o l a) = true
+forest_ok g n _ = true
 
 -- ---- lifted groups
 
@@ -71,16 +65,10 @@ HasCallers m f = (c : Place) → c.out < 2 ^ 32 → get nat_eq m (code c) ≡ f 
 
 -- whether the only caller's only root combines like that
 abbrev pub called_by : Comb → Option Callers → Bool
-called_by k None = false
-called_by k (Some Several) = false
-called_by k (Some (One None)) = false
 called_by k (Some (One (Some root))) = (combs.ghosts).eq root k
+called_by k _ = false
 
 abbrev pub lifted_ok : Graph → ℕ → Node → Bool
-lifted_ok g n (Source r) = true
-lifted_ok g n (Flatten ins) = true
-lifted_ok g n (Pdo c f) = true
-lifted_ok g n (Gbk c o l None) = true
 lifted_ok g n (Gbk c o l (Some k)) =
     not (is_held g (place n 0)) && called_by k (callers_from None g.nodes (place n 0))
-lifted_ok g n (Barrier ins o l a) = true
+lifted_ok g n _ = true

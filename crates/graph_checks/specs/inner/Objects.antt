@@ -6,7 +6,7 @@ use Rattle.exec_graph.specs.Objects.{takes_such}
 use Rattle.exec_graph.specs.Wellformed.{is_object}
 use Rattle.exec_graph.specs.declared.graph.Place.{Place}
 use Rattle.exec_graph.specs.declared.graph.Node.{Node}
-use Rattle.exec_graph.specs.declared.graph.Node.TheVariants.{Source, Flatten, Pdo, Gbk, Barrier}
+use Rattle.exec_graph.specs.declared.graph.Node.TheVariants.{Barrier}
 use Rattle.exec_graph.specs.declared.graph.Entry.{Entry}
 
 -- whether the node of that number gives an object
@@ -24,8 +24,5 @@ abbrev pub are_all : List Bool → Bool
 are_all bs = list_all (λ b. b) bs
 
 abbrev pub objects_in : List Entry → Node → Bool
-objects_in es (Source r) = true
-objects_in es (Flatten ins) = true
-objects_in es (Pdo c f) = true
-objects_in es (Gbk c o l k) = true
 objects_in es (Barrier ins o l a) = takes_such a (map (is_object_in es) ins)
+objects_in es _ = true

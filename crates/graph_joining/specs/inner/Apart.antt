@@ -14,6 +14,10 @@ apart_place p q n c =
 abbrev pub place_by : Apart → Place → Place
 place_by a c = apart_place a.keeper a.other a.number c
 
+-- the number that is of no node then
+abbrev pub gone_by : Apart → ℕ
+gone_by a = cond (a.number == a.keeper) a.other a.keeper
+
 -- then under the numbers of a table, and what is not in it under another
 abbrev pub rule_of : Placed → Place → Place
 rule_of m c =

@@ -4,6 +4,11 @@ use Rattle.std.specs.List.{flat_map}
 use Rattle.graph_laws.specs.of_exec_graph.Forests.{Branch, Twig, after, after_out, new_out, numbered}
 use Rattle.graph_walks.specs.Outs.{out_list, outs}
 
+-- each under the numbers behind those of the ones before it
+abbrev pub numbered_all : {X : Type 0} → (ℕ → X → X) → (ℕ → X → ℕ) → ℕ → List X → List X
+numbered_all one behind n [] = []
+numbered_all one behind n (x ∷ xs) = one n x ∷ numbered_all one behind (behind n x) xs
+
 -- ---- an output with the steps on it
 
 abbrev pub numbered_twig : ℕ → Twig → Twig
@@ -19,8 +24,7 @@ twig_outs t = out_list t.out ++ outs t.kids
 -- ---- outputs of a step
 
 abbrev pub numbered_twigs : ℕ → List Twig → List Twig
-numbered_twigs n [] = []
-numbered_twigs n (t ∷ ts) = numbered_twig n t ∷ numbered_twigs (after_twig n t) ts
+numbered_twigs n ts = numbered_all numbered_twig after_twig n ts
 
 abbrev pub after_twigs : ℕ → List Twig → ℕ
 after_twigs n [] = n
@@ -47,8 +51,7 @@ abbrev pub branch_outs : Branch → List ℕ
 branch_outs b = twig_outs b.first ++ twigs_outs b.more
 
 abbrev pub numbered_branches : ℕ → List Branch → List Branch
-numbered_branches n [] = []
-numbered_branches n (b ∷ bs) = numbered_branch n b ∷ numbered_branches (after_branch n b) bs
+numbered_branches n bs = numbered_all numbered_branch after_branch n bs
 
 abbrev pub branches_outs : List Branch → List ℕ
 branches_outs bs = flat_map branch_outs bs

@@ -8,7 +8,7 @@ use Rattle.exec_graph.specs.Meaning.{node_at, place}
 use Rattle.exec_graph.specs.Places.{code}
 use Rattle.exec_graph.specs.declared.graph.Place.{Place}
 use Rattle.exec_graph.specs.declared.graph.Node.{Node}
-use Rattle.exec_graph.specs.declared.graph.Node.TheVariants.{Source, Flatten, Pdo, Gbk, Barrier}
+use Rattle.exec_graph.specs.declared.graph.Node.TheVariants.{Pdo}
 use Rattle.exec_graph.specs.declared.graph.Entry.{Entry}
 use Rattle.pardo_fuse.specs.Readers.{Cut}
 use Rattle.pardo_fuse.specs.Fusing.{forest_over, hanging, hung, kids_on, leads, step_in, with_numbers}
@@ -34,11 +34,8 @@ names_from h s (Grow l kids rest) =
     ++ names_from h (after (after_out s l.out) kids) rest)
 
 abbrev pub left_names : Cut → ℕ → Node → List Name
-left_names b n (Source r) = []
-left_names b n (Flatten ins) = []
 left_names b n (Pdo c f) = cond (leads b n c) (names_from n 0 (forest_over b c)) []
-left_names b n (Gbk c o l k) = []
-left_names b n (Barrier ins o l a) = []
+left_names b n _ = []
 
 abbrev pub all_names : Cut → List Name
 all_names b = flat_map (λ e. left_names b e.number e.node) b.graph.nodes
@@ -86,13 +83,10 @@ numbered_entry h = record { number = h.number; node = with_numbers h.node }
 
 -- the outputs of a forest that is left can be numbered
 abbrev pub LeadsShort : Cut → ℕ → Node → Type 0
-LeadsShort b n (Source r) = Unit {0}
-LeadsShort b n (Flatten ins) = Unit {0}
 LeadsShort b n (Pdo c f) =
     leads b n c ≡ true
     → labels (forest_over b c) < 2 ^ 32
-LeadsShort b n (Gbk c o l k) = Unit {0}
-LeadsShort b n (Barrier ins o l a) = Unit {0}
+LeadsShort b n _ = Unit {0}
 
 abbrev pub AllShort : Cut → List Entry → Type 0
 AllShort b es = AllByRecursion (λ e. LeadsShort b e.number e.node) es

@@ -13,7 +13,7 @@ use Rattle.flume_collection.specs.Traps.{IsLeast}
 use Rattle.flume_collection.specs.declared.trap.Trap.{Trap}
 use Rattle.flume_value.specs.declared.value.Value.{Value}
 use Rattle.outer_plans.specs.Plans.{IsNotTaken}
-use Rattle.outside.specs.Asked.{Asks, AsksFront}
+use Rattle.outside.specs.Asked.{Asks}
 use Rattle.outside.specs.Saves.{HasFiles}
 use Rattle.outside.specs.Says.{HasLine}
 use Rattle.outside.specs.Seen.{SeenScreen, SeenShelf, SeenSource}
@@ -27,10 +27,11 @@ use Rattle.run_texts.specs.Lines.{line_of}
 use Rattle.run_texts.specs.Texts.{size_lines}
 use Rattle.run_texts.specs.declared.status.Place.TheVariants.{File, Screen}
 use Rattle.run_texts.specs.declared.status.Status.{Status}
-use Rattle.run_texts.specs.declared.status.Status.TheVariants.{Done, GaveUp, WriteFault, WantOfMemory, InputRefused, NoFile, PlanRefused, ReadFault, TooLong}
+use Rattle.run_texts.specs.declared.status.Status.TheVariants.{Done, GaveUp, WriteFault, WantOfMemory, PlanRefused}
 use Rattle.script_program.specs.declared.made.Output.{Output}
 use Rattle.script_program.specs.Script.{Script}
 use Rattle.script_run.specs.Runs.{IsLostOf}
+use Rattle.script_loading.specs.Asks.{AsksToStop}
 use Rattle.script_loading.specs.Causes.{IsInputsCause}
 use Rattle.script_loading.specs.Loads.{AllHaveRows}
 use Rattle.run_course.specs.Answers.{FailsAtFile, GivesUp, HasText, IsCause, IsCutOff, IsFirstOfPlan, MayTell, name_at}
@@ -203,18 +204,13 @@ IsStopped words before after olds news (stop.Trapped trap) =
 
 -- ---- what is asked for
 
--- what was asked for of these files, by the answer to a command: all, or a front where the inputs
--- were not all read
+-- what was asked for of these files, by the answer to a command: all, or those up to the one that
+-- was not read
 module _ (tries : ℕ) (names : List (List ℕ)) (before after : SeenSource) where
   abbrev pub AsksWith : Status → Type 0
   AsksWith (GaveUp stage phase task) = Asks tries names before after
   AsksWith (PlanRefused step kind) = Asks tries names before after
-  AsksWith WantOfMemory = AsksFront tries names before after
-  AsksWith (NoFile name) = AsksFront tries names before after
-  AsksWith (TooLong name limit) = AsksFront tries names before after
-  AsksWith (ReadFault name) = AsksFront tries names before after
-  AsksWith (InputRefused name row column kind) = AsksFront tries names before after
-  AsksWith status = ⊥
+  AsksWith status = AsksToStop tries names before after status
 
   -- the same, by what comes of a command
   abbrev pub AsksUntil : {T : Type 0} → Result T Stop → Type 0

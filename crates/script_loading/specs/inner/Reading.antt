@@ -1,5 +1,5 @@
 -- What is read up to a node, and what a refusal is answered with.
-use Rattle.std.specs.Prelude.{◌≡◌, ℕ, List, [], ◌++◌, drop, if◌then◌else◌, Option, slice_get, ⊤}
+use Rattle.std.specs.Prelude.{◌≡◌, ℕ, List, [], ◌∷◌, ◌++◌, drop, if◌then◌else◌, Option, Some, slice_get, IsUtf8, ⊤}
 use Rattle.std.specs.List.{filter, flat_map}
 use Rattle.std.specs.Option.{option_map_or}
 use Rattle.csv_rows.specs.declared.fault.RowFault.{RowFault}
@@ -8,6 +8,9 @@ use Rattle.csv_rows.specs.declared.fault.RowFault.TheVariants as row_fault
 use Rattle.build_law.specs.of_direct_meaning.Inputs.{Wanted, inputs_of, wanted_by}
 use Rattle.flume_grammar.specs.declared.fault.ScriptFault.{ScriptFault}
 use Rattle.flume_grammar.specs.declared.fault.ScriptFault.TheVariants as script_fault
+use Rattle.flume_types.specs.Columns.{input_columns_of}
+use Rattle.flume_types.specs.declared.column.Column.{Column}
+use Rattle.flume_types.specs.declared.types.Ty.{Ty}
 use Rattle.flume_value.specs.declared.value.Value.{Value}
 use Rattle.outside.specs.Asked.{Asks}
 use Rattle.outside.specs.Seen.{SeenSource}
@@ -20,6 +23,7 @@ use Rattle.script_program.specs.Needed.{is_needed, numbered}
 use Rattle.script_program.specs.Script.{Node, Script}
 use Rattle.written_types.specs.Named.{Named}
 use Rattle.script_loading.specs.Accepted.{Refused}
+use Rattle.script_loading.specs.Causes.{IsInputCause}
 use Rattle.script_loading.specs.Loads.{AllHaveRows, file_names}
 
 -- why a program was not made of the bytes
@@ -45,12 +49,18 @@ inputs_from script number nodes =
     flat_map (λ it. wanted_by it.1.1.made it.1.1.type)
     (filter (λ it. is_needed script it.0) (numbered number nodes))
 
--- the inputs of the nodes below a number have these rows
-abbrev pub HasRead : Option (List NamedBytes) → Script → ℕ → List (List Value) → Type 0
-HasRead told script number rows =
+-- this holds of the inputs of the nodes below a number
+abbrev pub HoldsBelow : (List Wanted → Type 0) → Script → ℕ → Type 0
+HoldsBelow P script number =
     (done : List Wanted)
-    × (inputs_of script ≡ done ++ inputs_from script number (drop number script.nodes))
-    × AllHaveRows told done rows
+    × (inputs_of script ≡ done ++ inputs_from script number (drop number script.nodes)) × P done
+
+-- the source was asked for the files of these inputs, which have these rows
+abbrev pub AreRead : ℕ → SeenSource → SeenSource → List (List Value) → List Wanted → Type 0
+AreRead tries before after rows inputs =
+    AllHaveRows before.files inputs rows × Asks tries (file_names inputs) before after
+
+-- ---- one node
 
 -- the input that the node of that number is, where it is needed
 abbrev pub inputs_at : Script → ℕ → List Wanted
@@ -59,9 +69,23 @@ inputs_at script number =
     then option_map_or (λ it. wanted_by it.1.made it.1.type) (slice_get script.nodes number) []
     else []
 
--- the source was asked for the files of the inputs of the nodes below a number
-abbrev pub HasAsked : ℕ → Script → ℕ → SeenSource → SeenSource → Type 0
-HasAsked tries script number before after =
-    (done : List Wanted)
-    × (inputs_of script ≡ done ++ inputs_from script number (drop number script.nodes))
-    × Asks tries (file_names done) before after
+-- the node of that number is an input that is needed, with this file and these columns
+pub record IsNeededInput (script : Script) (number : ℕ) (file : List ℕ) (columns : List Column)
+    : Type 0 where
+  pub type : Ty
+  pub fits : input_columns_of type ≡ Some columns
+  pub wanted : inputs_at script number ≡ record { file = file; type = type } ∷ []
+  pub named : IsUtf8 file
+
+-- the node of that number is an input that is needed and has no rows, where the answer is this one
+abbrev pub StopsAt : ℕ → SeenSource → SeenSource → Script → ℕ → Status → Type 0
+StopsAt tries before after script number status =
+    (wanted : Wanted) × (inputs_at script number ≡ wanted ∷ [])
+    × IsInputCause tries before after wanted status
+
+-- behind these rows stand those of the node of that number, where it is an input that is needed
+abbrev pub AddsRows : Option (List NamedBytes) → Script → ℕ → List (List Value)
+    → List (List Value) → Type 0
+AddsRows told script number rows more =
+    (own : List (List Value)) × (more ≡ rows ++ own)
+    × AllHaveRows told (inputs_at script number) own

@@ -51,11 +51,7 @@ AreHeld known functions nodes = AreFunctions known functions × AreNodes known n
 
 -- a collection in memory that is kept
 abbrev pub held_saved : HeldNode → HeldNode
-held_saved held = record {
-  made = saved_as held.made;
-  ty = held.ty;
-  statement = held.statement;
-}
+held_saved held = record held { made = saved_as held.made }
 
 -- the collection in memory of that number, which is kept where the number is among those found
 abbrev pub held_saved_at : List ℕ → ℕ → List ℕ × HeldNode → List ℕ × HeldNode

@@ -1,8 +1,10 @@
-use Rattle.std.proofs.Common.{refl, arith}
+use Rattle.std.proofs.Common.{◌≡◌, arith}
+use Rattle.std.proofs.lemmas.Grind.{common_steps}
 use Rattle.std.proofs.lemmas.List.{take_rest}
+use Rattle.flume_value.proofs.BagLemmas.{bag_of-settled}
 use Rattle.bag_steps.specs.Counts.{counted}
 use Rattle.bag_steps.proofs.CountSteps.{count_begins, count_more, count_within, no_traps}
-use Rattle.bag_steps.proofs.GroupSteps.{nothing_left, settled_as, sorted_as}
+use Rattle.bag_steps.proofs.GroupSteps.{sorted_as}
 use Rattle.bag_steps.proofs.RowOrder.{counted-IsSorted}
 use Rattle.bag_steps.proofs.counts.count.Goals as goal
 
@@ -38,12 +40,8 @@ returns-clause-through c = no_traps c.args.bag.now (omega arith)
 
 pub returns-clause-ascending : goal.returns-clause-ascending
 returns-clause-ascending c =
-    sorted_as c.loop-at.pairs.items (counted c.args.bag.now)
-    (nothing_left counted c.args.bag.now c.loop-at.pairs.items c.loop-at.at refl
-    c.loop-at-test.false c.loop-at.invariant.all) (counted-IsSorted c.args.bag.now)
+    let all : c.loop-at.pairs.items ≡ counted c.args.bag.now = grind (arith, common_steps) in
+    sorted_as _ _ all (counted-IsSorted c.args.bag.now)
 
 pub returns-clause-bag : goal.returns-clause-bag
-returns-clause-bag c =
-    settled_as c.loop-at.pairs.items (counted c.args.bag.now)
-    (nothing_left counted c.args.bag.now c.loop-at.pairs.items c.loop-at.at refl
-    c.loop-at-test.false c.loop-at.invariant.all) (counted-IsSorted c.args.bag.now)
+returns-clause-bag c = bag_of-settled c.loop-at.pairs.items (returns-clause-ascending c)

@@ -1,6 +1,7 @@
 use Rattle.std.proofs.lemmas.List.{take_rest}
+use Rattle.flume_value.proofs.BagLemmas.{bag_of-settled}
 use Rattle.bag_steps.specs.Joins.{joined}
-use Rattle.bag_steps.proofs.GroupSteps.{cut_of_rest, settled_as, sorted_as}
+use Rattle.bag_steps.proofs.GroupSteps.{cut_of_rest, sorted_as}
 use Rattle.bag_steps.proofs.JoinSteps.{join_done, join_more, join_within}
 use Rattle.bag_steps.proofs.RowOrder.{joined-IsSorted}
 use Rattle.bag_steps.proofs.joins.join.Goals as goal
@@ -37,16 +38,8 @@ returns-clause-joined c =
 
 pub returns-clause-ascending : goal.returns-clause-ascending
 returns-clause-ascending c =
-    sorted_as c.loop-key.rows.items (joined c.args.left.now c.args.right.now)
-    (join_done c.args.left.now c.args.right.now _ _ c.loop-key.rows.items c.loop-key.i c.loop-key.j
-    c.requires.left_pairs c.requires.right_pairs (take_rest c.args.left.now c.loop-key.i)
-    (take_rest c.args.right.now c.loop-key.j) c.in_default.ensures c.loop-key.invariant.all)
+    sorted_as _ (joined c.args.left.now c.args.right.now) (returns-clause-joined c)
     (joined-IsSorted c.args.left.now c.args.right.now)
 
 pub returns-clause-bag : goal.returns-clause-bag
-returns-clause-bag c =
-    settled_as c.loop-key.rows.items (joined c.args.left.now c.args.right.now)
-    (join_done c.args.left.now c.args.right.now _ _ c.loop-key.rows.items c.loop-key.i c.loop-key.j
-    c.requires.left_pairs c.requires.right_pairs (take_rest c.args.left.now c.loop-key.i)
-    (take_rest c.args.right.now c.loop-key.j) c.in_default.ensures c.loop-key.invariant.all)
-    (joined-IsSorted c.args.left.now c.args.right.now)
+returns-clause-bag c = bag_of-settled c.loop-key.rows.items (returns-clause-ascending c)

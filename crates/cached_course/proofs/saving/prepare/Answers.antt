@@ -1,14 +1,8 @@
-use Rattle.std.proofs.Common.{ℕ, inl, inr, List, [], ◌∷◌, Option, None, map, refl, subst, ⊎_elim}
+use Rattle.std.proofs.Common.{inl, inr, None, map, refl, ⊎_elim}
 use Rattle.std.proofs.lemmas.Result.{IfErr-weaker, IfOk-weaker, err_from_is_err_and}
-use Rattle.crew.proofs.Accounts.{all_grew_not}
 use Rattle.kept_results.specs.Keyed.{keyed_nodes}
-use Rattle.kept_results.specs.of_direct_meaning.Inputs.{inputs_of}
-use Rattle.outside.specs.Asked.{Asks, AsksFront}
 use Rattle.outside.specs.Saves.{output_file}
-use Rattle.outside.specs.declared.file.File.{File}
 use Rattle.run_course.specs.Lent.{lent}
-use Rattle.run_course.specs.of_script_loading.Causes.{IsInputsCause, IsScriptCause}
-use Rattle.run_course.specs.of_script_loading.Loads.{AllHaveRows, file_names}
 use Rattle.run_course.proofs.AskLemmas.{script_for}
 use Rattle.run_course.proofs.HostLemmas.{others_as}
 use Rattle.command_words.specs.declared.words.Command.TheVariants.{Run}
@@ -17,10 +11,6 @@ use Rattle.cached_course.proofs.StopLemmas.{asks_here, prepared, stops}
 use Rattle.cached_course.proofs.saving.prepare.Goals as goal
 
 -- ---- the script is not there
-
-pub returns-in_err-script-clause-grew : goal.returns-in_err-script-clause-grew
-returns-in_err-script-clause-grew g c =
-    all_grew_not (map g.H.Host.account c.args.hosts.now)
 
 pub returns-in_err-script-clause-err : goal.returns-in_err-script-clause-err
 returns-in_err-script-clause-err g c =
@@ -33,10 +23,7 @@ returns-in_err-script-clause-err g c =
     (map g.H.Host.account c.args.hosts.now) (g.C.Cache.seen c.args.cache.now)
     (g.C.Cache.seen c.args.cache.now)
     c.args.settings.now c.args.name.now asks c.in_err-script.field-0.0
-    (subst (λ (n : ℕ). IsScriptCause n (g.R.Source.seen c.args.source.now)
-    (g.R.Source.seen c.keyed_script.new.source)
-    c.args.name.now c.in_err-script.field-0.0) c.tries-tries.ensures.value
-    c.in_err-script.ensures.err))
+    (rw c.tries-tries.ensures.value at c.in_err-script.ensures.err))
 
 pub returns-in_err-script-clause-asked : goal.returns-in_err-script-clause-asked
 returns-in_err-script-clause-asked g c =
@@ -46,22 +33,13 @@ returns-in_err-script-clause-asked g c =
     (λ words asks.
     script_for words (Run c.args.settings.now None) c.args.name.now
     (g.R.Source.seen c.args.source.now) (g.R.Source.seen c.keyed_script.new.source) _ asks
-    (subst (λ (n : ℕ). IsScriptCause n (g.R.Source.seen c.args.source.now)
-    (g.R.Source.seen c.keyed_script.new.source)
-    c.args.name.now c.in_err-script.field-0.0) c.tries-tries.ensures.value
-    c.in_err-script.ensures.err)
-    (subst (λ (n : ℕ). Asks n (c.args.name.now ∷ []) (g.R.Source.seen c.args.source.now)
-    (g.R.Source.seen c.keyed_script.new.source))
-    c.tries-tries.ensures.value c.in_err-script.ensures.asked))
+    (rw c.tries-tries.ensures.value at c.in_err-script.ensures.err)
+    (rw c.tries-tries.ensures.value at c.in_err-script.ensures.asked))
 
 pub returns-in_err-script-clause-asked_hosts : goal.returns-in_err-script-clause-asked_hosts
 returns-in_err-script-clause-asked_hosts g c = λ words asks. inl refl
 
 -- ---- its inputs have no rows
-
-pub returns-in_err-inputs-clause-grew : goal.returns-in_err-inputs-clause-grew
-returns-in_err-inputs-clause-grew g c =
-    all_grew_not (map g.H.Host.account c.args.hosts.now)
 
 pub returns-in_err-inputs-clause-err : goal.returns-in_err-inputs-clause-err
 returns-in_err-inputs-clause-err g c =
@@ -78,10 +56,7 @@ returns-in_err-inputs-clause-err g c =
     (is_loaded (g.R.Source.seen c.args.source.now).files c.args.name.now it.program.script
     it.outlines it.texts c.in_ok-script.ensures.ok)
     c.in_ok-script.ensures.files c.in_ok-script.ensures.later c.in_err-inputs.field-0.0
-    (subst (λ (n : ℕ). IsInputsCause n (g.R.Source.seen c.keyed_script.new.source)
-    (g.R.Source.seen c.keyed_inputs.new.source)
-    (inputs_of it.program.script) c.in_err-inputs.field-0.0) c.tries-tries.ensures.value
-    c.in_err-inputs.ensures.err))
+    (rw c.tries-tries.ensures.value at c.in_err-inputs.ensures.err))
 
 pub returns-in_err-inputs-clause-asked : goal.returns-in_err-inputs-clause-asked
 returns-in_err-inputs-clause-asked g c =
@@ -95,26 +70,14 @@ returns-in_err-inputs-clause-asked g c =
     c.args.settings.now c.args.name.now asks it.program.script
     (is_loaded (g.R.Source.seen c.args.source.now).files c.args.name.now it.program.script
     it.outlines it.texts c.in_ok-script.ensures.ok)
-    (subst (λ (n : ℕ). Asks n (c.args.name.now ∷ []) (g.R.Source.seen c.args.source.now)
-    (g.R.Source.seen c.keyed_script.new.source))
-    c.tries-tries.ensures.value c.in_ok-script.ensures.asked)
+    (rw c.tries-tries.ensures.value at c.in_ok-script.ensures.asked)
     c.in_err-inputs.field-0.0
-    (subst (λ (n : ℕ). IsInputsCause n (g.R.Source.seen c.keyed_script.new.source)
-    (g.R.Source.seen c.keyed_inputs.new.source)
-    (inputs_of it.program.script) c.in_err-inputs.field-0.0) c.tries-tries.ensures.value
-    c.in_err-inputs.ensures.err)
-    (subst (λ (n : ℕ). AsksFront n (file_names (inputs_of it.program.script))
-    (g.R.Source.seen c.keyed_script.new.source) (g.R.Source.seen c.keyed_inputs.new.source))
-    c.tries-tries.ensures.value c.in_err-inputs.ensures.asked_front))
+    (rw c.tries-tries.ensures.value at c.in_err-inputs.ensures.asked_until))
 
 pub returns-in_err-inputs-clause-asked_hosts : goal.returns-in_err-inputs-clause-asked_hosts
 returns-in_err-inputs-clause-asked_hosts g c = λ words asks. inl refl
 
 -- ---- no memory is found for what was kept
-
-pub returns-in_err-given-clause-grew : goal.returns-in_err-given-clause-grew
-returns-in_err-given-clause-grew g c =
-    all_grew_not (map g.H.Host.account c.args.hosts.now)
 
 pub returns-in_err-given-clause-err : goal.returns-in_err-given-clause-err
 returns-in_err-given-clause-err g c =
@@ -134,12 +97,8 @@ returns-in_err-given-clause-asked g c =
     c.args.settings.now c.args.name.now asks it.program.script
     (is_loaded (g.R.Source.seen c.args.source.now).files c.args.name.now it.program.script
     it.outlines it.texts c.in_ok-script.ensures.ok)
-    (subst (λ (n : ℕ). Asks n (c.args.name.now ∷ []) (g.R.Source.seen c.args.source.now)
-    (g.R.Source.seen c.keyed_script.new.source))
-    c.tries-tries.ensures.value c.in_ok-script.ensures.asked)
-    (subst (λ (n : ℕ). Asks n (file_names (inputs_of it.program.script))
-    (g.R.Source.seen c.keyed_script.new.source) (g.R.Source.seen c.keyed_inputs.new.source))
-    c.tries-tries.ensures.value c.in_ok-inputs.ensures.asked))
+    (rw c.tries-tries.ensures.value at c.in_ok-script.ensures.asked)
+    (rw c.tries-tries.ensures.value at c.in_ok-inputs.ensures.asked))
 
 pub returns-in_err-given-clause-asked_hosts : goal.returns-in_err-given-clause-asked_hosts
 returns-in_err-given-clause-asked_hosts g c = λ words asks. inl refl
@@ -164,8 +123,7 @@ returns-clause-ok g c =
     c.in_ok-inputs.ensures.loaded c.texts_short.ensures
     (rw c.as_program-held.ensures.is at c.names_short.ensures))
     inputs.rows
-    (subst (λ (t : Option (List File)). AllHaveRows t (inputs_of it.program.script) inputs.rows)
-    c.in_ok-script.ensures.files c.in_ok-inputs.ensures.ok)
+    (rw c.in_ok-script.ensures.files at c.in_ok-inputs.ensures.ok)
     c.in_ok-given.given c.in_ok-given.ensures.given
     (map output_file reused.written.outputs.items) reused.written.screen.items reused.kept.items
     run)
@@ -189,8 +147,7 @@ returns-clause-err g c =
     c.in_ok-inputs.ensures.loaded c.texts_short.ensures
     (rw c.as_program-held.ensures.is at c.names_short.ensures))
     inputs.rows
-    (subst (λ (t : Option (List File)). AllHaveRows t (inputs_of it.program.script) inputs.rows)
-    c.in_ok-script.ensures.files c.in_ok-inputs.ensures.ok)
+    (rw c.in_ok-script.ensures.files at c.in_ok-inputs.ensures.ok)
     c.in_ok-given.given c.in_ok-given.ensures.given why stop)
     c.run_given.ensures.stop
 
@@ -203,12 +160,8 @@ returns-clause-asked g c =
     c.args.settings.now c.args.name.now asks it.program.script
     (is_loaded (g.R.Source.seen c.args.source.now).files c.args.name.now it.program.script
     it.outlines it.texts c.in_ok-script.ensures.ok)
-    (subst (λ (n : ℕ). Asks n (c.args.name.now ∷ []) (g.R.Source.seen c.args.source.now)
-    (g.R.Source.seen c.keyed_script.new.source))
-    c.tries-tries.ensures.value c.in_ok-script.ensures.asked)
-    (subst (λ (n : ℕ). Asks n (file_names (inputs_of it.program.script))
-    (g.R.Source.seen c.keyed_script.new.source) (g.R.Source.seen c.keyed_inputs.new.source))
-    c.tries-tries.ensures.value c.in_ok-inputs.ensures.asked)
+    (rw c.tries-tries.ensures.value at c.in_ok-script.ensures.asked)
+    (rw c.tries-tries.ensures.value at c.in_ok-inputs.ensures.asked)
     c.in_ok-given.given (lent c.args.settings.now (map g.H.Host.account c.args.hosts.now))
     (lent c.args.settings.now (map g.H.Host.account c.run_given.new.hosts))
     c.run_given.result c.run_given.ensures.stop
@@ -237,9 +190,7 @@ returns-clause-asked_hosts g c =
           c.in_ok-inputs.ensures.loaded c.texts_short.ensures
           (rw c.as_program-held.ensures.is at c.names_short.ensures))
           inputs.rows
-          (subst
-          (λ (t : Option (List File)). AllHaveRows t (inputs_of it.program.script) inputs.rows)
-          c.in_ok-script.ensures.files c.in_ok-inputs.ensures.ok)
+          (rw c.in_ok-script.ensures.files at c.in_ok-inputs.ensures.ok)
           c.in_ok-given.given c.in_ok-given.ensures.given phases
           (others_as g.H.Host.account c.args.settings.now.workers
           c.args.hosts.now c.run_given.new.hosts c.run_given.ensures.hosts),

@@ -1,12 +1,7 @@
-use Rattle.std.proofs.Common.{inl, inr, map, refl, sym, ◌∙◌}
+use Rattle.std.proofs.Common.{inl, inr, refl, sym, ◌∙◌}
 use Rattle.std.proofs.lemmas.Result.{IfErr-weaker}
-use Rattle.crew.proofs.Accounts.{all_grew_not}
 use Rattle.run_course.proofs.of_build_law.SourceLists.{as_many_inputs}
 use Rattle.cached_course.proofs.saving.run_given.Goals as goal
-
-pub returns-in_err-shown-clause-grew : goal.returns-in_err-shown-clause-grew
-returns-in_err-shown-clause-grew g c =
-    all_grew_not (map g.H.Host.account c.args.hosts.now)
 
 pub returns-in_err-shown-clause-asked : goal.returns-in_err-shown-clause-asked
 returns-in_err-shown-clause-asked g c = inl refl

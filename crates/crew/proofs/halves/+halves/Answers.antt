@@ -1,12 +1,11 @@
-use Rattle.std.proofs.Common.{rules, map}
+use Rattle.std.proofs.Common.{◌++◌, rules, map}
 use Rattle.std.specs.Prelude.{IfOk}
 use Rattle.std.specs.List.{AllZip}
-use Rattle.std.proofs.lemmas.List.{map-append}
 use Rattle.outside.specs.Accounts.{Account}
 use Rattle.crew.specs.Hosts.{Grew}
-use Rattle.crew.specs.Workers.{Phased}
+use Rattle.crew.specs.Workers.{AllTook, Phased}
 use Rattle.crew.proofs.Accounts.{all_grew-append}
-use Rattle.crew.proofs.Joining.{phased_both, took_both}
+use Rattle.crew.proofs.Joining.{of_both, phased_both, took_both}
 use Rattle.crew.proofs.halves.+halves.Goals as goal
 
 pub both_halves-returns-clause-phased : goal.both_halves-returns-clause-phased
@@ -30,25 +29,18 @@ both_halves-returns-clause-phased g t c =
 
 pub work_all-returns-clause-grew : goal.work_all-returns-clause-grew
 work_all-returns-clause-grew g t c =
-    let f : g.row.H.Denot → Account = g.H.Host.account in
     let cut = c.split_at_mut-first_hosts in
-    let first = c.both_halves.new.first_hosts in
-    let last = c.both_halves.new.last_hosts in
-    rw (
-      cut.ensures.value,
-      map-append f cut.result.0.now cut.result.1.now,
-      map-append f first last,
-    ) (all_grew-append _ _ _ _ c.both_halves.ensures.first c.both_halves.ensures.last)
+    of_both g.H.Host.account (AllZip Grew) _ _ _ c.both_halves.new.first_hosts
+    c.both_halves.new.last_hosts cut.ensures.value
+    (all_grew-append _ _ _ _ c.both_halves.ensures.first c.both_halves.ensures.last)
 
 pub work_all-returns-clause-asked : goal.work_all-returns-clause-asked
 work_all-returns-clause-asked g t c =
-    let f : g.row.H.Denot → Account = g.H.Host.account in
     let cut = c.split_at_mut-first_hosts in
-    let first = c.both_halves.new.first_hosts in
-    let last = c.both_halves.new.last_hosts in
-    rw (
-      cut.ensures.value,
-      map-append f cut.result.0.now cut.result.1.now,
-      map-append f first last,
-    ) (took_both _ _ _ _ _ _ _ _ _ c.both_halves.ensures.first_asked
+    let passes = c.both_halves.new.first_passes ++ c.both_halves.new.last_passes in
+    of_both g.H.Host.account
+    (AllTook (g.T.Tasks.count_of c.args.tasks.now) c.args.phase.now
+    (g.T.Tasks.places c.args.tasks.now) passes) _ _ _ c.both_halves.new.first_hosts
+    c.both_halves.new.last_hosts cut.ensures.value
+    (took_both _ _ _ _ _ _ _ _ _ c.both_halves.ensures.first_asked
     c.both_halves.ensures.last_asked)

@@ -1,4 +1,5 @@
-use Rattle.std.proofs.Common.{inl, sym, ap, ◌∙◌, subst}
+use Rattle.std.proofs.Common.{sym, ap, ◌∙◌, subst}
+use Rattle.std.proofs.lemmas.Result.{err_from_is_err_and}
 use Rattle.claim_board.specs.Protocol.{PassState, winning, losing}
 use Rattle.claim_board.specs.Boards.{AreBefore}
 use Rattle.crew.proofs.Accounts.{grew_not}
@@ -40,7 +41,7 @@ returns-in-Ok-clause-turned g c =
     let wins = c.in-Ok.ensures.won in
     let won = wins.gained ∙ ap (λ (p : PassState). winning p wins.place d) saw.gained in
     let behind = subst (AreBefore wins.place) saw.gained wins.later in
-    rw (won, c.new.ensures)
+    rw won
     (turned_won _ _ _ _ saw.place wins.place _ _ _ c.in-Made.out _ _ _ n saw.later behind through
     undrilled value)
 
@@ -62,22 +63,6 @@ returns-in-Err-clause-turned g c =
     c.attempt-attempt.result c.in-Err.field-0 c.args.pass.now.state _ _ n saw.later behind through
     undrilled)
 
-pub returns-in-Some-clause-asked : goal.returns-in-Some-clause-asked
-returns-in-Some-clause-asked g c =
-    let t = returns-in-Some-clause-turned g c in (t.turn, t.took, inl t.cause)
-
-pub returns-in-Down-clause-asked : goal.returns-in-Down-clause-asked
-returns-in-Down-clause-asked g c =
-    let t = returns-in-Down-clause-turned g c in (t.turn, t.took, inl t.cause)
-
-pub returns-in-Ok-clause-asked : goal.returns-in-Ok-clause-asked
-returns-in-Ok-clause-asked g c =
-    let t = returns-in-Ok-clause-turned g c in (t.turn, t.took, inl t.cause)
-
-pub returns-in-Err-clause-asked : goal.returns-in-Err-clause-asked
-returns-in-Err-clause-asked g c =
-    let t = returns-in-Err-clause-turned g c in (t.turn, t.took, inl t.cause)
-
 pub returns-then-is_drilled-clause-turned : goal.returns-then-is_drilled-clause-turned
 returns-then-is_drilled-clause-turned g c =
     let r = c.requires in
@@ -89,15 +74,12 @@ returns-then-is_drilled-clause-turned g c =
     let saw = c.in-None.ensures.none in
     rw saw.gained (turned_drilled _ _ _ _ saw.place _ _ _ _ _ _ n saw.later through drilled)
 
-pub returns-then-is_drilled-clause-asked : goal.returns-then-is_drilled-clause-asked
-returns-then-is_drilled-clause-asked g c =
-    let t = returns-then-is_drilled-clause-turned g c in (t.turn, t.took, inl t.cause)
-
-pub returns-in_err-attempt-in-None-clause-asked : goal.returns-in_err-attempt-in-None-clause-asked
-returns-in_err-attempt-in-None-clause-asked g c =
+pub returns-in_err-attempt-in-None-clause-early : goal.returns-in_err-attempt-in-None-clause-early
+returns-in_err-attempt-in-None-clause-early g c =
     let r = c.requires in
     let n = names_of _ _ c.args.draw _ _ _ _ r.count r.tries r.some r.open c.task-task.ensures
     c.attempt-attempt.ensures in
     let early = rw (c.spot.ensures c.task-task.result) at c.in_err-attempt-in-None.ensures.early in
     let saw = c.in-None.ensures.none in
-    rw saw.gained (took_early _ _ _ saw.place _ _ _ _ _ _ n saw.later early)
+    let p = err_from_is_err_and c.from_residual.result c.from_residual.ensures.1 in
+    rw p.1 (rw saw.gained (took_early _ _ _ saw.place _ _ _ _ _ _ n saw.later early))

@@ -1,8 +1,8 @@
-use Rattle.std.proofs.Common.{◌≡◌, ◌<◌, ◌*◌, ℕ, ◌≤◌, refl, ap, ◌∙◌, subst}
+use Rattle.std.proofs.Common.{◌≡◌, ◌<◌, ◌*◌, ℕ, ◌≤◌, inl, refl, ap, ◌∙◌, subst}
 use Rattle.claim_board.specs.Protocol.{PassState, limit, drawn}
 use Rattle.claim_board.specs.Boards.{Pass}
 use Rattle.crew.proofs.Accounts.{grew_not, grew_on}
-use Rattle.crew.proofs.Working.{came_all, falls, worked_not, worked_more, worked_end, took_then}
+use Rattle.crew.proofs.Working.{came_all, falls, worked_not, worked_more, worked_end, took_drawn}
 use Rattle.crew.proofs.worker.work.Goals as goal
 
 pub draws-init : goal.draws-init
@@ -63,27 +63,18 @@ returns-in_err-add-in-Some-clause-grew g c =
 
 pub returns-in_err-won-in-Some-clause-asked : goal.returns-in_err-won-in-Some-clause-asked
 returns-in_err-won-in-Some-clause-asked g c =
-    let d = c.in-Some.ensures.some.1 in
-    let number = c.in-Some.draw.number in
-    let same : c.args.board.now.tasks * c.args.board.now.tries
-    ≡ g.T.Tasks.count_of c.args.tasks.now * c.args.phase.now.tries =
-    λ i. c.requires.count i * c.requires.tries i in
-    took_then _ _ _ _ c.args.pass.now.state c.draws.pass.state c.draw.new.pass.state
-    c.turn.new.pass.state _ _ _ c.draws.kept d.place number c.draws.invariant.worked d.later
-    (subst (λ (n : ℕ). number < n) same d.claimable.claimable.1)
-    (d.gained ∙ ap (λ (n : ℕ). drawn n c.draws.pass.state d.place number) same) c.turn.ensures.asked
+    took_drawn _ _ _ _ c.args.board.now c.args.pass.now.state c.draws.pass.state
+    c.draw.new.pass.state c.turn.new.pass.state _ _ _ c.draws.kept c.in-Some.draw
+    c.requires.count c.requires.tries c.in-Some.ensures.some.1 c.draws.invariant.worked
+    c.in_err-won-in-Some.ensures.early
 
 pub returns-in_err-add-in-Some-clause-asked : goal.returns-in_err-add-in-Some-clause-asked
 returns-in_err-add-in-Some-clause-asked g c =
-    let d = c.in-Some.ensures.some.1 in
-    let number = c.in-Some.draw.number in
-    let same : c.args.board.now.tasks * c.args.board.now.tries
-    ≡ g.T.Tasks.count_of c.args.tasks.now * c.args.phase.now.tries =
-    λ i. c.requires.count i * c.requires.tries i in
-    took_then _ _ _ _ c.args.pass.now.state c.draws.pass.state c.draw.new.pass.state
-    c.turn.new.pass.state _ _ _ c.draws.kept d.place number c.draws.invariant.worked d.later
-    (subst (λ (n : ℕ). number < n) same d.claimable.claimable.1)
-    (d.gained ∙ ap (λ (n : ℕ). drawn n c.draws.pass.state d.place number) same) c.turn.ensures.asked
+    let it = c.in_ok-won-in-Some.ensures.turned in
+    took_drawn _ _ _ _ c.args.board.now c.args.pass.now.state c.draws.pass.state
+    c.draw.new.pass.state c.turn.new.pass.state _ _ _ c.draws.kept c.in-Some.draw
+    c.requires.count c.requires.tries c.in-Some.ensures.some.1 c.draws.invariant.worked
+    (it.turn, it.took, inl it.cause)
 
 pub returns-in-None-clause-asked : goal.returns-in-None-clause-asked
 returns-in-None-clause-asked g c =

@@ -1,12 +1,12 @@
-use Rattle.std.proofs.Common.{ℕ, ◌+◌, ◌++◌, ◌∷◌, ◌∙◌, [], List, Some, ap, subst, sym}
+use Rattle.std.proofs.Common.{ℕ, ◌+◌, ◌++◌, ◌∷◌, ◌∙◌, [], List, Some, ap, false, refl, subst, sym}
 use Rattle.std.specs.List.{flat_map, list_any}
 use Rattle.std.specs.Vec.Iter.{into_iter_items}
 use Rattle.std.proofs.lemmas.Result.{IfOk-weaker}
 use Rattle.flume_value.specs.Bag.{bag_of}
 use Rattle.flume_collection.specs.declared.trap.Trap.{Trap}
 use Rattle.script_program.specs.declared.made.Made.TheVariants as made
-use Rattle.direct_meaning.proofs.ArmLemmas.{combine_goes, combine_read, count_goes, count_read, do_goes, do_read, flatten_goes, group_goes, group_read, input_goes, input_left, join_goes, left_read, right_read, saved_goes, saved_left, top_goes, top_read}
-use Rattle.direct_meaning.proofs.HereLemmas.{here_at}
+use Rattle.direct_meaning.proofs.ArmLemmas.{combine_goes, combine_read, count_goes, count_read, do_goes, do_read, flatten_goes, group_goes, group_read, join_goes, left_read, right_read, rows_go, top_goes, top_read}
+use Rattle.direct_meaning.proofs.HereLemmas.{here_at, rows_come}
 use Rattle.direct_meaning.proofs.ObjectArms.{beside_goes, beside_read, beside_typed, operate_goes, operate_read, operate_typed, whole_goes, whole_read, whole_suits}
 use Rattle.direct_meaning.proofs.ReadLemmas.{any_ascending, called_read, function_within, groups_read, pairs_read, table_ascending}
 use Rattle.direct_meaning.proofs.ResultLemmas.{if_all, if_both}
@@ -18,10 +18,10 @@ use Rattle.direct_meaning.proofs.node.make.Goals as goal
 
 pub rows-requires : goal.rows-requires
 rows-requires c =
-    input_left c.in-Input.file c.in-Input.columns
-    (here_at c.args.program.now.known.types c.node.result.now
-    (made.Input c.in-Input.file c.in-Input.columns) c.requires.well_formed c.requires.stands.1
-    c.requires.needed c.node.ensures.is c.in-Input.is)
+    let how = made.Input c.in-Input.file c.in-Input.columns in
+    let here = here_at c.args.program.now.known.types c.node.result.now how
+    c.requires.well_formed c.requires.stands.1 c.requires.needed c.node.ensures.is c.in-Input.is in
+    rows_come how here (record { type = here.node.entry.1.type; is_object = false }) refl
 
 pub returns-in-Input : goal.returns-in-Input
 returns-in-Input c rows stands =
@@ -30,16 +30,17 @@ returns-in-Input c rows stands =
     c.node.ensures.is c.in-Input.is in
     if_both c.rows.result _ _ _
     (λ kept members trapped.
-    input_goes c.in-Input.file c.in-Input.columns here members.0
-    (into_iter_items c.rows.new.inputs) members.1 kept members.2 trapped)
+    rows_go here members.0 (into_iter_items c.rows.new.inputs) members.1 refl refl kept members.2
+    trapped)
     c.rows.ensures.members c.rows.ensures.trapped
 
 pub rows-requires-in-Saved : goal.rows-requires-in-Saved
 rows-requires-in-Saved c =
-    saved_left c.in-Saved.is_object c.in-Saved.call
-    (here_at c.args.program.now.known.types c.node.result.now
-    (made.Saved c.in-Saved.is_object c.in-Saved.call) c.requires.well_formed c.requires.stands.1
-    c.requires.needed c.node.ensures.is c.in-Saved.is)
+    let how = made.Saved c.in-Saved.is_object c.in-Saved.call in
+    let here = here_at c.args.program.now.known.types c.node.result.now how
+    c.requires.well_formed c.requires.stands.1 c.requires.needed c.node.ensures.is c.in-Saved.is in
+    rows_come how here
+    (record { type = here.node.entry.1.type; is_object = c.in-Saved.is_object }) refl
 
 pub returns-in-Saved : goal.returns-in-Saved
 returns-in-Saved c rows stands =
@@ -48,8 +49,8 @@ returns-in-Saved c rows stands =
     c.requires.needed c.node.ensures.is c.in-Saved.is in
     if_both c.rows-in-Saved.result _ _ _
     (λ kept members trapped.
-    saved_goes c.in-Saved.is_object c.in-Saved.call here members.0
-    (into_iter_items c.rows-in-Saved.new.inputs) members.1 kept members.2 trapped)
+    rows_go here members.0 (into_iter_items c.rows-in-Saved.new.inputs) members.1 refl refl kept
+    members.2 trapped)
     c.rows-in-Saved.ensures.members c.rows-in-Saved.ensures.trapped
 
 pub kept_at-requires : goal.kept_at-requires

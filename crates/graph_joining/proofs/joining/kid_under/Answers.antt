@@ -1,53 +1,17 @@
-use Rattle.std.proofs.Common.{sym, subst}
-use Rattle.exec_graph.specs.Forests.{Forest, grown}
-use Rattle.exec_graph.specs.Meaning.{OutsDiffer}
+use Rattle.std.proofs.Common.{◌∙◌}
 use Rattle.exec_graph.proofs.Soundness.{IsSound-ok}
-use Rattle.graph_rewrites.specs.Rewrites.{forest_at}
-use Rattle.graph_joining.proofs.Steps.{kid_is, kid_stands, left_at}
-use Rattle.graph_joining.proofs.Together.{apart_far}
+use Rattle.graph_joining.proofs.Steps.{kid_is, kid_stands}
 use Rattle.graph_joining.proofs.joining.kid_under.Goals as goal
 
-pub take_apart-left-requires : goal.take_apart-left-requires
-take_apart-left-requires c =
-    (kid_stands c.args.graph c.args.keeper c.args.output c.args.reader c.input_in-input.result
-    (IsSound-ok c.args.graph c.requires.ok) c.requires.can c.input_in-input.ensures).differ.apart
-
-pub planted-requires : goal.planted-requires
-planted-requires c =
-    let s = kid_stands c.args.graph c.args.keeper c.args.output c.args.reader
-    c.input_in-input.result (IsSound-ok c.args.graph c.requires.ok) c.requires.can
-    c.input_in-input.ensures in
-    subst (λ (f : Forest). OutsDiffer f) (sym c.take_apart-left.ensures.stays) s.outs
-
-pub renewed-requires-clause-here : goal.renewed-requires-clause-here
-renewed-requires-clause-here c =
-    let p = c.args.keeper in
-    let q = c.args.reader in
-    let i = c.input_in-input.result in
-    let s = kid_stands c.args.graph p c.args.output q i (IsSound-ok c.args.graph c.requires.ok)
-    c.requires.can c.input_in-input.ensures in
-    left_at c.args.graph c.take_apart-left.result.graph p q i i (forest_at c.args.graph p) s.keeper
-    s.differ.apart c.take_apart-left.ensures.graph
-
-pub renewed-requires-clause-stays : goal.renewed-requires-clause-stays
-renewed-requires-clause-stays c =
-    let p = c.args.keeper in
-    let q = c.args.reader in
-    let i = c.input_in-input.result in
-    let s = kid_stands c.args.graph p c.args.output q i (IsSound-ok c.args.graph c.requires.ok)
-    c.requires.can c.input_in-input.ensures in
-    apart_far p q p i s.differ.own s.differ.away
+pub joined-requires-clause-stand : goal.joined-requires-clause-stand
+joined-requires-clause-stand c =
+    let k = c.args.kid in
+    kid_stands c.args.graph k.keeper k.output k.reader (IsSound-ok c.args.graph c.requires.ok)
+    c.requires.can
 
 pub returns : goal.returns
 returns c =
     let g = c.args.graph in
-    let p = c.args.keeper in
-    let k = c.args.output in
-    let q = c.args.reader in
-    let i = c.input_in-input.result in
-    let x = c.take_apart-left.result in
-    kid_is g x.graph c.in_ok-last.last p k q i (grown x.stays.items) (grown x.goes.items)
-    (grown c.in_ok-steps.steps.items)
-    (kid_stands g p k q i (IsSound-ok g c.requires.ok) c.requires.can c.input_in-input.ensures)
-    c.input_in-input.ensures c.take_apart-left.ensures.graph c.take_apart-left.ensures.stays
-    c.take_apart-left.ensures.goes c.in_ok-steps.ensures c.in_ok-last.ensures
+    let k = c.args.kid in
+    c.in_ok-under.ensures ∙ kid_is g k.keeper k.reader
+    (kid_stands g k.keeper k.output k.reader (IsSound-ok g c.requires.ok) c.requires.can) k.output

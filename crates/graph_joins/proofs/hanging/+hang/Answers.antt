@@ -1,7 +1,9 @@
-use Rattle.std.proofs.Common.{◌≡◌, List, map, rules, refl, sym, ap, subst, ◌∙◌}
-use Rattle.exec_graph.specs.Forests.{Branch, Forest, grown, label_at, limb, twigs}
+use Rattle.std.proofs.Common.{◌≡◌, ◌++◌, eqb, length, List, [], map, rules, inl, refl, sym, ap, subst, ◌∙◌}
+use Rattle.std.proofs.lemmas.Bool.{eqb-true}
+use Rattle.std.proofs.lemmas.List.{nil_from_length}
+use Rattle.exec_graph.specs.Forests.{Branch, grown, label_at, limb, twigs, with_out}
 use Rattle.exec_graph.specs.Twigs.{twig}
-use Rattle.graph_walks.proofs.Relabeling.{step_of, twig_of}
+use Rattle.graph_walks.proofs.Relabeling.{held, step_of, twig_of}
 use Rattle.graph_joins.specs.inner.Hangs.{Hangs}
 use Rattle.graph_joins.proofs.HangLemmas.{among_steps, among_twigs, on_first, on_kids, on_more, set_here, twigs_here}
 use Rattle.graph_joins.proofs.hanging.+hang.Goals as goal
@@ -9,14 +11,7 @@ use Rattle.graph_joins.proofs.hanging.+hang.Goals as goal
 pub hang_step-returns-then-index-eq0-clause-hangs :
     goal.hang_step-returns-then-index-eq0-clause-hangs
 hang_step-returns-then-index-eq0-clause-hangs t c = λ e f.
-    let a = c.step.inside in
-    let b : Branch = record {
-      origin = a.origin;
-      last = a.last;
-      does = a.does;
-      first = twig a.first;
-      more = map twig a.more.items;
-    } in
+    let b = held c.step.inside in
     let y = twig c.hang_output.new.one in
     subst (λ (x : Branch). Hangs c.args.output c.args.keep (grown c.args.others.now.items)
     (limb x f) (limb (step_of b y b.more) f)) c.step.view_is
@@ -25,26 +20,12 @@ hang_step-returns-then-index-eq0-clause-hangs t c = λ e f.
 
 pub hang_step-returns-then-index-eq0-clause-step : goal.hang_step-returns-then-index-eq0-clause-step
 hang_step-returns-then-index-eq0-clause-step t c = λ e.
-    let a = c.step.inside in
-    let b : Branch = record {
-      origin = a.origin;
-      last = a.last;
-      does = a.does;
-      first = twig a.first;
-      more = map twig a.more.items;
-    } in
+    let b = held c.step.inside in
     ap (λ x. step_of b x b.more) (c.in_ok-hung.ensures.one e) ∙ c.step.view_is
 
 pub hang_step-returns-clause-hangs : goal.hang_step-returns-clause-hangs
 hang_step-returns-clause-hangs t c = λ e f.
-    let a = c.step.inside in
-    let b : Branch = record {
-      origin = a.origin;
-      last = a.last;
-      does = a.does;
-      first = twig a.first;
-      more = map twig a.more.items;
-    } in
+    let b = held c.step.inside in
     let ts = map twig c.hang_outputs.new.outputs.items in
     subst (λ (x : Branch). Hangs c.args.output c.args.keep (grown c.args.others.now.items)
     (limb x f) (limb (step_of b b.first ts) f)) c.step.view_is
@@ -53,14 +34,7 @@ hang_step-returns-clause-hangs t c = λ e f.
 
 pub hang_step-returns-clause-step : goal.hang_step-returns-clause-step
 hang_step-returns-clause-step t c = λ e.
-    let a = c.step.inside in
-    let b : Branch = record {
-      origin = a.origin;
-      last = a.last;
-      does = a.does;
-      first = twig a.first;
-      more = map twig a.more.items;
-    } in
+    let b = held c.step.inside in
     ap (λ ts. step_of b b.first ts) (c.in_ok-hung-2.ensures.outputs e)
     ∙ c.step.view_is
 
@@ -82,11 +56,28 @@ hang_output-returns-clause-hangs t c = λ e s n f.
     (grown o.kids.items) (grown _) f
     (among_steps c.args.output c.args.keep (grown c.args.others.now.items) o.kids.items _
     c.index_mut.result.now c.hang_step.new.step (search rules) c.index_mut.ensures.value
-    (c.in_ok-hung-2.ensures.hangs e))
+    (c.in_ok-hung.ensures.hangs e))
 
 pub hang_output-returns-clause-one : goal.hang_output-returns-clause-one
 hang_output-returns-clause-one t c = λ e.
     let o = c.args.one.now in
     ap (λ (bs : List Branch). twig_of o.number (grown bs))
     (set_here o.kids.items _ c.index_mut.result.now c.hang_step.new.step (search rules)
-    c.index_mut.ensures.value (c.in_ok-hung-2.ensures.step e))
+    c.index_mut.ensures.value (c.in_ok-hung.ensures.step e))
+
+pub hang_output-returns-then-rest-eq0-clause-hangs
+    : goal.hang_output-returns-then-rest-eq0-clause-hangs
+hang_output-returns-then-rest-eq0-clause-hangs t c = λ e s n f.
+    let o = c.args.one.now in
+    let l = label_at s n (twig o) in
+    let none : o.kids.items ≡ [] = nil_from_length o.kids.items (eqb-true
+    (length o.kids.items) 0 (sym (c.is_empty.ensures ∙ ap (λ k. eqb k 0) o.kids.ok.0)
+    ∙ c.if-not-is_empty.false)) in
+    inl (
+      sym c.is_out.ensures ∙ c.if-not-is_out.false,
+      ap (λ (bs : List Branch). grown bs) none,
+      ap (λ out. with_out out l) c.kept_out-one.ensures,
+      ap (λ (bs : List Branch). grown bs) (c.in_ok-append.ensures.items
+          ∙ ap (λ (bs : List Branch). bs ++ c.args.others.now.items) none),
+      refl,
+    )

@@ -29,8 +29,8 @@ paired-requires-clause-keeper c = ap is_pdo c.requires.pair.can.keeper
 pub paired-requires-clause-other : goal.paired-requires-clause-other
 paired-requires-clause-other c = ap is_pdo c.requires.pair.can.other
 
-pub returns-clause-session : goal.returns-clause-session
-returns-clause-session c =
+pub returns : goal.returns
+returns c =
     let j = c.args.joins in
     let p = c.args.keeper in
     let q = c.args.other in
@@ -42,34 +42,12 @@ returns-clause-session c =
         ways = c.note_sibling.new.ways;
       };
     } in
-    let is : c.input-input.result ≡ input_at j.graph p = c.input-input.ensures in
-    pair_session j k p q c.requires.session c.requires.pair c.in_ok-taken.ensures
-    (λ v lt. c.in_ok-count_off.ensures v lt
-    ∙ ap (λ (d : Place). one_if (same_place v d) + count_in k.tables.counts v) is)
-    c.unlist.ensures
-
-pub returns-clause-can : goal.returns-clause-can
-returns-clause-can c =
-    let k : Joins = record {
-      graph = c.in_ok-taken.taken;
-      tables = record {
-        counts = c.count_off.new.counts;
-        lists = c.unlist.new.lists;
-        ways = c.note_sibling.new.ways;
-      };
-    } in
-    pair_can c.args.joins k c.args.keeper c.args.other c.requires.session c.requires.pair
-    c.in_ok-taken.ensures
-
-pub returns-clause-made : goal.returns-clause-made
-returns-clause-made c =
-    let k : Joins = record {
-      graph = c.in_ok-taken.taken;
-      tables = record {
-        counts = c.count_off.new.counts;
-        lists = c.unlist.new.lists;
-        ways = c.note_sibling.new.ways;
-      };
-    } in
-    pair_made c.args.joins k c.args.keeper c.args.other c.requires.session c.requires.pair
-    c.in_ok-taken.ensures
+    let is : c.input-input.result ≡ input_at j.graph p = c.input-input.ensures in record {
+      session = pair_session j k p q c.requires.session c.requires.pair c.in_ok-taken.ensures
+          (λ v lt. c.in_ok-count_off.ensures v lt
+          ∙ ap (λ (d : Place). one_if (same_place v d) + count_in k.tables.counts v) is)
+          c.unlist.ensures;
+      can = pair_can j k p q c.requires.session c.requires.pair c.in_ok-taken.ensures;
+      made = pair_made j k p q c.requires.session c.requires.pair c.in_ok-taken.ensures;
+      taken = c.in_ok-taken.ensures;
+    }

@@ -1,9 +1,13 @@
-use Rattle.std.proofs.Common.{List, sym, ap, ◌∙◌}
+use Rattle.std.proofs.Common.{List, sym, ap, subst, ◌∙◌}
 use Rattle.exec_graph.specs.Meaning.{node_at}
+use Rattle.exec_graph.specs.Wellformed.{Ascends}
 use Rattle.exec_graph.specs.declared.graph.Entry.{Entry}
 use Rattle.graph_rewriting.specs.inner.Tests.{is_gbk}
 use Rattle.graph_rewriting.proofs.Callers.{can_lift, lifted_is, no_comb, no_group}
 use Rattle.graph_rewriting.proofs.lifting.lift_at.Goals as goal
+
+pub is_group_at-requires : goal.is_group_at-requires
+is_group_at-requires c = subst Ascends (sym c.as_slice.ensures) c.requires
 
 pub returns-then-not-is_group_at : goal.returns-then-not-is_group_at
 returns-then-not-is_group_at c =

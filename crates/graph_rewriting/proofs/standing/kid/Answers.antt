@@ -11,7 +11,7 @@ use Rattle.graph_rewriting.proofs.standing.kid.Goals as goal
 pub with_kid-requires-clause-reads : goal.with_kid-requires-clause-reads
 with_kid-requires-clause-reads c =
     subst (λ (o : Option ℕ). IfSome o (λ n. IsReader c.in_ok-joins.field-0.joins.graph
-    c.args.keeper c.args.output c.args.reader n)) c.in-Some.is c.read_name.ensures
+    c.args.kid.keeper c.args.kid.output c.args.kid.reader n)) c.in-Some.is c.read_name.ensures.some
 
 pub plainly-requires : goal.plainly-requires
 plainly-requires c = subst IsGraphOk (sym c.in_ok-joins.ensures.graph) c.requires.ok
@@ -20,7 +20,7 @@ pub returns-in-None-clause-applied : goal.returns-in-None-clause-applied
 returns-in-None-clause-applied c =
     told c.plainly.result
     (with_marks (unnamed c.in_ok-joins.field-0.joins.graph) c.in_ok-joins.field-0.marks)
-    (blocked_of c.args.now) (Kid c.args.keeper c.args.output c.args.reader)
+    (blocked_of c.args.now) (Kid c.args.kid.keeper c.args.kid.output c.args.kid.reader)
     (under (blocked_of c.args.now) (unnamed c.in_ok-joins.field-0.joins.graph)
     c.in_ok-joins.field-0.marks c.in_ok-joins.ensures.graph c.in_ok-joins.ensures.marks)
     c.plainly.ensures.applied
@@ -30,5 +30,5 @@ returns-in_ok-next-in-Some-clause-applied c =
     let b = c.in_ok-joins.field-0 in
     let made = c.in_ok-next-in-Some in
     kid_made (blocked_of c.args.now) (unnamed b.joins.graph) (unnamed made.next.graph) b.marks
-    c.in_ok-joins.ensures.graph c.in_ok-joins.ensures.marks c.args.keeper c.args.output
-    c.args.reader made.ensures.can made.ensures.made
+    c.in_ok-joins.ensures.graph c.in_ok-joins.ensures.marks c.args.kid.keeper c.args.kid.output
+    c.args.kid.reader made.ensures.can made.ensures.made

@@ -19,11 +19,11 @@ returns-then-not-is_pair-clause-applied c =
     c.plainly.ensures.applied
 
 pub with_sibling-requires-clause-pair : goal.with_sibling-requires-clause-pair
-with_sibling-requires-clause-pair c = c.is_pair.ensures c.if-not-is_pair.false
+with_sibling-requires-clause-pair c = c.is_pair.ensures.0 c.if-not-is_pair.false
 
 pub returns-clause-applied : goal.returns-clause-applied
 returns-clause-applied c =
-    let pair = c.is_pair.ensures c.if-not-is_pair.false in
+    let pair = c.is_pair.ensures.0 c.if-not-is_pair.false in
     let b = c.in_ok-joins.field-0 in
     sibling_made (blocked_of c.args.now) (unnamed b.joins.graph) (unnamed c.in_ok-next.next.graph)
     b.marks c.in_ok-joins.ensures.graph c.in_ok-joins.ensures.marks c.args.keeper

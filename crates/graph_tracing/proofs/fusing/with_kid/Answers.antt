@@ -12,46 +12,28 @@ after_kid-requires-clause-can c =
     (ap (λ (l : List Entry). read_in l c.args.number) (sym c.as_slice.ensures)
     ∙ sym c.read_of.ensures ∙ c.in-Some.is)
 
-pub returns-in_ok-next-in-Some-clause-ok : goal.returns-in_ok-next-in-Some-clause-ok
-returns-in_ok-next-in-Some-clause-ok c =
-    let k = read_some c.args.kids.trace.graph c.args.number c.in-Some.read
-    (ap (λ (l : List Entry). read_in l c.args.number) (sym c.as_slice.ensures)
-    ∙ sym c.read_of.ensures ∙ c.in-Some.is) in
-    kid_ok c.args.kids.trace.graph c.in_ok-next-in-Some.next.trace.graph c.in-Some.read.node
-    c.in-Some.read.out c.args.number c.requires.ok k c.in_ok-next-in-Some.ensures.graph
-
-pub returns-in_ok-next-in-Some-clause-keeps : goal.returns-in_ok-next-in-Some-clause-keeps
-returns-in_ok-next-in-Some-clause-keeps c =
-    let k = read_some c.args.kids.trace.graph c.args.number c.in-Some.read
-    (ap (λ (l : List Entry). read_in l c.args.number) (sym c.as_slice.ensures)
-    ∙ sym c.read_of.ensures ∙ c.in-Some.is) in
-    keeps_kid c.args.kids.trace.graph c.in-Some.read.node c.in-Some.read.out c.args.number
-    (number_in c.args.kids.numbers) (number_in c.in_ok-next-in-Some.next.numbers) c.requires.ok
-    c.requires.keeps k c.in_ok-next-in-Some.ensures.numbers
-
-pub returns-in_ok-next-in-Some-clause-traced : goal.returns-in_ok-next-in-Some-clause-traced
-returns-in_ok-next-in-Some-clause-traced c =
-    let k = read_some c.args.kids.trace.graph c.args.number c.in-Some.read
-    (ap (λ (l : List Entry). read_in l c.args.number) (sym c.as_slice.ensures)
-    ∙ sym c.read_of.ensures ∙ c.in-Some.is) in
-    kid_goes c.args.kids.trace c.in_ok-next-in-Some.next.trace c.in-Some.read.node
-    c.in-Some.read.out c.args.number (number_in c.args.kids.numbers)
-    (number_in c.in_ok-next-in-Some.next.numbers) c.requires.ok c.requires.keeps k
-    c.in_ok-next-in-Some.ensures.numbers c.in_ok-next-in-Some.ensures.graph
-    c.in_ok-next-in-Some.ensures.rewrites
-
-pub returns-in_ok-next-in-Some-clause-whole : goal.returns-in_ok-next-in-Some-clause-whole
-returns-in_ok-next-in-Some-clause-whole c = λ m f ns all u.
-    let k = read_some c.args.kids.trace.graph c.args.number c.in-Some.read
-    (ap (λ (l : List Entry). read_in l c.args.number) (sym c.as_slice.ensures)
-    ∙ sym c.read_of.ensures ∙ c.in-Some.is) in
-    record {
-      gone = u.gone.1;
-      underway = kid_taken c.args.kids.trace c.in_ok-next-in-Some.next.trace m
-          c.in-Some.read.node c.in-Some.read.out c.args.number ns all
-          (number_in c.args.kids.numbers) (number_in c.in_ok-next-in-Some.next.numbers) f k
-          u.gone.0 c.in_ok-next-in-Some.ensures.numbers c.in_ok-next-in-Some.ensures.graph
-          c.in_ok-next-in-Some.ensures.rewrites u.underway;
+pub returns-in_ok-next-in-Some : goal.returns-in_ok-next-in-Some
+returns-in_ok-next-in-Some c =
+    let old = c.args.kids.trace in
+    let new = c.in_ok-next-in-Some.next.trace in
+    let read = c.in-Some.read in
+    let q = c.args.number in
+    let l = number_in c.args.kids.numbers in
+    let k = number_in c.in_ok-next-in-Some.next.numbers in
+    let is = c.in_ok-next-in-Some.ensures in
+    let can = read_some old.graph q read
+    (ap (λ (l : List Entry). read_in l q) (sym c.as_slice.ensures) ∙ sym c.read_of.ensures
+    ∙ c.in-Some.is) in record {
+      ok = kid_ok old.graph new.graph read.node read.out q c.requires.ok can is.graph;
+      keeps = keeps_kid old.graph read.node read.out q l k c.requires.ok c.requires.keeps can
+          is.numbers;
+      traced = kid_goes old new read.node read.out q l k c.requires.ok c.requires.keeps can
+          is.numbers is.graph is.rewrites;
+      whole = λ m f ns all u. record {
+        gone = u.gone.1;
+        underway = kid_taken old new m read.node read.out q ns all l k f can u.gone.0 is.numbers
+            is.graph is.rewrites u.underway;
+      };
     }
 
 pub returns-in-None-clause-whole : goal.returns-in-None-clause-whole

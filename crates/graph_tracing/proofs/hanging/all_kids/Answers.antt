@@ -1,5 +1,5 @@
-use Rattle.std.proofs.Common.{◌≡◌, ℕ, ◌+◌, List, ◌∷◌, drop, drop-cons, get_or, suc, ap, ◌∙◌, subst, arith}
-use Rattle.std.proofs.lemmas.List.{drop_all}
+use Rattle.std.proofs.Common.{ℕ, ◌+◌, List, drop, subst, arith}
+use Rattle.std.proofs.lemmas.List.{drop_all, drop_more}
 use Rattle.graph_tracing.specs.inner.Named.{trace_of}
 use Rattle.graph_tracing.specs.inner.Numbers.{number_in}
 use Rattle.graph_tracing.specs.inner.Waiting.{IsLeaving}
@@ -9,10 +9,7 @@ pub loop-number-preserved : goal.loop-number-preserved
 loop-number-preserved c =
     let ns : List ℕ = c.args.numbers.now in
     let i : ℕ = c.loop-number.number-index in
-    let n : ℕ = get_or ns i 0 in
-    let one : suc i ≡ i + 1 = omega arith in
-    let front : drop i ns ≡ n ∷ drop (i + 1) ns =
-    drop-cons ns i 0 c.loop-number-test.true ∙ ap (λ (j : ℕ). n ∷ drop j ns) one in
+    let front = drop_more ns i 0 c.loop-number-test.true in
     record {
       session = c.in_ok-kids.ensures.session;
       keeps = c.in_ok-kids.ensures.keeps;

@@ -1,4 +1,4 @@
-use Rattle.sink_laws.proofs.Weights.{total_weight}
+use Rattle.sink_weights.specs.Weights.{total_weight}
 use Rattle.flatten_sink.proofs.Turning.{IsOnWay}
 use Rattle.graph_tracing.specs.Traces.{GoesOn}
 use Rattle.graph_tracing.proofs.sinking.merged.Given as goal

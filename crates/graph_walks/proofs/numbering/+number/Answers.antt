@@ -1,9 +1,8 @@
-use Rattle.std.proofs.Common.{rules, List, ℕ, ◌++◌, length, map, ap, ap₂, ◌∙◌, arith, length-set}
+use Rattle.std.proofs.Common.{rules, List, ℕ, ◌++◌, length, ap, ap₂, ◌∙◌, arith, length-set}
 use Rattle.graph_laws.specs.of_exec_graph.Forests.{Branch, Twig}
-use Rattle.graph_laws.specs.of_exec_graph.Twigs.{twig}
 use Rattle.graph_walks.specs.inner.Numbering.{branch_outs, numbered_branch, numbered_twigs}
 use Rattle.graph_walks.proofs.Ends.{after_first, outs_behind, outs_end, steps_end, twig_numbered, twig_outs_end, twig_outs_told, twigs_end}
-use Rattle.graph_walks.proofs.Relabeling.{step_of}
+use Rattle.graph_walks.proofs.Relabeling.{held, step_of}
 use Rattle.graph_walks.proofs.Turns.{outs_turn, steps_turn, twig_outs_turn, twigs_turn}
 use Rattle.graph_walks.proofs.numbering.+number.Goals as goal
 
@@ -67,36 +66,18 @@ number_output-returns-clause-outs t c =
     (outs_end l.kids.items l.i (omega arith) l.outs.items _
     l.invariant.outs)
 
-pub number_step-returns-clause-step : goal.number_step-returns-clause-step
-number_step-returns-clause-step t c =
+pub number_step-returns : goal.number_step-returns
+number_step-returns t c =
     let before = c.args.outs.now.items in
-    let a = c.step.inside in
-    let b : Branch = record {
-      origin = a.origin;
-      last = a.last;
-      does = a.does;
-      first = twig a.first;
-      more = map twig a.more.items;
-    } in
-    ap₂ (λ (f : Twig) (ms : List Twig). step_of b f ms) c.in_ok-number_output.ensures.output
-    (c.in_ok-number_outputs.ensures.outputs
-    ∙ ap (λ (n : ℕ). numbered_twigs n b.more)
-    (after_first before c.number_output.new.outs.items b.first c.in_ok-number_output.ensures.outs))
-    ∙ ap (λ (x : Branch). numbered_branch (length before) x)
-    c.step.view_is
-
-pub number_step-returns-clause-outs : goal.number_step-returns-clause-outs
-number_step-returns-clause-outs t c =
-    let before = c.args.outs.now.items in
-    let a = c.step.inside in
-    let b : Branch = record {
-      origin = a.origin;
-      last = a.last;
-      does = a.does;
-      first = twig a.first;
-      more = map twig a.more.items;
-    } in
-    outs_behind before c.number_output.new.outs.items c.number_outputs.new.outs.items
-    b.first b.more
-    c.in_ok-number_output.ensures.outs c.in_ok-number_outputs.ensures.outs
-    ∙ ap (λ (x : Branch). before ++ branch_outs x) c.step.view_is
+    let first = c.number_output.new.outs.items in
+    let b = held c.step.inside in
+    let one = c.in_ok-number_output.ensures in
+    let rest = c.in_ok-number_outputs.ensures in record {
+      step = ap₂ (λ (f : Twig) (ms : List Twig). step_of b f ms) one.output
+          (rest.outputs
+          ∙ ap (λ (n : ℕ). numbered_twigs n b.more) (after_first before first b.first one.outs))
+          ∙ ap (λ (x : Branch). numbered_branch (length before) x) c.step.view_is;
+      outs = outs_behind before first c.number_outputs.new.outs.items b.first b.more one.outs
+          rest.outs
+          ∙ ap (λ (x : Branch). before ++ branch_outs x) c.step.view_is;
+    }

@@ -1,8 +1,9 @@
-use Rattle.std.proofs.Common.{◌≡◌, true, false, List, map, rules, refl, sym, ap, ◌∙◌, arith, length-set}
+use Rattle.std.proofs.Common.{◌≡◌, true, false, List, rules, refl, sym, ap, ◌∙◌, arith, length-set}
 use Rattle.graph_laws.specs.of_exec_graph.Forests.{Branch, grown}
 use Rattle.graph_laws.specs.of_exec_graph.Twigs.{twig}
 use Rattle.graph_walks.specs.inner.Plants.{on_branch, on_twig, put_branch, put_twig, put_twigs}
 use Rattle.graph_walks.proofs.PlantTurns.{no_all, no_next, none_all, none_next, on_found, one_found, step_found, step_next, step_off, step_on, steps_all, steps_found, steps_next, twig_on, twig_put, twigs_all, twigs_found, twigs_next}
+use Rattle.graph_walks.proofs.Relabeling.{held}
 use Rattle.graph_walks.proofs.planting.+put.Goals as goal
 
 pub put_output-loop-i-preserved : goal.put_output-loop-i-preserved
@@ -48,115 +49,64 @@ put_outputs-loop-i-preserved t c =
       left = search rules;
     }
 
-pub put_outputs-returns-then-branch-clause-found
-    : goal.put_outputs-returns-then-branch-clause-found
-put_outputs-returns-then-branch-clause-found t c =
+pub put_outputs-returns-then-branch : goal.put_outputs-returns-then-branch
+put_outputs-returns-then-branch t c =
     let l = c.loop-i in
     let j = c.args.output in
     let k = c.args.keep in
     let g = grown c.args.others.now.items in
+    let os = l.outputs.items in
     let o = c.index_mut.result.now in
-    let e = c.in_ok-put_output.ensures.output
-    ∙ ap (λ (os : List Branch). put_twig j k (grown os) (twig o)) l.invariant.others in
-    on_found j k g l.outputs.items l.i o c.put_output.new.one (search rules)
-    c.index_mut.ensures.value e
-    (sym c.in_ok-put_output.ensures.found ∙ c.if-branch.true) ∙ l.invariant.found
+    let y = c.put_output.new.one in
+    let on = sym c.in_ok-put_output.ensures.found ∙ c.if-branch.true in
+    let e : twig y ≡ put_twig j k g (twig o) = c.in_ok-put_output.ensures.output
+    ∙ ap (λ (os : List Branch). put_twig j k (grown os) (twig o)) l.invariant.others in record {
+      found = on_found j k g os l.i o y (search rules) c.index_mut.ensures.value e on
+          ∙ l.invariant.found;
+      outputs = twigs_found j k g os l.i o y (search rules) c.index_mut.ensures.value e on
+          ∙ l.invariant.outputs;
+      others = search rules;
+    }
 
-pub put_outputs-returns-then-branch-clause-outputs
-    : goal.put_outputs-returns-then-branch-clause-outputs
-put_outputs-returns-then-branch-clause-outputs t c =
+pub put_outputs-returns : goal.put_outputs-returns
+put_outputs-returns t c =
     let l = c.loop-i in
     let j = c.args.output in
     let k = c.args.keep in
-    let g = grown c.args.others.now.items in
-    let o = c.index_mut.result.now in
-    let e = c.in_ok-put_output.ensures.output
-    ∙ ap (λ (os : List Branch). put_twig j k (grown os) (twig o)) l.invariant.others in
-    twigs_found j k g l.outputs.items l.i o c.put_output.new.one (search rules)
-    c.index_mut.ensures.value e
-    (sym c.in_ok-put_output.ensures.found ∙ c.if-branch.true) ∙ l.invariant.outputs
+    let g = grown c.args.others.now.items in record {
+      found = sym (no_all j k g l.outputs.items l.i (omega arith)) ∙ l.invariant.found;
+      outputs = sym (twigs_all j k g l.outputs.items l.i (omega arith)) ∙ l.invariant.outputs;
+      others = λ _. l.invariant.others;
+    }
 
-pub put_outputs-returns-clause-found : goal.put_outputs-returns-clause-found
-put_outputs-returns-clause-found t c =
-    let l = c.loop-i in
-    let g = grown c.args.others.now.items in
-    sym (no_all c.args.output c.args.keep g l.outputs.items l.i (omega arith))
-    ∙ l.invariant.found
-
-pub put_outputs-returns-clause-outputs : goal.put_outputs-returns-clause-outputs
-put_outputs-returns-clause-outputs t c =
-    let l = c.loop-i in
-    sym (twigs_all c.args.output c.args.keep (grown c.args.others.now.items) l.outputs.items l.i
-    (omega arith))
-    ∙ l.invariant.outputs
-
-pub put_step-returns-then-branch-clause-found : goal.put_step-returns-then-branch-clause-found
-put_step-returns-then-branch-clause-found t c =
-    let j = c.args.output in
-    let k = c.args.keep in
-    let a = c.step.inside in
-    let b : Branch = record {
-      origin = a.origin;
-      last = a.last;
-      does = a.does;
-      first = twig a.first;
-      more = map twig a.more.items;
-    } in
-    step_on j b (sym c.in_ok-put_output.ensures.found ∙ c.if-branch.true)
-    ∙ ap (on_branch j) c.step.view_is
-
-pub put_step-returns-then-branch-clause-step : goal.put_step-returns-then-branch-clause-step
-put_step-returns-then-branch-clause-step t c =
+pub put_step-returns-then-branch : goal.put_step-returns-then-branch
+put_step-returns-then-branch t c =
     let j = c.args.output in
     let k = c.args.keep in
     let g = grown c.args.others.now.items in
-    let a = c.step.inside in
-    let b : Branch = record {
-      origin = a.origin;
-      last = a.last;
-      does = a.does;
-      first = twig a.first;
-      more = map twig a.more.items;
-    } in
-    step_found j k g b _ (sym c.in_ok-put_output.ensures.found ∙ c.if-branch.true)
-    c.in_ok-put_output.ensures.output
-    ∙ ap (put_branch j k g) c.step.view_is
+    let b = held c.step.inside in
+    let on = sym c.in_ok-put_output.ensures.found ∙ c.if-branch.true in record {
+      found = step_on j b on ∙ ap (on_branch j) c.step.view_is;
+      step = step_found j k g b _ on c.in_ok-put_output.ensures.output
+          ∙ ap (put_branch j k g) c.step.view_is;
+      others = search rules;
+    }
 
-pub put_step-returns-clause-found : goal.put_step-returns-clause-found
-put_step-returns-clause-found t c =
-    let j = c.args.output in
-    let k = c.args.keep in
-    let a = c.step.inside in
-    let b : Branch = record {
-      origin = a.origin;
-      last = a.last;
-      does = a.does;
-      first = twig a.first;
-      more = map twig a.more.items;
-    } in
-    step_off j b _ (sym c.in_ok-put_output.ensures.found ∙ c.if-branch.false)
-    c.in_ok-found.ensures.found
-    ∙ ap (on_branch j) c.step.view_is
-
-pub put_step-returns-clause-step : goal.put_step-returns-clause-step
-put_step-returns-clause-step t c =
+pub put_step-returns : goal.put_step-returns
+put_step-returns t c =
     let j = c.args.output in
     let k = c.args.keep in
     let g = grown c.args.others.now.items in
-    let a = c.step.inside in
-    let b : Branch = record {
-      origin = a.origin;
-      last = a.last;
-      does = a.does;
-      first = twig a.first;
-      more = map twig a.more.items;
-    } in
-    step_next j k g b _ _ (sym c.in_ok-put_output.ensures.found ∙ c.if-branch.false)
-    c.in_ok-put_output.ensures.output
-    (c.in_ok-found.ensures.outputs
-    ∙ ap (λ (os : List Branch). put_twigs j k (grown os) b.more)
-    (c.in_ok-put_output.ensures.others c.if-branch.false))
-    ∙ ap (put_branch j k g) c.step.view_is
+    let b = held c.step.inside in
+    let off = sym c.in_ok-put_output.ensures.found ∙ c.if-branch.false in
+    let same = c.in_ok-put_output.ensures.others c.if-branch.false in record {
+      found = step_off j b _ off c.in_ok-found.ensures.found ∙ ap (on_branch j) c.step.view_is;
+      step = step_next j k g b _ _ off c.in_ok-put_output.ensures.output
+          (c.in_ok-found.ensures.outputs
+          ∙ ap (λ (os : List Branch). put_twigs j k (grown os) b.more) same)
+          ∙ ap (put_branch j k g) c.step.view_is;
+      others = λ e. c.in_ok-found.ensures.others e ∙ same;
+    }
 
 pub put_output-returns-then-branch-clause-found
     : goal.put_output-returns-then-branch-clause-found

@@ -1,5 +1,5 @@
 use Rattle.std.proofs.Common.{◌≡◌, map, take}
-use Rattle.bag_groups.specs.inner.Runs.{held_by}
+use Rattle.bag_groups.specs.Pairs.{held_by}
 use Rattle.key_order.proofs.groups.values_in.Given as goal
 
 abbrev pub invariant-loop-each : goal.invariant-loop-each

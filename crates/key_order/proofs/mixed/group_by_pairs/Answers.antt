@@ -1,12 +1,12 @@
 use Rattle.std.proofs.Common.{◌≡◌, ◌<◌, length, rules, arith}
 use Rattle.std.proofs.lemmas.Grind.{common_steps}
 use Rattle.std.proofs.lemmas.List.Elements.{All-drop, All-same, All-take}
+use Rattle.std.proofs.lemmas.List.Sorted.{All-permutation}
 use Rattle.std.specs.Borrow.{Bor}
 use Rattle.flume_value.specs.declared.value.Value.{Value}
 use Rattle.flume_value.proofs.ReferenceLemmas.{referred}
 use Rattle.bag_groups.specs.Pairs.{IsPair}
 use Rattle.bag_groups.specs.Groups.{grouped}
-use Rattle.bag_groups.proofs.LastRuns.{sorted_pairs}
 use Rattle.key_order.proofs.KeyRuns.{fewer, groups_begin, keys_sorted, one_more}
 use Rattle.key_order.proofs.mixed.group_by_pairs.Goals as goal
 
@@ -16,7 +16,7 @@ runs-init c =
     let left = c.sort_unstable_by.new.self.items in
     let moved = c.sort_unstable_by.ensures.permutation in
     record {
-      pairs = sorted_pairs pairs left moved c.requires;
+      pairs = All-permutation (λ (p : Bor Value). IsPair p.now) pairs left moved c.requires;
       ascending = keys_sorted left c.sort_unstable_by.ensures.sorted (λ a r q k. search rules);
       all = groups_begin pairs left c.new-groups.result.items moved c.new-groups.ensures.items;
     }

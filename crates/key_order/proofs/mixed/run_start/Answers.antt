@@ -1,5 +1,5 @@
 use Rattle.std.proofs.Common.{◌≡◌, Some, ap, ◌∙◌, arith}
-use Rattle.bag_groups.proofs.LastRuns.{run_ends, run_more}
+use Rattle.key_order.proofs.KeyRuns.{run_ends, run_more}
 use Rattle.key_order.proofs.mixed.run_start.Goals as goal
 
 pub loop-start-preserved : goal.loop-start-preserved

@@ -1,4 +1,4 @@
-use Rattle.bag_groups.proofs.LastRuns.{held_more}
+use Rattle.key_order.proofs.KeyRuns.{held_more}
 use Rattle.key_order.proofs.mixed.values_of.Goals as goal
 
 pub loop-pair-preserved : goal.loop-pair-preserved

@@ -1,5 +1,5 @@
 use Rattle.std.proofs.Common.{◌≡◌, map, take}
-use Rattle.bag_groups.specs.inner.Runs.{held_by}
+use Rattle.bag_groups.specs.Pairs.{held_by}
 use Rattle.key_order.proofs.mixed.values_of.Given as goal
 
 abbrev pub invariant-loop-pair : goal.invariant-loop-pair

@@ -20,7 +20,8 @@ least_in-loop-number-preserved t c =
     let k = c.args.levels - 1 in
     let i = c.loop-number.number-index in
     let ns = c.args.numbers.now in
-    least_step c.args.so_far c.loop-number.least c.least_with-least.result (flat_map (around b k) ns)
+    least_step c.args.so_far c.loop-number.least c.least_with-least.result
+    (flat_map (around b k) ns)
     (flat_map (around b k) (drop i ns)) (around b k (get_or ns i 0))
     (flat_map (around b k) (drop (i + 1) ns)) (around_split b k i ns c.loop-number-test.true)
     c.loop-number.invariant c.least_with-least.ensures

@@ -1,4 +1,4 @@
-use Rattle.std.proofs.Common.{rules, ◌≡◌, ◌++◌, ◌∷◌, sym, ap, ◌∙◌}
+use Rattle.std.proofs.Common.{rules, ◌≡◌, ◌++◌, ◌∷◌, refl, sym, ap, ◌∙◌}
 use Rattle.phase_outs.proofs.made.made_outs.Goals as goal
 
 pub returns-in-Err-clause-stop : goal.returns-in-Err-clause-stop
@@ -12,5 +12,5 @@ returns-in-Err-clause-stop g c =
       whole = ap (λ l. c.loop-won.yielded ++ l) (sym step) ∙ c.loop-won.invariant.whole;
       made = c.loop-won.made.outs.items;
       outs = c.loop-won.invariant.made.outs;
-      named = (sym c.task-task.ensures, search rules);
+      named = (refl, search rules);
     }

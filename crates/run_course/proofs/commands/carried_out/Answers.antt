@@ -1,11 +1,8 @@
 use Rattle.std.proofs.Common.{inl, map, refl}
 use Rattle.std.proofs.lemmas.Result.{IfErr-weaker, err_from_is_err_and}
-use Rattle.crew.proofs.Accounts.{all_grew_not}
 use Rattle.outside.proofs.AskLemmas.{asks_none}
 use Rattle.run_course.specs.Limits.{usual_tries}
-use Rattle.script_loading.specs.of_direct_meaning.Inputs.{inputs_of}
-use Rattle.script_loading.specs.Loads.{file_names}
-use Rattle.run_course.proofs.AskLemmas.{none_behind, none_with}
+use Rattle.run_course.proofs.AskLemmas.{none_with}
 use Rattle.run_course.proofs.CauseLemmas.{meaning_stop}
 use Rattle.run_course.proofs.commands.carried_out.Goals as goal
 
@@ -17,26 +14,6 @@ returns-in-Direct-clause-stop g c =
     (map g.H.Host.account c.args.hosts.now)
     (map g.H.Host.account c.args.hosts.now) c.args.program.now.script why
     stops) c.meant.ensures.stop)
-
-pub returns-in_err-accepted-in-Check-clause-grew : goal.returns-in_err-accepted-in-Check-clause-grew
-returns-in_err-accepted-in-Check-clause-grew g c =
-    all_grew_not (map g.H.Host.account c.args.hosts.now)
-
-pub returns-in_err-planned-in-Plan-clause-grew : goal.returns-in_err-planned-in-Plan-clause-grew
-returns-in_err-planned-in-Plan-clause-grew g c =
-    all_grew_not (map g.H.Host.account c.args.hosts.now)
-
-pub returns-in_ok-accepted-in-Check-clause-grew : goal.returns-in_ok-accepted-in-Check-clause-grew
-returns-in_ok-accepted-in-Check-clause-grew g c =
-    all_grew_not (map g.H.Host.account c.args.hosts.now)
-
-pub returns-in_ok-planned-in-Plan-clause-grew : goal.returns-in_ok-planned-in-Plan-clause-grew
-returns-in_ok-planned-in-Plan-clause-grew g c =
-    all_grew_not (map g.H.Host.account c.args.hosts.now)
-
-pub returns-in-Direct-clause-grew : goal.returns-in-Direct-clause-grew
-returns-in-Direct-clause-grew g c =
-    all_grew_not (map g.H.Host.account c.args.hosts.now)
 
 pub returns-in_err-accepted-in-Check-clause-asked :
     goal.returns-in_err-accepted-in-Check-clause-asked
@@ -82,8 +59,4 @@ pub returns-in-Direct-clause-asked_hosts :
 returns-in-Direct-clause-asked_hosts g c = inl refl
 
 pub returns-in-Direct-clause-asked : goal.returns-in-Direct-clause-asked
-returns-in-Direct-clause-asked g c =
-    rw c.in-Direct.is
-    (none_behind usual_tries (file_names (inputs_of c.args.program.now.script))
-    (g.R.Source.seen c.args.source.now) (g.R.Source.seen c.meant.new.source) c.meant.result
-    c.meant.ensures.asked)
+returns-in-Direct-clause-asked g c = rw c.in-Direct.is c.meant.ensures.asked

@@ -1,19 +1,13 @@
-use Rattle.std.proofs.Common.{ℕ, inl, inr, List, Option, ◌++◌, map, refl, sym, ◌∙◌, subst}
+use Rattle.std.proofs.Common.{ℕ, inl, inr, List, ◌++◌, map, refl, sym, ◌∙◌}
 use Rattle.std.proofs.lemmas.Result.{IfErr-weaker, err_from_is_err_and}
 use Rattle.script_loading.proofs.of_build_law.SourceLists.{as_many_inputs}
-use Rattle.crew.proofs.Accounts.{all_grew_not}
 use Rattle.script_loading.specs.of_direct_meaning.Inputs.{inputs_of}
 use Rattle.outside.proofs.AskLemmas.{asks_both}
-use Rattle.outside.specs.Asked.{Asks, AsksFront}
 use Rattle.outside.specs.Saves.{output_file}
-use Rattle.outside.specs.declared.file.File.{File}
-use Rattle.script_loading.specs.Causes.{IsInputsCause}
 use Rattle.script_loading.specs.Loads.{file_names}
 use Rattle.run_course.specs.Asks.{plan_file}
 use Rattle.run_course.specs.Lent.{lent}
-use Rattle.run_course.specs.Plans.{IsPlanFor}
-use Rattle.run_course.specs.inner.Course.{IsPlanStop}
-use Rattle.run_course.proofs.AskLemmas.{front_more, inputs_with, plan_with, run_until}
+use Rattle.run_course.proofs.AskLemmas.{inputs_with, plan_with, run_until}
 use Rattle.run_course.proofs.CauseLemmas.{no_plan_stop, run_stop}
 use Rattle.run_course.proofs.HostLemmas.{others_as, run_asks}
 use Rattle.run_course.proofs.RunLemmas.{both_ok, writes_run}
@@ -21,19 +15,12 @@ use Rattle.run_course.proofs.commands.run_on.Goals as goal
 
 -- ---- its inputs have no rows
 
-pub returns-in_err-inputs-clause-grew : goal.returns-in_err-inputs-clause-grew
-returns-in_err-inputs-clause-grew g c =
-    all_grew_not (map g.H.Host.account c.args.hosts.now)
-
 pub returns-in_err-inputs-clause-stop : goal.returns-in_err-inputs-clause-stop
 returns-in_err-inputs-clause-stop g c =
     let end = c.from_residual in
     let p = err_from_is_err_and end.result end.ensures.1 in
     rw (p.1, p.2)
-    (inr (inl (subst (λ (n : ℕ). IsInputsCause n (g.R.Source.seen c.args.source.now)
-    (g.R.Source.seen c.rows_of_inputs.new.source)
-    (inputs_of c.args.program.now.script) c.in_err-inputs.field-0.0) c.tries-tries.ensures.value
-    c.in_err-inputs.ensures.err)))
+    (inr (inl (rw c.tries-tries.ensures.value at c.in_err-inputs.ensures.err)))
 
 pub returns-in_err-inputs-clause-asked : goal.returns-in_err-inputs-clause-asked
 returns-in_err-inputs-clause-asked g c =
@@ -41,25 +28,15 @@ returns-in_err-inputs-clause-asked g c =
     let p = err_from_is_err_and end.result end.ensures.1 in
     let names : List (List ℕ) = file_names (inputs_of c.args.program.now.script) in
     rw (p.1, p.2)
-    (inputs_with c.args.settings.now.tries (names ++ plan_file c.args.from.now)
-    (g.R.Source.seen c.args.source.now)
-    (g.R.Source.seen c.rows_of_inputs.new.source) c.tries-tries.result
-    (g.R.Source.seen c.args.source.now) (g.R.Source.seen c.rows_of_inputs.new.source)
-    (inputs_of c.args.program.now.script) c.in_err-inputs.field-0.0 c.in_err-inputs.ensures.err
-    (front_more c.args.settings.now.tries names (plan_file c.args.from.now)
-    (g.R.Source.seen c.args.source.now) (g.R.Source.seen c.rows_of_inputs.new.source)
-    (subst (λ (n : ℕ). AsksFront n names (g.R.Source.seen c.args.source.now)
-    (g.R.Source.seen c.rows_of_inputs.new.source))
-    c.tries-tries.ensures.value c.in_err-inputs.ensures.asked_front)))
+    (inputs_with c.args.settings.now.tries names (g.R.Source.seen c.args.source.now)
+    (g.R.Source.seen c.rows_of_inputs.new.source) (plan_file c.args.from.now)
+    c.in_err-inputs.field-0.0
+    (rw c.tries-tries.ensures.value at c.in_err-inputs.ensures.asked_until))
 
 pub returns-in_err-inputs-clause-asked_hosts : goal.returns-in_err-inputs-clause-asked_hosts
 returns-in_err-inputs-clause-asked_hosts g c = inl refl
 
 -- ---- there is no plan
-
-pub returns-in_err-shown-clause-grew : goal.returns-in_err-shown-clause-grew
-returns-in_err-shown-clause-grew g c =
-    all_grew_not (map g.H.Host.account c.args.hosts.now)
 
 pub returns-in_err-shown-clause-stop : goal.returns-in_err-shown-clause-stop
 returns-in_err-shown-clause-stop g c =
@@ -72,10 +49,7 @@ returns-in_err-shown-clause-stop g c =
     (map g.H.Host.account c.args.hosts.now) c.args.program.now.script
     c.in_ok-inputs.inputs c.in_err-shown.field-0.0 c.in_ok-inputs.ensures.files
     c.in_ok-inputs.ensures.later c.in_ok-inputs.ensures.ok
-    (subst (λ (n : ℕ). IsPlanStop n (g.R.Source.seen c.rows_of_inputs.new.source)
-    (g.R.Source.seen c.plan_for.new.source) c.args.program.now.script
-    c.args.from.now c.in_err-shown.field-0.0) c.tries-tries.ensures.value
-    c.in_err-shown.ensures.stop))
+    (rw c.tries-tries.ensures.value at c.in_err-shown.ensures.stop))
 
 pub returns-in_err-shown-clause-asked : goal.returns-in_err-shown-clause-asked
 returns-in_err-shown-clause-asked g c =
@@ -83,18 +57,15 @@ returns-in_err-shown-clause-asked g c =
     let p = err_from_is_err_and end.result end.ensures.1 in
     let names : List (List ℕ) = file_names (inputs_of c.args.program.now.script) in
     rw (p.1, p.2)
-    (plan_with c.args.settings.now.tries (names ++ plan_file c.args.from.now)
-    (g.R.Source.seen c.args.source.now) (g.R.Source.seen c.plan_for.new.source) c.tries-tries.result
-    (g.R.Source.seen c.rows_of_inputs.new.source)
-    (g.R.Source.seen c.plan_for.new.source) c.args.program.now.script
-    c.args.from.now c.in_err-shown.field-0.0 c.in_err-shown.ensures.stop
-    (subst (λ (n : ℕ). Asks n (names ++ plan_file c.args.from.now)
-    (g.R.Source.seen c.args.source.now)
-    (g.R.Source.seen c.plan_for.new.source)) c.tries-tries.ensures.value
-    (asks_both c.tries-tries.result names (plan_file c.args.from.now)
+    (plan_with c.args.settings.now.tries names (g.R.Source.seen c.args.source.now)
+    (g.R.Source.seen c.plan_for.new.source) c.tries-tries.result
+    (g.R.Source.seen c.rows_of_inputs.new.source) (g.R.Source.seen c.plan_for.new.source)
+    c.args.program.now.script c.args.from.now c.in_err-shown.field-0.0 c.in_err-shown.ensures.stop
+    (asks_both c.args.settings.now.tries names (plan_file c.args.from.now)
     (g.R.Source.seen c.args.source.now) (g.R.Source.seen c.rows_of_inputs.new.source)
     (g.R.Source.seen c.plan_for.new.source)
-    c.in_ok-inputs.ensures.asked c.in_err-shown.ensures.asked)))
+    (rw c.tries-tries.ensures.value at c.in_ok-inputs.ensures.asked)
+    (rw c.tries-tries.ensures.value at c.in_err-shown.ensures.asked)))
 
 pub returns-in_err-shown-clause-asked_hosts : goal.returns-in_err-shown-clause-asked_hosts
 returns-in_err-shown-clause-asked_hosts g c = inl refl
@@ -109,8 +80,7 @@ returns-clause-stop g c =
     (map g.H.Host.account c.written_run.new.hosts)
     c.args.program.now.script c.in_ok-inputs.inputs c.in_ok-shown.shown.plan why
     c.in_ok-inputs.ensures.ok
-    (subst (λ (t : Option (List File)). IsPlanFor t c.args.program.now.script c.args.from.now
-    c.in_ok-shown.shown.plan) c.in_ok-inputs.ensures.files c.in_ok-shown.ensures.plan) stops)
+    (rw c.in_ok-inputs.ensures.files at c.in_ok-shown.ensures.plan) stops)
     c.written_run.ensures.stop
 
 pub returns-clause-written : goal.returns-clause-written
@@ -122,8 +92,7 @@ returns-clause-written g c =
     c.args.program.now.script c.in_ok-inputs.inputs c.in_ok-shown.shown.plan
     c.in_ok-shown.shown.text.items it.screen.items (map output_file it.outputs.items)
     c.in_ok-inputs.ensures.ok
-    (subst (λ (t : Option (List File)). IsPlanFor t c.args.program.now.script c.args.from.now
-    c.in_ok-shown.shown.plan) c.in_ok-inputs.ensures.files c.in_ok-shown.ensures.plan)
+    (rw c.in_ok-inputs.ensures.files at c.in_ok-shown.ensures.plan)
     c.in_ok-shown.ensures.text gives ran)
 
 pub returns-clause-asked : goal.returns-clause-asked
@@ -134,13 +103,11 @@ returns-clause-asked g c =
     c.args.program.now.script c.in_ok-inputs.inputs c.in_ok-shown.shown.plan
     (lent c.args.settings.now (map g.H.Host.account c.args.hosts.now)) (lent c.args.settings.now
     (map g.H.Host.account c.written_run.new.hosts)) c.written_run.result c.written_run.ensures.stop
-    (subst (λ (n : ℕ). Asks n (names ++ plan_file c.args.from.now)
-    (g.R.Source.seen c.args.source.now)
-    (g.R.Source.seen c.plan_for.new.source)) c.tries-tries.ensures.value
-    (asks_both c.tries-tries.result names (plan_file c.args.from.now)
+    (asks_both c.args.settings.now.tries names (plan_file c.args.from.now)
     (g.R.Source.seen c.args.source.now) (g.R.Source.seen c.rows_of_inputs.new.source)
     (g.R.Source.seen c.plan_for.new.source)
-    c.in_ok-inputs.ensures.asked c.in_ok-shown.ensures.asked))
+    (rw c.tries-tries.ensures.value at c.in_ok-inputs.ensures.asked)
+    (rw c.tries-tries.ensures.value at c.in_ok-shown.ensures.asked))
 
 pub returns-clause-asked_hosts : goal.returns-clause-asked_hosts
 returns-clause-asked_hosts g c =
@@ -148,8 +115,7 @@ returns-clause-asked_hosts g c =
     (map g.H.Host.account c.args.hosts.now) (map g.H.Host.account c.written_run.new.hosts)
     c.args.program.now.script c.in_ok-inputs.inputs c.in_ok-shown.shown.plan c.written_run.result
     c.in_ok-inputs.ensures.ok
-    (subst (λ (t : Option (List File)). IsPlanFor t c.args.program.now.script c.args.from.now
-    c.in_ok-shown.shown.plan) c.in_ok-inputs.ensures.files c.in_ok-shown.ensures.plan)
+    (rw c.in_ok-inputs.ensures.files at c.in_ok-shown.ensures.plan)
     (c.in_ok-shown.ensures.of_script.sources
     ∙ sym (as_many_inputs c.args.program.now.script c.in_ok-inputs.inputs
     c.in_ok-inputs.ensures.typed))

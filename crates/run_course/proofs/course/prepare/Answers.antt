@@ -1,13 +1,10 @@
-use Rattle.std.proofs.Common.{ℕ, inl, refl, List, [], ◌∷◌, Option, map, string_bytes, subst, sym, ap, ◌∙◌}
+use Rattle.std.proofs.Common.{inl, refl, List, Option, map, string_bytes, subst, sym, ap, ◌∙◌}
 use Rattle.std.specs.Option.{option_map}
 use Rattle.command_words.specs.Held.{asked_in}
 use Rattle.std.proofs.lemmas.Result.{IfErr-weaker, IfOk-weaker, err_from_is_err_and}
 use Rattle.outside.specs.Saves.{output_file}
 use Rattle.outside.specs.declared.file.File.{File}
 use Rattle.run_course.specs.Written.{Writes}
-use Rattle.script_loading.specs.Causes.{IsScriptCause}
-use Rattle.crew.proofs.Accounts.{all_grew_not}
-use Rattle.outside.specs.Asked.{Asks}
 use Rattle.outside.proofs.AskLemmas.{asks_none}
 use Rattle.run_course.proofs.AskLemmas.{command_for, script_for}
 use Rattle.run_course.proofs.CauseLemmas.{command_stop, script_cause, written}
@@ -23,10 +20,7 @@ returns-in_err-program-clause-err g c =
     (g.R.Source.seen c.script_of.new.source) (map g.H.Host.account c.args.hosts.now)
     (map g.H.Host.account c.args.hosts.now) c.in-Some.asked.command c.in-Some.asked.script.now _
     (sym c.in_ok-asked.ensures ∙ ap (option_map asked_in) c.in-Some.is)
-    (subst (λ (n : ℕ). IsScriptCause n (g.R.Source.seen c.args.source.now)
-    (g.R.Source.seen c.script_of.new.source)
-    c.in-Some.asked.script.now c.in_err-program.field-0.0) c.tries_of.ensures.value
-    c.in_err-program.ensures.err))
+    (rw c.tries_of.ensures.value at c.in_err-program.ensures.err))
 
 pub returns-clause-ok : goal.returns-clause-ok
 returns-clause-ok g c =
@@ -54,18 +48,6 @@ returns-clause-err g c =
     c.in_ok-program.ensures.files c.in_ok-program.ensures.later why stops)
     c.carried_out.ensures.stop
 
-pub returns-in_err-asked-clause-grew : goal.returns-in_err-asked-clause-grew
-returns-in_err-asked-clause-grew g c =
-    all_grew_not (map g.H.Host.account c.args.hosts.now)
-
-pub returns-in_default-clause-grew : goal.returns-in_default-clause-grew
-returns-in_default-clause-grew g c =
-    all_grew_not (map g.H.Host.account c.args.hosts.now)
-
-pub returns-in_err-program-clause-grew : goal.returns-in_err-program-clause-grew
-returns-in_err-program-clause-grew g c =
-    all_grew_not (map g.H.Host.account c.args.hosts.now)
-
 pub returns-in_err-asked-clause-asked : goal.returns-in_err-asked-clause-asked
 returns-in_err-asked-clause-asked g c =
     let p = err_from_is_err_and c.from_residual.result c.from_residual.ensures.1 in
@@ -84,13 +66,8 @@ returns-in_err-program-clause-asked g c =
     c.in-Some.asked.script.now (g.R.Source.seen c.args.source.now)
     (g.R.Source.seen c.script_of.new.source) _
     (sym c.in_ok-asked.ensures ∙ ap (option_map asked_in) c.in-Some.is)
-    (subst (λ (n : ℕ). IsScriptCause n (g.R.Source.seen c.args.source.now)
-    (g.R.Source.seen c.script_of.new.source)
-    c.in-Some.asked.script.now c.in_err-program.field-0.0) c.tries_of.ensures.value
-    c.in_err-program.ensures.err)
-    (subst (λ (n : ℕ). Asks n (c.in-Some.asked.script.now ∷ []) (g.R.Source.seen c.args.source.now)
-    (g.R.Source.seen c.script_of.new.source))
-    c.tries_of.ensures.value c.in_err-program.ensures.asked))
+    (rw c.tries_of.ensures.value at c.in_err-program.ensures.err)
+    (rw c.tries_of.ensures.value at c.in_err-program.ensures.asked))
 
 pub returns-clause-asked : goal.returns-clause-asked
 returns-clause-asked g c =
@@ -99,9 +76,7 @@ returns-clause-asked g c =
     (g.R.Source.seen c.script_of.new.source)
     (g.R.Source.seen c.carried_out.new.source)
     (sym c.in_ok-asked.ensures ∙ ap (option_map asked_in) c.in-Some.is) c.in_ok-program.ensures.ok
-    (subst (λ (n : ℕ). Asks n (c.in-Some.asked.script.now ∷ []) (g.R.Source.seen c.args.source.now)
-    (g.R.Source.seen c.script_of.new.source))
-    c.tries_of.ensures.value c.in_ok-program.ensures.asked)
+    (rw c.tries_of.ensures.value at c.in_ok-program.ensures.asked)
     c.carried_out.result c.carried_out.ensures.asked
 
 pub returns-in_err-asked-clause-asked_hosts : goal.returns-in_err-asked-clause-asked_hosts

@@ -1,10 +1,7 @@
-use Rattle.std.proofs.Common.{List, map, subst}
-use Rattle.outside.specs.Accounts.{Account}
+use Rattle.std.proofs.Common.{map}
 use Rattle.outside.specs.Saves.{output_file}
-use Rattle.script_run.specs.Runs.{IsRunFault}
-use Rattle.plan_phases.specs.declared.fault.RunFault.{RunFault}
 use Rattle.run_course.specs.Lent.{lent}
-use Rattle.run_course.proofs.RunLemmas.{as_many, given, within}
+use Rattle.run_course.proofs.RunLemmas.{as_many, given}
 use Rattle.run_course.proofs.running.written_run.Goals as goal
 
 pub write_out-requires : goal.write_out-requires
@@ -18,21 +15,6 @@ returns-in-Ok-clause-written g c =
     let out = c.in_ok-write_out-in-Ok.field-0 in
     given s c.args.program.now.script c.args.inputs c.args.shown.plan
     (lent s (map g.H.Host.account c.args.hosts.now))
-    (lent s (map g.H.Host.account c.ran_on.new.hosts)) c.in-Ok.ran
+    (lent s (map g.H.Host.account c.ran_through.new.hosts)) c.in-Ok.ran
     c.args.shown.text.items out.screen.items (map output_file out.outputs.items)
     c.in-Ok.ensures.ran c.in_ok-write_out-in-Ok.ensures.files c.in_ok-write_out-in-Ok.ensures.text
-
-pub trapped-requires : goal.trapped-requires
-trapped-requires g c =
-    let s = c.args.settings.now in
-    let script = c.args.program.now.script in
-    let olds : List Account
-    = lent s (map g.H.Host.account c.args.hosts.now) in
-    let news : List Account
-    = lent s (map g.H.Host.account c.ran_on.new.hosts) in
-    record {
-      within = rw c.as_program-held.ensures.is
-          (within s script c.args.inputs c.args.shown.plan olds news c.in-Err-Trap.trap
-          (subst (λ (f : RunFault). IsRunFault s script c.args.inputs c.args.shown.plan olds news f)
-          c.in-Err-Trap.field-0-is c.in-Err-Trap.ensures.fault));
-    }

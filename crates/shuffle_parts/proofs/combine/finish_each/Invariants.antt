@@ -1,4 +1,4 @@
-use Rattle.std.proofs.Common.{◌≡◌, ◌++◌, map}
+use Rattle.std.proofs.Common.{◌≡◌, map}
 use Rattle.partial_tables.specs.Lifted.{accumulators_of}
 use Rattle.shuffle_parts.proofs.combine.finish_each.Given as goal
 

@@ -1,14 +1,11 @@
-use Rattle.std.proofs.Common.{◌≡◌, ◌++◌, List}
 use Rattle.std.specs.List.{AllZip}
-use Rattle.flume_value.specs.declared.value.Value.{Value}
 use Rattle.partial_tables.specs.Lifted.{IsLifted}
 use Rattle.shuffle_parts.specs.Partitions.{parted}
+use Rattle.shuffle_parts.proofs.Putting.{ArePut}
 use Rattle.shuffle_parts.proofs.combine.lift_more.Given as goal
 
 abbrev pub invariant-loop-pair : goal.invariant-loop-pair
-invariant-loop-pair l = record {
-  stands : (done : List Value)
-      → AllZip (IsLifted l.comb) l.fn.parts.items (parted l.partitions done)
-      → AllZip (IsLifted l.comb) l.parts.items (parted l.partitions (done ++ l.yielded));
-  all : l.yielded ++ l.pair-iterator.rest.items ≡ l.fn.pairs.items;
-}
+invariant-loop-pair g l =
+    ArePut g.P.Paired.as_pair
+    (λ done parts. AllZip (IsLifted l.comb) parts (parted l.partitions done)) l.fn.parts.items
+    l.fn.pairs.items l.parts.items l.yielded l.pair-iterator.rest.items

@@ -1,41 +1,27 @@
-use Rattle.std.proofs.Common.{◌≡◌, ◌++◌, ◌∷◌, List, [], append-nil, append_assoc, length, rules, sym, ap, ◌∙◌}
+use Rattle.std.proofs.Common.{◌≡◌, ◌++◌, ◌∷◌, [], length, map, rules, ap, ◌∙◌}
 use Rattle.flume_value.specs.declared.value.Value.{Value}
 use Rattle.shuffle_parts.specs.Partitions.{parted}
-use Rattle.shuffle_parts.proofs.Parting.{all_taken, taken_on}
+use Rattle.shuffle_parts.proofs.Putting.{all_put, none_put, one_put}
 use Rattle.shuffle_parts.proofs.parts.part_more.Goals as goal
 
 pub loop-pair-init : goal.loop-pair-init
-loop-pair-init c = record {
-  stands = λ done stands. stands ∙ ap (parted c.args.partitions) (sym (append-nil done));
-  all = search rules;
-}
+loop-pair-init g c = none_put _ _ _ _ _ (search rules)
 
 pub put_in-requires-clause-stands : goal.put_in-requires-clause-stands
-put_in-requires-clause-stands c = (
-  c.requires.stands.0 ++ c.loop-pair.yielded,
+put_in-requires-clause-stands g c = (
+  c.requires.stands.0 ++ map g.P.Paired.as_pair c.loop-pair.yielded,
   c.loop-pair.invariant.stands c.requires.stands.0 c.requires.stands.1,
 )
 
 pub loop-pair-preserved : goal.loop-pair-preserved
-loop-pair-preserved c =
-    let was = c.loop-pair.invariant in
+loop-pair-preserved g c =
     let next : c.loop-pair.pair-iterator.rest.items ≡ c.in-Some.pair ∷ c.next.new.self.rest.items =
-    search rules in record {
-      stands = λ done stands.
-          c.in_ok-put_in.ensures (done ++ c.loop-pair.yielded) (was.stands done stands)
-          ∙ ap (λ (p : Value). parted c.args.partitions ((done ++ c.loop-pair.yielded) ++ p ∷ []))
-          c.new.ensures
-          ∙ ap (parted c.args.partitions)
-          (append_assoc done c.loop-pair.yielded (c.in-Some.pair ∷ []));
-      all = taken_on c.loop-pair.yielded c.loop-pair.pair-iterator.rest.items
-          c.next.new.self.rest.items c.args.pairs.items c.in-Some.pair next was.all;
-    }
+    search rules in
+    one_put _ _ _ _ _ _ _ _ _ _ c.loop-pair.invariant next
+    (λ done stands. c.in_ok-put_in.ensures done stands
+    ∙ ap (λ (v : Value). parted c.args.partitions (done ++ v ∷ [])) c.into_couple.ensures)
 
 pub returns : goal.returns
-returns c done stands =
-    let rest = c.loop-pair.pair-iterator.rest.items in
-    let none : length rest ≡ 0 = search rules in
-    let whole = all_taken c.loop-pair.yielded rest c.args.pairs.items c.loop-pair.invariant.all
-    none in
-    c.loop-pair.invariant.stands done stands
-    ∙ ap (λ (l : List Value). parted c.args.partitions (done ++ l)) whole
+returns g c =
+    let none : length c.loop-pair.pair-iterator.rest.items ≡ 0 = search rules in
+    all_put _ _ _ _ _ _ _ c.loop-pair.invariant none

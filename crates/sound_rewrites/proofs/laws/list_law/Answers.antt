@@ -2,7 +2,7 @@ use Rattle.sound_rewrites.proofs.Making.{all_made, leads_made, list_same, made_o
 use Rattle.sound_rewrites.proofs.laws.list_law.Goals as goal
 
 pub returns-clause-sound : goal.returns-clause-sound
-returns-clause-sound c = λ rs g h ok m. (all_made rs g h ok m).sound
+returns-clause-sound c = λ rs g h ok m. (all_made rs g h ok m).ok
 
 pub returns-clause-same : goal.returns-clause-same
 returns-clause-same c = list_same

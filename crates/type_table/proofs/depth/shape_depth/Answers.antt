@@ -2,29 +2,20 @@ use Rattle.std.proofs.Common.{◌≡◌, ◌+◌, ◌<◌, max, length, map, ap,
 use Rattle.flume_types.specs.Depth.{depth_of, deepest}
 use Rattle.type_table.specs.declared.shape.Shape.TheVariants as shape
 use Rattle.type_table.specs.Table.{type_at, field_at, tree_of, types_of, capped, IsWithin}
-use Rattle.type_table.proofs.TableLemmas.{tree-depth}
+use Rattle.type_table.proofs.TableLemmas.{depth-Int, depth-Bool, depth-Text, tree-depth}
 use Rattle.type_table.proofs.depth.shape_depth.Goals as goal
 
 pub returns-in-Int : goal.returns-in-Int
 returns-in-Int c =
-    let e : depth_of (tree_of (types_of c.args.shapes.now.entries) c.args.shape.now) ≡ 1 =
-    tree-depth c.depth_law.ensures.one_level c.args.shapes.now.entries c.args.shape.now
-    shape.Int c.in-Int.is in
-    omega arith
+    depth-Int c.depth_law.ensures.one_level c.args.shapes.now.entries _ c.in-Int.is
 
 pub returns-in-Bool : goal.returns-in-Bool
 returns-in-Bool c =
-    let e : depth_of (tree_of (types_of c.args.shapes.now.entries) c.args.shape.now) ≡ 1 =
-    tree-depth c.depth_law.ensures.one_level c.args.shapes.now.entries c.args.shape.now
-    shape.Bool c.in-Bool.is in
-    omega arith
+    depth-Bool c.depth_law.ensures.one_level c.args.shapes.now.entries _ c.in-Bool.is
 
 pub returns-in-Text : goal.returns-in-Text
 returns-in-Text c =
-    let e : depth_of (tree_of (types_of c.args.shapes.now.entries) c.args.shape.now) ≡ 1 =
-    tree-depth c.depth_law.ensures.one_level c.args.shapes.now.entries c.args.shape.now
-    shape.Text c.in-Text.is in
-    omega arith
+    depth-Text c.depth_law.ensures.one_level c.args.shapes.now.entries _ c.in-Text.is
 
 pub returns-in-List : goal.returns-in-List
 returns-in-List c =

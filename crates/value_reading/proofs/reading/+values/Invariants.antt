@@ -6,8 +6,8 @@ use Rattle.value_reading.proofs.reading.+values.Given as goal
 abbrev pub decreases-value_of : goal.decreases-value_of
 decreases-value_of l = 5 * l.levels
 
-abbrev pub decreases-after_tag : goal.decreases-after_tag
-decreases-after_tag l = 5 * l.levels + 4
+abbrev pub decreases-behind : goal.decreases-behind
+decreases-behind l = 5 * l.levels + 4
 
 abbrev pub decreases-items_of : goal.decreases-items_of
 decreases-items_of l = 5 * l.levels + 3

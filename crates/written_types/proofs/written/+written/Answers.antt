@@ -5,10 +5,12 @@ use Rattle.flume_types.specs.declared.types.Ty.TheVariants as ty
 use Rattle.flume_grammar.specs.declared.fault.ScriptKind.TheVariants.{Twice}
 use Rattle.type_table.specs.declared.shape.Part.{Part}
 use Rattle.type_table.specs.Table.{type_at, field_at}
+use Rattle.type_table.proofs.TableLemmas.{Extends-twice}
 use Rattle.written_types.specs.Answer.{◌>>=◌, Fails, unless}
 use Rattle.written_types.specs.Written.{has_field, fields_behind, written}
 use Rattle.written_types.proofs.FailsLemmas.{Fails-first, Fails-same}
-use Rattle.written_types.proofs.WrittenLemmas.{written-fields, no-more, name-fails, goes-on, Extends-twice, field-more, within-more}
+use Rattle.written_types.proofs.NamedLemmas.{below-push}
+use Rattle.written_types.proofs.WrittenLemmas.{written-fields, no-more, name-fails, goes-on, field-more}
 use Rattle.written_types.proofs.written.+written.Goals as goal
 
 pub fields-returns-in_err-unused-clause-gives : goal.fields-returns-in_err-unused-clause-gives
@@ -66,8 +68,8 @@ fields-loop-i-preserved t c =
           meant)
           ∙ is.gives;
       within =
-          within-more ts new c.written.ensures.extends c.loop-i.fields c.push.new.self part
-          c.in_ok-push.ensures.ok is.within c.in_ok-ty.ensures.within;
+          below-push (λ (part : Part). part.ty) ts new c.written.ensures.extends c.loop-i.fields
+          c.push.new.self part c.in_ok-push.ensures.ok is.within c.in_ok-ty.ensures.within;
       extends = Extends-twice c.args.known.now.types ts new is.extends c.written.ensures.extends;
       names = c.written.ensures.names ∙ is.names;
     }

@@ -6,34 +6,34 @@ use Rattle.expression_types.specs.Places.{place_in}
 use Rattle.expression_types.proofs.PlaceLemmas.{key_passes, placed_in}
 use Rattle.expression_types.proofs.ScopeLemmas.{at_type, place_in-mapped, placed-within, not-placed}
 use Rattle.expression_types.proofs.scope.Scope.find.Goals as goal
+use Rattle.expression_types.proofs.scope.Scope.find.Goals.{After-len}
+
+-- the entry that is found is the newest of the name
+newest : (c : After-len) → place_in c.args.name.now (reverse c.self.inside.names.entries)
+    ≡ Some (length c.self.inside.names.entries - 1 - c.in-Some.at, c.in-Some.ty.now)
+newest c =
+    let es = c.self.inside.names.entries in
+    placed_in c.args.name.now es c.in-Some.at c.in-Some.field-0-1.now c.in-Some.ty.now
+    c.len.ensures.unique c.in-Some.ensures.entry
+    (key_passes (bytes_eq c.args.name.now) es c.in-Some.field-0-1.now c.in-Some.ensures.key)
 
 pub returns-in-Some-clause-ok : goal.returns-in-Some-clause-ok
 returns-in-Some-clause-ok c =
     let types = c.self.inside.known.types in
-    let es = c.self.inside.names.entries in
     let name = c.args.name.now in
-    let key = c.in-Some.field-0-1.now in
-    let id = c.in-Some.ty.now in
-    let at = placed_in name es c.in-Some.at key id c.len.ensures.unique c.in-Some.ensures.entry
-    (key_passes (bytes_eq name) es key c.in-Some.ensures.key) in
-    subst (λ s. Some (c.len.result - 1 - c.in-Some.at, type_at s.types id)
+    subst (λ s. Some (c.len.result - 1 - c.in-Some.at, type_at s.types c.in-Some.ty.now)
     ≡ place_in name s.sight.names)
     c.self.view_is
-    (ap (λ n. Some (n - 1 - c.in-Some.at, type_at types id)) c.len.ensures.len
-    ∙ sym (place_in-mapped types name (reverse es) ∙ ap (option_map (at_type types)) at))
+    (ap (λ n. Some (n - 1 - c.in-Some.at, type_at types c.in-Some.ty.now)) c.len.ensures.len
+    ∙ sym (place_in-mapped types name (reverse c.self.inside.names.entries)
+    ∙ ap (option_map (at_type types)) (newest (goal.at.returns-in-Some-clause-ok c).After-len)))
 
 pub returns-in-Some-clause-within : goal.returns-in-Some-clause-within
 returns-in-Some-clause-within c =
-    let types = c.self.inside.known.types in
-    let es = c.self.inside.names.entries in
-    let name = c.args.name.now in
-    let key = c.in-Some.field-0-1.now in
-    let id = c.in-Some.ty.now in
-    let at = placed_in name es c.in-Some.at key id c.len.ensures.unique c.in-Some.ensures.entry
-    (key_passes (bytes_eq name) es key c.in-Some.ensures.key) in
-    subst (λ s. id < length s.types) c.self.view_is
-    (placed-within (λ id. id < length types) name (reverse es) (length es - 1 - c.in-Some.at) id
-    c.self.invariant at)
+    subst (λ s. c.in-Some.ty.now < length s.types) c.self.view_is
+    (placed-within (λ id. id < length c.self.inside.known.types) c.args.name.now
+    (reverse c.self.inside.names.entries) _ c.in-Some.ty.now c.self.invariant
+    (newest (goal.at.returns-in-Some-clause-within c).After-len))
 
 pub returns-in-None-clause-ok : goal.returns-in-None-clause-ok
 returns-in-None-clause-ok c =

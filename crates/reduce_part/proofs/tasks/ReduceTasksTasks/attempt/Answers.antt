@@ -26,15 +26,8 @@ unreachable-requires g c =
     c.index-as_slice-channel.result c.index-as_slice-channel.is c.in-Pass.field-0
     c.in-Pass.field-1 c.in-Pass.is
 
-pub returns-clause-value : goal.returns-clause-value
-returns-clause-value g c =
-    let below = rw (← c.self.view_is) at c.requires in
-    values_by c.self.invariant c.args.task below c.as_slice.result.now c.as_slice.ensures
-    c.index-as_slice-channel.result c.index-as_slice-channel.is c.in-Group.grouping c.in-Group.is
-    c.self.view_is g.F.Functions.called c.reduce_partition.result c.reduce_partition.ensures.value
-
-pub returns-clause-ran : goal.returns-clause-ran
-returns-clause-ran g c =
+pub returns : goal.returns
+returns g c =
     let below = rw (← c.self.view_is) at c.requires in
     let places = places_are c.self.invariant c.args.task below c.as_slice.result.now
     c.as_slice.ensures c.index-as_slice-channel.result c.index-as_slice-channel.is
@@ -45,22 +38,13 @@ returns-clause-ran g c =
     let e = attempt_at c.args.at.now c.args.task in
     let a = g.H.Host.account c.args.host.now in
     let b = g.H.Host.account c.reduce_partition.new.host in
-    asked_ran e (reducing_places c.args.self.now c.args.task) a b c.reduce_partition.result
-    (subst (λ n. Asked e n a b c.reduce_partition.result) places
-    (c.reduce_partition.ensures.asked ready.pairs ready.gathered))
-
-pub returns-clause-early : goal.returns-clause-early
-returns-clause-early g c =
-    let below = rw (← c.self.view_is) at c.requires in
-    let places = places_are c.self.invariant c.args.task below c.as_slice.result.now
-    c.as_slice.ensures c.index-as_slice-channel.result c.index-as_slice-channel.is
-    c.in-Group.grouping c.in-Group.is c.self.view_is in
-    let ready = task_ready c.self.invariant c.args.task below c.as_slice.result.now
-    c.as_slice.ensures c.index-as_slice-channel.result c.index-as_slice-channel.is
-    c.in-Group.grouping c.in-Group.is in
-    let e = attempt_at c.args.at.now c.args.task in
-    let a = g.H.Host.account c.args.host.now in
-    let b = g.H.Host.account c.reduce_partition.new.host in
-    asked_early e (reducing_places c.args.self.now c.args.task) a b c.reduce_partition.result
-    (subst (λ n. Asked e n a b c.reduce_partition.result) places
-    (c.reduce_partition.ensures.asked ready.pairs ready.gathered))
+    let all = reducing_places c.args.self.now c.args.task in
+    let asked = subst (λ n. Asked e n a b c.reduce_partition.result) places
+    (c.reduce_partition.ensures.asked ready.pairs ready.gathered) in record {
+      value = values_by c.self.invariant c.args.task below c.as_slice.result.now
+          c.as_slice.ensures c.index-as_slice-channel.result c.index-as_slice-channel.is
+          c.in-Group.grouping c.in-Group.is c.self.view_is g.F.Functions.called
+          c.reduce_partition.result c.reduce_partition.ensures.value;
+      ran = asked_ran e all a b c.reduce_partition.result asked;
+      early = asked_early e all a b c.reduce_partition.result asked;
+    }

@@ -1,8 +1,7 @@
-use Rattle.std.proofs.Common.{◌≡◌, ◌∷◌, [], ◌<◌, length, map, sym, subst}
-use Rattle.script_program.specs.Script.{State, with_copies}
+use Rattle.std.proofs.Common.{◌∷◌, [], ◌<◌, length, sym, subst}
+use Rattle.script_program.specs.Script.{with_copies}
 use Rattle.script_program.specs.Program.{node_in}
-use Rattle.script_program.specs.inner.Tables.{function_of, node_of}
-use Rattle.script_state.proofs.StateLemmas.{held-push, nodes-push}
+use Rattle.script_state.proofs.StateLemmas.{as-seen, held-push, nodes-push, state_in}
 use Rattle.script_state.proofs.state.State.add_copy.Goals as goal
 
 pub invariant_of-self-2 : goal.invariant_of-self-2
@@ -19,23 +18,8 @@ returns-clause-state c =
     let nodes =
     nodes-push own.nodes c.push.new.self (c.args.name, c.args.node) c.in_ok-push.ensures.ok
     types in
-    let here : State = record {
-      types = own.known.names;
-      functions = map (function_of own.known) own.functions.entries;
-      nodes = map (node_of types) c.push.new.self;
-      names = own.names.entries;
-      outputs = own.outputs.entries;
-      statements = own.statements;
-    } in
-    subst
-    (λ checking. here
-    ≡ with_copies ((c.args.name, node_in checking.types c.args.node) ∷ []) checking.state)
+    as-seen
+    (λ checking. with_copies ((c.args.name, node_in checking.types c.args.node) ∷ [])
+    checking.state)
     c.self.view_is
-    (λ i. record {
-      types = own.known.names;
-      functions = map (function_of own.known) own.functions.entries;
-      nodes = nodes i;
-      names = own.names.entries;
-      outputs = own.outputs.entries;
-      statements = own.statements;
-    })
+    (λ i. record (state_in own) { nodes = nodes i })

@@ -6,10 +6,10 @@ use Rattle.body_check.specs.of_written_types.Named.{find}
 use Rattle.script_program.specs.declared.made.Making.{Making as HeldMaking}
 use Rattle.script_program.specs.declared.made.Node.{Node as HeldNode}
 use Rattle.script_program.specs.declared.made.Standing.TheVariants.{Collection}
-use Rattle.script_program.specs.Script.{State, with_node}
+use Rattle.script_program.specs.Script.{with_node}
 use Rattle.script_program.specs.Program.{making_in}
-use Rattle.script_program.specs.inner.Tables.{function_of, node_of}
-use Rattle.script_state.proofs.StateLemmas.{none-is, held-push, nodes-push}
+use Rattle.script_program.specs.inner.Tables.{node_of}
+use Rattle.script_state.proofs.StateLemmas.{as-seen, none-is, held-push, nodes-push, state_in}
 use Rattle.script_state.proofs.state.State.add_node.Goals as goal
 
 abbrev held : HeldMaking → ℕ → HeldNode
@@ -51,23 +51,7 @@ returns-clause-state c =
     let many : c.len-number.result ≡ length (map (node_of types) own.nodes) =
     c.len-number.ensures ∙ sym (length-map own.nodes (node_of types)) in
     let names = put ∙ (λ j. own.names.entries ++ (key j, Collection (many j)) ∷ []) in
-    let here : State = record {
-      types = own.known.names;
-      functions = map (function_of own.known) own.functions.entries;
-      nodes = map (node_of types) c.push.new.self;
-      names = c.insert.new.self.entries;
-      outputs = own.outputs.entries;
-      statements = own.statements;
-    } in
-    subst
-    (λ checking. here
-    ≡ with_node c.args.name (making_in checking.types c.args.making) checking.state)
+    as-seen
+    (λ checking. with_node c.args.name (making_in checking.types c.args.making) checking.state)
     c.self.view_is
-    (λ i. record {
-      types = own.known.names;
-      functions = map (function_of own.known) own.functions.entries;
-      nodes = nodes i;
-      names = names i;
-      outputs = own.outputs.entries;
-      statements = own.statements;
-    })
+    (λ i. record (state_in own) { nodes = nodes i; names = names i })

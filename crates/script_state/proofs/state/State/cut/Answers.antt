@@ -1,8 +1,8 @@
 use Rattle.std.proofs.Common.{◌≡◌, drop, map, subst}
-use Rattle.script_program.specs.Script.{State, with_front}
-use Rattle.script_program.specs.inner.Tables.{function_of, node_of}
+use Rattle.script_program.specs.Script.{with_front}
+use Rattle.script_program.specs.inner.Tables.{node_of}
 use Rattle.script_state.proofs.StateLemmas.{held-behind, held-front, held-none, nodes-behind}
-use Rattle.script_state.proofs.StateLemmas.{nodes-front}
+use Rattle.script_state.proofs.StateLemmas.{as-seen, nodes-front, state_in}
 use Rattle.script_state.proofs.state.State.cut.Goals as goal
 
 pub invariant_of-self : goal.invariant_of-self
@@ -36,23 +36,8 @@ returns-clause-typed c =
 pub returns-clause-state : goal.returns-clause-state
 returns-clause-state c =
     let own = c.self.inside in
-    let types = own.known.types in
-    let left = c.cut_out.new.nodes in
-    let here : State = record {
-      types = own.known.names;
-      functions = map (function_of own.known) own.functions.entries;
-      nodes = map (node_of types) left;
-      names = own.names.entries;
-      outputs = own.outputs.entries;
-      statements = own.statements;
-    } in
-    subst (λ checking. here ≡ with_front c.args.front checking.state) c.self.view_is
-    (λ i. record {
-      types = own.known.names;
-      functions = map (function_of own.known) own.functions.entries;
-      nodes = nodes-front own.known own.functions.entries own.nodes c.self.invariant types
-          c.args.front left c.in_ok-nodes.ensures.front i;
-      names = own.names.entries;
-      outputs = own.outputs.entries;
-      statements = own.statements;
+    as-seen (λ checking. with_front c.args.front checking.state) c.self.view_is
+    (λ i. record (state_in own) {
+      nodes = nodes-front own.known own.functions.entries own.nodes c.self.invariant
+          own.known.types c.args.front c.cut_out.new.nodes c.in_ok-nodes.ensures.front i;
     })

@@ -1,7 +1,0 @@
-use Rattle.std.proofs.Common.{◌≡◌, map, take}
-use Rattle.bag_groups.specs.inner.Runs.{held_by}
-use Rattle.bag_groups.proofs.groups.values_of.Given as goal
-
-abbrev pub invariant-loop-pair : goal.invariant-loop-pair
-invariant-loop-pair l =
-    l.values.items ≡ held_by (map (λ p. p.now) (take l.pair-index l.pairs))
