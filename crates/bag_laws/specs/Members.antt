@@ -29,7 +29,7 @@ AreBelow lower upper = All (λ v. All (λ w. IsFalse (is_lt (value_cmp w v))) up
 
 -- Some members, in ascending order, and the others are all of them. There are n at most, and fewer
 -- only where no others are left.
-pub record AreKept (n : ℕ) (values kept others : List Value) : Type 0 where
+pub record IsSelection (n : ℕ) (values kept others : List Value) : Type 0 where
   pub all : bag_of (kept ++ others) ≡ bag_of values
   pub ascending : IsSorted value_cmp kept
   pub most : length kept ≤ n
@@ -38,13 +38,13 @@ pub record AreKept (n : ℕ) (values kept others : List Value) : Type 0 where
 -- the n least members, all where there are fewer
 pub record AreLeast (n : ℕ) (values kept : List Value) : Type 0 where
   pub others : List Value
-  pub are : AreKept n values kept others
+  pub are : IsSelection n values kept others
   pub below : AreBelow kept others
 
 -- the n greatest members, all where there are fewer
 pub record AreGreatest (n : ℕ) (values kept : List Value) : Type 0 where
   pub others : List Value
-  pub are : AreKept n values kept others
+  pub are : IsSelection n values kept others
   pub above : AreBelow others kept
 
 -- the members, once each, ascending

@@ -54,10 +54,10 @@ fn int_pair(alloc: Global, key: i64, value: i64) -> Result<Value, AllocError>
 }
 
 /// The list of these ints.
-pub(crate) fn list(alloc: Global, members: &[i64]) -> Result<Value, AllocError> {
-    let mut list: Items = Pile::new(alloc);
+pub(crate) fn list(alloc: Global, members: &[i64]) -> Result<Items, AllocError> {
+    let mut list = Pile::new(alloc);
     for member in members {
         list.push(Value::Int(*member))?;
     }
-    Ok(Value::List(list))
+    Ok(list)
 }

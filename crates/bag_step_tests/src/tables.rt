@@ -6,51 +6,88 @@ use flume_value::Value;
 use std::alloc::{AllocError, Global};
 use std::test::Fail;
 
+/// A key, and the ints under it.
+type Group = (i64, &'static [i64]);
+
+/// A key, and the ints under it on the left and on the right.
+type Row = (i64, &'static [i64], &'static [i64]);
+
 /// A key with the list of these ints.
-fn listed(alloc: Global, key: i64, values: &[i64]) -> Result<Value, AllocError> {
-    pair(alloc, Value::Int(key), list(alloc, values)?)
+fn listed(alloc: Global, group: Group) -> Result<Value, AllocError> {
+    let (key, values) = group;
+    let values = list(alloc, values)?;
+    pair(alloc, Value::Int(key), Value::List(values))
 }
 
 /// A key with the lists of these ints on the left and on the right.
-fn row(alloc: Global, key: i64, left: &[i64], right: &[i64]) -> Result<Value, AllocError> {
-    let both = pair(alloc, list(alloc, left)?, list(alloc, right)?)?;
+fn row(alloc: Global, row: Row) -> Result<Value, AllocError> {
+    let (key, left, right) = row;
+    let lefts = list(alloc, left)?;
+    let rights = list(alloc, right)?;
+    let both = pair(alloc, Value::List(lefts), Value::List(rights))?;
     pair(alloc, Value::Int(key), both)
 }
+
+// Whether the pairs are grouped so.
+fn groups(alloc: Global, pairs: &[(i64, i64)], wanted: &[Group]) -> Result<bool, AllocError> {
+    let pairs = table(alloc, pairs)?;
+    let made = group(alloc, &pairs)?;
+    let mut all = Vec::new(alloc);
+    for one in wanted {
+        all.push(listed(alloc, *one)?)?;
+    }
+    Ok(made == all)
+}
+
+static GROUPS: [Group; 2] = [(1, &[5, 6, 6]), (2, &[7])];
 
 #[test]
 fn groups_values_by_key(rt: HostRuntime) -> Result<(), Fail> {
     let alloc = rt.alloc();
-    let mut wanted = Vec::new(alloc);
-    wanted.push(listed(alloc, 1, &[5, 6, 6])?)?;
-    wanted.push(listed(alloc, 2, &[7])?)?;
-    let pairs = table(alloc, &[(2, 7), (1, 6), (1, 5), (1, 6)])?;
-    assert!(rt; group(alloc, &pairs)? == wanted);
+    assert!(rt; groups(alloc, &[(2, 7), (1, 6), (1, 5), (1, 6)], &GROUPS)?);
+    assert!(rt; groups(alloc, &[], &[])?);
     Ok(())
 }
+
+// Whether the tables are joined so.
+fn joins(
+    alloc: Global,
+    left: &[(i64, i64)],
+    right: &[(i64, i64)],
+    wanted: &[Row],
+) -> Result<bool, AllocError> {
+    let lefts = table(alloc, left)?;
+    let rights = table(alloc, right)?;
+    let made = join(alloc, &lefts, &rights)?;
+    let mut all = Vec::new(alloc);
+    for one in wanted {
+        all.push(row(alloc, *one)?)?;
+    }
+    Ok(made == all)
+}
+
+static OF_EITHER: [Row; 4] = [
+    (0, &[], &[4]),
+    (1, &[5, 6], &[9]),
+    (2, &[7], &[]),
+    (3, &[], &[8]),
+];
+
+static OF_LEFT: [Row; 1] = [(1, &[5], &[])];
 
 #[test]
 fn joins_keys_of_either_side(rt: HostRuntime) -> Result<(), Fail> {
     let alloc = rt.alloc();
-    let left = table(alloc, &[(2, 7), (1, 6), (1, 5)])?;
-    let right = table(alloc, &[(3, 8), (1, 9), (0, 4)])?;
-    let mut wanted = Vec::new(alloc);
-    wanted.push(row(alloc, 0, &[], &[4])?)?;
-    wanted.push(row(alloc, 1, &[5, 6], &[9])?)?;
-    wanted.push(row(alloc, 2, &[7], &[])?)?;
-    wanted.push(row(alloc, 3, &[], &[8])?)?;
-    assert!(rt; join(alloc, &left, &right)? == wanted);
+    let left = [(2, 7), (1, 6), (1, 5)];
+    let right = [(3, 8), (1, 9), (0, 4)];
+    assert!(rt; joins(alloc, &left, &right, &OF_EITHER)?);
     Ok(())
 }
 
 #[test]
 fn joins_with_none(rt: HostRuntime) -> Result<(), Fail> {
     let alloc = rt.alloc();
-    let some = table(alloc, &[(1, 5)])?;
-    let none = table(alloc, &[])?;
-    let mut wanted = Vec::new(alloc);
-    wanted.push(row(alloc, 1, &[5], &[])?)?;
-    assert!(rt; join(alloc, &some, &none)? == wanted);
-    assert!(rt; join(alloc, &none, &none)?.is_empty());
-    assert!(rt; group(alloc, &none)?.is_empty());
+    assert!(rt; joins(alloc, &[(1, 5)], &[], &OF_LEFT)?);
+    assert!(rt; joins(alloc, &[], &[], &[])?);
     Ok(())
 }

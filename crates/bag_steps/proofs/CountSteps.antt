@@ -1,12 +1,12 @@
 -- How often values are in an ascending bag, run by run.
-use Rattle.std.proofs.Common.{◌≡◌, ◌<◌, ◌≤◌, ◌+◌, ◌^◌, ℕ, zero, suc, Some, pos, List, [], ◌∷◌, ◌++◌, get_or, length, take, drop, refl, sym, ap, ◌∙◌, subst, arith, if◌then◌else◌, length-drop}
+use Rattle.std.proofs.Common.{◌≡◌, ◌<◌, ◌≤◌, ◌+◌, ◌^◌, ℕ, zero, suc, Some, pos, List, [], ◌∷◌, ◌++◌, get_or, length, take, drop, refl, sym, ap, ◌∙◌, subst, add-zero, arith, if◌then◌else◌, length-drop}
 use Rattle.std.specs.Int.{cast_signed, w64, w128}
 use Rattle.std.specs.Prelude.{Result, Ok, Err, slice_get}
 use Rattle.std.specs.List.{AllByRecursion as Each, flat_map}
 use Rattle.std.specs.List.Sorted.{IsSorted}
 use Rattle.std.proofs.lemmas.Bool.{lt-ltb}
 use Rattle.std.proofs.lemmas.Int.{int_wrap_fits, to_z_pos}
-use Rattle.std.proofs.lemmas.List.{drop-drop, length-take-le, take-append-drop}
+use Rattle.std.proofs.lemmas.List.{drop-drop, get_or-drop, length-take-le, take-append-drop}
 use Rattle.flume_value.specs.declared.fault.Kind.{Kind}
 use Rattle.flume_value.specs.declared.fault.Kind.TheVariants.{Overflow}
 use Rattle.flume_value.specs.declared.value.Value.{Value}
@@ -102,11 +102,15 @@ counted-ahead rest k n up some at r =
     (omega (arith, run_some rest k n some at r))
     ∙ ap (λ m. combined_pair k (number m) ++ counted left) count
 
--- ---- the loop's step: rest is what is left of the bag, k its first
+-- ---- the loop's step: rest is what is left of the bag, k the value there
 
 module _ (xs rest : List Value) (i n : ℕ) (k : Value) (up : IsSorted value_cmp xs)
-    (within : i < length xs) (is : rest ≡ drop i xs) (at : k ≡ get_or rest 0 k)
+    (within : i < length xs) (is : rest ≡ drop i xs) (here : k ≡ get_or xs i k)
     (r : IsRun (λ v. v) k rest n) where
+  at : k ≡ get_or rest 0 k
+  at = here ∙ sym (ap (λ l. get_or l 0 k) is ∙ get_or-drop i xs 0 k
+      ∙ ap (λ m. get_or xs m k) (add-zero i))
+
   some_left : 0 < length rest
   some_left = omega (arith, ap length is, length-drop i xs)
 

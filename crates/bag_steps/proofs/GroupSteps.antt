@@ -92,6 +92,17 @@ nothing_left made xs rows i none end all =
     sym (all ∙ ap (λ l. rows ++ made l) (drop_all i xs end) ∙ ap (λ l. rows ++ l) none
     ∙ append-nil rows)
 
+-- so many of the values are done, and what is made of the others is left to be added
+pub record Begun (made : List Value → List Value) (xs rows : List Value) (i : ℕ) : Type 0 where
+  pub within : i ≤ length xs
+  pub all : made xs ≡ rows ++ made (drop i xs)
+
 pub sorted_as : (rows all : List Value) → rows ≡ all → IsSorted value_cmp all
     → IsSorted value_cmp rows
 sorted_as rows all e up = subst (IsSorted value_cmp) (sym e) up
+
+pub sorted : (made : List Value → List Value) (xs rows : List Value) (i : ℕ)
+    → Begun made xs rows i → length xs ≤ i → made [] ≡ [] → IsSorted value_cmp (made xs)
+    → IsSorted value_cmp rows
+sorted made xs rows i begun end none up =
+    sorted_as rows (made xs) (nothing_left made xs rows i none end begun.all) up

@@ -23,9 +23,8 @@ pub fn count(alloc: Global, bag: &[Value]) -> Result<Vec<Value>, AllocError>
     let mut pairs = Vec::new(alloc);
     let mut at = 0;
     while at < bag.len() {
-        let rest = &bag[at..];
-        let first = &rest[0];
-        let run = run_of_value(first, rest);
+        let first = &bag[at];
+        let run = run_of_value(first, &bag[at..]);
         pairs.push(pair_of_count(alloc, first, run as i64)?)?;
         at += run;
     }

@@ -34,7 +34,8 @@ names_filled (g.more {x} {xs} h) p = let (q, ms, n, j) = names_filled h p in
     (on (on q), ms ++ (q 1).word ∷ [], one_more xs ms x ((q 1).word) n, g.more j)
 
 numbered_filled : {k : Keyword} {ts us : List Token} {o : Option (List ℕ)}
-    → g.IsNumbered k ts us o → (p : Plan) → Filled (λ xs ys x. g.IsNumbered k xs ys x) p ts us
+    → g.IsOptionalNumber k ts us o → (p : Plan)
+    → Filled (λ xs ys x. g.IsOptionalNumber k xs ys x) p ts us
 numbered_filled g.absent p = (p, _, g.absent)
 numbered_filled g.present p = (on (on p), _, g.present)
 

@@ -8,7 +8,7 @@ use Rattle.flume_tokens.specs.declared.token.Token.{Token}
 use Rattle.flume_tokens.specs.declared.token.TokenKind.{TokenKind}
 use Rattle.flume_tokens.specs.declared.token.TokenKind.TheVariants as kind
 use Rattle.flume_tokens.specs.Keywords.{keyword_of}
-use Rattle.token_spelling.specs.Spellable.{IsName, IsNumber, IsSpellable, Ascend, AreSpellable}
+use Rattle.token_spelling.specs.Spellable.{IsName, IsNumber, IsSpellable, AscendByLine, AreSpellable}
 use Rattle.token_spelling.specs.Spelled.{line_from}
 use Rattle.beginning_spelling.proofs.Fillings.{Filling, kind_with, token_with, filled}
 
@@ -99,12 +99,13 @@ plain_each line (t ∷ ts) =
     (plain_kind t.kind line) (plain_each line ts)
 
 plain_lines : (from line : ℕ) (ts : List Token) → from ≤ line
-    → Ascend from (filled (λ n. plain line) ts)
+    → AscendByLine from (filled (λ n. plain line) ts)
 plain_lines from line [] h = tt
 plain_lines from line (t ∷ ts) h = (h, plain_lines line line ts (omega arith))
 
-lines_behind : (line : ℕ) (ts us : List Token) → Ascend line ts → Ascend (line_from line ts) us
-    → Ascend line (ts ++ us)
+lines_behind : (line : ℕ) (ts us : List Token) → AscendByLine line ts
+    → AscendByLine (line_from line ts) us
+    → AscendByLine line (ts ++ us)
 lines_behind line [] us h k = k
 lines_behind line (t ∷ ts) us h k = (h.0, lines_behind t.line ts us h.1 k)
 
@@ -125,7 +126,7 @@ front_each [] us h = All-nil Spelled
 front_each (t ∷ ts) us h = All-cons Spelled t ts (All-head Spelled t (ts ++ us) h)
     (front_each ts us (All-tail Spelled t (ts ++ us) h))
 
-front_lines : (line : ℕ) (ts us : List Token) → Ascend line (ts ++ us) → Ascend line ts
+front_lines : (line : ℕ) (ts us : List Token) → AscendByLine line (ts ++ us) → AscendByLine line ts
 front_lines line [] us h = tt
 front_lines line (t ∷ ts) us h = (h.0, front_lines t.line ts us h.1)
 

@@ -4,7 +4,7 @@ use Rattle.std.specs.Prelude.{IsUtf8}
 use Rattle.flume_tokens.specs.declared.token.Token.{Token}
 use Rattle.flume_tokens.specs.Tokens.{tokens_from}
 use Rattle.flume_grammar.specs.Limits.{Limits}
-use Rattle.flume_grammar.specs.Fault.{IsBeginning, IsWhole}
+use Rattle.flume_grammar.specs.Fault.{IsBeginning, IsWholeScript}
 use Rattle.flume_grammar.specs.Grammar.{IsScript}
 use Rattle.token_spelling.specs.Spellable.{AreSpellable}
 use Rattle.token_spelling.specs.Spelled.{spelled}
@@ -13,8 +13,8 @@ use Rattle.beginning_spelling.proofs.FilledScripts.{script_filled}
 use Rattle.beginning_spelling.proofs.PlainTokens.{plan, behind, stay, spelled_behind}
 
 -- a script stays one with plain tokens behind those that stay
-whole_behind : (limits : Limits) (ts others : List Token) → IsWhole limits (ts ++ others)
-    → IsWhole limits (ts ++ behind 1 ts others)
+whole_behind : (limits : Limits) (ts others : List Token) → IsWholeScript limits (ts ++ others)
+    → IsWholeScript limits (ts ++ behind 1 ts others)
 whole_behind limits ts others (ss, h) =
     let (q, rs, k) = script_filled limits h (plan 1 ts) in
     (rs, subst (λ us. IsScript limits us rs) (stay 1 ts others) k)

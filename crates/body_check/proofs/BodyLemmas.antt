@@ -29,7 +29,7 @@ use Rattle.body_check.specs.Call.{run_all, block, emitted_by, after, layer_emitt
 use Rattle.body_check.specs.inner.Slots.{Placed, slots_as, block_slots, block as block_of}
 use Rattle.body_check.specs.inner.Slots.{layer_placed, placed_of}
 use Rattle.body_check.proofs.FormLemmas.{emitted_in-step, after-step}
-use Rattle.body_check.proofs.PlacedLemmas.{placed_of-step}
+use Rattle.body_check.proofs.PlacedLemmas.{placed_at}
 use Rattle.body_check.proofs.BlockLemmas.{Doing, IsPlaced, ArePlaced, IsBlock, next_of, as_block}
 use Rattle.body_check.proofs.StatementLemmas.{assoc, renamed, as_right, let_by, emit_by, if_by}
 use Rattle.body_check.proofs.StatementLemmas.{for_by, case_by}
@@ -153,7 +153,7 @@ module _ (known : Named Ty) (gives : List Ty) where
   from_form b s h =
       subst (AsFound s)
       (λ i. (
-        sym (placed_of-step gives b s) i,
+        sym (placed_at gives b (out-Body b) s refl) i,
         sym (after-step gives b s) i,
         λ st. sym (emitted_in-step known b st) i,
       )) h

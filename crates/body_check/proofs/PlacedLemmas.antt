@@ -25,47 +25,44 @@ module _ (gives : List Ty) where
   mapped : (f : Body → Sight → Checked Placed) (x : Body-F Body) (s : Sight)
       → layer_placed gives (λ m. m) (map-Body Body (Sight → Checked Placed) f x) s
       ≡ layer_placed gives f x s
-  mapped f (Body-F.Let line name e) s = refl
-  mapped f (Body-F.Emit line to e) s = refl
   mapped f (Body-F.If line e a b) s =
       λ i. if_slots line e (λ t. block_mapped f a t i) (λ t. block_mapped f b t i) s
   mapped f (Body-F.For line name e inner) s =
       λ i. for_slots line name e (λ t. block_mapped f inner t i) s
   mapped f (Body-F.Case line e left a right b) s =
       λ i. case_slots line e left (λ t. block_mapped f a t i) right (λ t. block_mapped f b t i) s
+  mapped f _ s = refl
 
-  pub placed_of-step : (b : Body) (s : Sight)
-      → placed_of gives b s ≡ layer_placed gives (placed_of gives) (out-Body b) s
-  placed_of-step b s =
+  -- the slots of a statement of this form
+  pub placed_at : (b : Body) (x : Body-F Body) (s : Sight) → out-Body b ≡ x
+      → placed_of gives b s ≡ layer_placed gives (placed_of gives) x s
+  placed_at b x s is =
       ap (λ f. f s) (fold_out-Body (Sight → Checked Placed) (layer_placed gives (λ m. m)) b)
       ∙ mapped (placed_of gives) (out-Body b) s
-
-  at : (b : Body) (x : Body-F Body) (s : Sight) → out-Body b ≡ x
-      → placed_of gives b s ≡ layer_placed gives (placed_of gives) x s
-  at b x s is = placed_of-step b s ∙ ap (λ y. layer_placed gives (placed_of gives) y s) is
+      ∙ ap (λ y. layer_placed gives (placed_of gives) y s) is
 
   pub placed-Let : (line : ℕ) (name : List ℕ) (e : Expr) (s : Sight)
       → placed_of gives (body.Let line name e) s ≡ let_slots line name e s
-  placed-Let line name e s = at _ _ s (body.outs-Let line name e)
+  placed-Let line name e s = placed_at _ _ s (body.outs-Let line name e)
 
   pub placed-Emit : (line : ℕ) (to : Option (List ℕ)) (e : Expr) (s : Sight)
       → placed_of gives (body.Emit line to e) s ≡ emit_slots line gives to e s
-  placed-Emit line to e s = at _ _ s (body.outs-Emit line to e)
+  placed-Emit line to e s = placed_at _ _ s (body.outs-Emit line to e)
 
   pub placed-If : (line : ℕ) (e : Expr) (a b : List Body) (s : Sight)
       → placed_of gives (body.If line e a b) s
       ≡ if_slots line e (block (placed_of gives) a) (block (placed_of gives) b) s
-  placed-If line e a b s = at _ _ s (body.outs-If line e a b)
+  placed-If line e a b s = placed_at _ _ s (body.outs-If line e a b)
 
   pub placed-For : (line : ℕ) (name : List ℕ) (e : Expr) (inner : List Body) (s : Sight)
       → placed_of gives (body.For line name e inner) s
       ≡ for_slots line name e (block (placed_of gives) inner) s
-  placed-For line name e inner s = at _ _ s (body.outs-For line name e inner)
+  placed-For line name e inner s = placed_at _ _ s (body.outs-For line name e inner)
 
   pub placed-Case : (line : ℕ) (e : Expr) (left : List ℕ) (a : List Body) (right : List ℕ)
       (b : List Body) (s : Sight)
       → placed_of gives (body.Case line e left a right b) s
       ≡ case_slots line e left (block (placed_of gives) a) right (block (placed_of gives) b) s
-  placed-Case line e left a right b s = at _ _ s (body.outs-Case line e left a right b)
+  placed-Case line e left a right b s = placed_at _ _ s (body.outs-Case line e left a right b)
 
 pub ruleset placed_rules = (placed-Let, placed-Emit, placed-If, placed-For, placed-Case)

@@ -11,7 +11,7 @@ use Rattle.dofn_eval.specs.declared.stmt.Stmt.TheVariants as stmt
 use Rattle.expression_check.specs.of_written_types.Answer.{◌>>=◌, or_fault}
 use Rattle.expression_check.specs.of_expression_types.Sight.{Newest, Sight}
 use Rattle.expression_check.specs.of_expression_types.Fields.{side_types}
-use Rattle.expression_check.specs.Slots.{Typed, slots_of}
+use Rattle.expression_check.specs.Slots.{SlotsAndType, slots_of}
 use Rattle.body_check.specs.inner.Frames.{IsBehind}
 use Rattle.body_check.specs.inner.Slots.{Placed, InBlock, block_slots, both_slots, case_slots}
 use Rattle.body_check.specs.inner.Slots.{placed_of}
@@ -43,7 +43,7 @@ next-placed gives statements i statement s slots x in_ is one =
 -- ---- a `case` whose sides have types
 
 pub case-goes-on : (line : ℕ) (e : Expr) (left right_ : List ℕ) (a b : InBlock) (s : Sight)
-    (x : Typed) (sides : Ty × Ty) → slots_of line e s ≡ Ok x
+    (x : SlotsAndType) (sides : Ty × Ty) → slots_of line e s ≡ Ok x
     → or_fault line Mistyped (side_types x.1) ≡ Ok sides
     → case_slots line e left a right_ b s
     ≡ (both_slots line sides left a right_ b s >>= λ both. Ok (stmt.Case x.0 both.0 both.1, s))

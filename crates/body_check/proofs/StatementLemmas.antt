@@ -21,7 +21,7 @@ use Rattle.expression_check.specs.of_written_types.Answer.{Checked, ◌>>=◌, u
 use Rattle.expression_check.specs.of_expression_types.Sight.{Newest, Sight, with_name}
 use Rattle.expression_check.specs.of_expression_types.Fields.{member_type, side_types}
 use Rattle.expression_check.specs.Given.{tagged, valued}
-use Rattle.expression_check.specs.Slots.{Typed}
+use Rattle.expression_check.specs.Slots.{SlotsAndType}
 use Rattle.expression_check.specs.Right.{types, bound, IsRight}
 use Rattle.expression_check.proofs.of_expression_types.TypeLemmas.{list_type_is, either_type_is}
 use Rattle.body_check.specs.Outputs.{output_of}
@@ -60,7 +60,7 @@ module _ (line : ℕ) (test : Ty → Bool) (wanted : Ty) (is : (t : Ty) → test
       (tested type ≡ Ok tt) × typing.Typed (types names) k wanted
       × ((vs : List Value) → given (bound names vs) ≡ tagged wanted (value_of k vs))
 
-  as_test : (b : Bool) (x : Typed) (type : Checked Ty) (given : Giving) → test x.1 ≡ b
+  as_test : (b : Bool) (x : SlotsAndType) (type : Checked Ty) (given : Giving) → test x.1 ≡ b
       → IsRight names (Ok x) type given
       → IsAs (unless line Mistyped b >>= λ passes. Ok x.0) type given
   as_test true x type given e h =
@@ -71,14 +71,15 @@ module _ (line : ℕ) (test : Ty → Bool) (wanted : Ty) (is : (t : Ty) → test
       )
   as_test false x type given e h = ap tested h.0 ∙ ap (unless line Mistyped) e
 
-  pub as_right : (o : Checked Typed) (type : Checked Ty) (given : Giving)
+  pub as_right : (o : Checked SlotsAndType) (type : Checked Ty) (given : Giving)
       → IsRight names o type given
       → IsAs (o >>= λ x. unless line Mistyped (test x.1) >>= λ passes. Ok x.0) type given
   as_right (Err f) type given h = ap tested h
   as_right (Ok x) type given h = as_test (test x.1) x type given refl h
 
 module _ (line : ℕ) (gives : List Ty) (s : Sight) where
-  pub let_by : (name : List ℕ) (u : Checked (Unit {0})) (o : Checked Typed) (type : Checked Ty)
+  pub let_by : (name : List ℕ) (u : Checked (Unit {0})) (o : Checked SlotsAndType)
+      (type : Checked Ty)
       (given : Giving) → IsRight s.names o type given
       → IsPlaced gives s ((u >>= λ new. o) >>= λ x. Ok (stmt.Let x.0, with_name name x.1 s))
       (u >>= λ new. type >>= λ t. Ok (with_name name t s))
@@ -140,7 +141,7 @@ module _ (line : ℕ) (gives : List Ty) (s : Sight) where
 
   -- ---- a statement whose expression has slots
 
-  module _ (x : Typed) (type : Checked Ty) (given : Giving) (h : IsRight s.names
+  module _ (x : SlotsAndType) (type : Checked Ty) (given : Giving) (h : IsRight s.names
       (Ok x) type given) where
     for_block : (name : List ℕ) (m : Ty) (f : Emits) (found : Checked (List Stmt))
         (next : Checked Sight) → member_type x.1 ≡ Some m
@@ -227,7 +228,8 @@ module _ (line : ℕ) (gives : List Ty) (s : Sight) where
         (n (with_name right_ sides.1 s)) is (p (with_name left sides.0 s) refl)
         (q (with_name right_ sides.1 s) refl)
 
-  pub for_by : (name : List ℕ) (u : Checked (Unit {0})) (o : Checked Typed) (type : Checked Ty)
+  pub for_by : (name : List ℕ) (u : Checked (Unit {0})) (o : Checked SlotsAndType)
+      (type : Checked Ty)
       (given : Giving) (f : Emits) (found : InBlock) (next : Sight → Checked Sight)
       → IsRight s.names o type given → IsInside gives s found next f
       → IsPlaced gives s
@@ -247,7 +249,7 @@ module _ (line : ℕ) (gives : List Ty) (s : Sight) where
       (for_member x type given h name f found next b (member_type x.1) refl)
 
   pub case_by : (left right_ : List ℕ) (f g : Emits) (u w : Checked (Unit {0})) (a b : InBlock)
-      (m n : Sight → Checked Sight) (o : Checked Typed) (type : Checked Ty) (given : Giving)
+      (m n : Sight → Checked Sight) (o : Checked SlotsAndType) (type : Checked Ty) (given : Giving)
       → IsInside gives s a m f → IsInside gives s b n g → IsRight s.names o type given
       → IsPlaced gives s
       (o >>= λ x. or_fault line Mistyped (side_types x.1) >>= λ sides.

@@ -6,6 +6,7 @@ use Rattle.flume_value.specs.Parts.{members_of, left_of, right_of}
 use Rattle.flume_types.specs.declared.types.Ty.{Ty}
 use Rattle.flume_grammar.specs.declared.tree.Body.{Body, Body-F, fold-Body}
 use Rattle.dofn_eval.specs.Outcome.{Outcome, Gives, Stuck, then, with_part}
+pub use Rattle.dofn_eval.specs.Outcome.{run_all}
 use Rattle.dofn_eval.specs.Operations.{chosen}
 use Rattle.dofn_eval.specs.Run.{Emissions, emitted_to}
 use Rattle.expression_check.specs.of_written_types.Named.{Named}
@@ -21,12 +22,6 @@ pub record NameState : Type 0 where
 
 abbrev pub state : Environment → Emissions → NameState
 state env out = record { env = env; out = out }
-
--- statements one after another
-abbrev pub run_all : {X : Type 0} → (X → NameState → Outcome NameState) → List X → NameState
-    → Outcome NameState
-run_all f [] s = Gives s
-run_all f (x ∷ xs) s = then (f x s) (run_all f xs)
 
 -- what a block emits in an environment, behind what was emitted so far
 abbrev pub Emits : Type 0

@@ -2,7 +2,6 @@
 ghost use Rattle.std.specs.Prelude.{◌≡◌, ℕ, ◌≤◌, ◌<◌, [], ◌∷◌, length, map, IfOk};
 ghost use Rattle.flume_value.specs.declared.value.Value.{Value as Value_};
 ghost use Rattle.dofn_eval.specs.Run.{means as slots_mean};
-ghost use Rattle.dofn_eval.specs.Typed.{BlockTyped};
 ghost use Rattle.dofn_eval.specs.Function.{FunTyped};
 ghost use Rattle.expression_check.specs.of_type_table.Table.{type_at, Extends};
 ghost use Rattle.expression_check.specs.of_written_types.Answer.{Gives};
@@ -48,37 +47,12 @@ pub fn check_body(
     ensures extends { Extends known.old.types known.new.types }
     ensures names { known.new.names ≡ known.old.names }
 {
-    let block = block_of(alloc, known, argument, takes, gives, body)?;
-    Ok(Fun::new(gives.len(), block))
-}
-
-/// The slots of a function's body.
-fn block_of(
-    alloc: Global,
-    known: &mut TypeNames,
-    argument: &Str,
-    takes: TypeId,
-    gives: &[TypeId],
-    body: &[Body],
-) -> Result<Block, ScriptFault>
-    requires takes { takes < length known.old.types }
-    requires gives { AreTypes (length known.old.types) gives.now }
-    requires most { length gives.now ≤ 8 }
-    ensures gives { Gives (λ _. tt) result (body_of known.old.names argument.now
-        (type_at known.old.types takes) (map (type_at known.old.types) gives.now) body.now) }
-    ensures typed { IfOk result (λ block. BlockTyped (type_at known.old.types takes ∷ []) block
-        (map (type_at known.old.types) gives.now)) }
-    ensures same { IfOk result (λ block. (outputs : ℕ) (x : Value_) →
-        means known.old.names outputs argument.now (type_at known.old.types takes) body.now x
-        ≡ slots_mean outputs block x) }
-    ensures extends { Extends known.old.types known.new.types }
-    ensures names { known.new.names ≡ known.old.names }
-{
     let taken = replace(known, TypeNames::new(alloc));
     let mut frame = Frame::new(Scope::new(alloc, taken), gives);
     let slots = slots_of(alloc, argument, takes, body, &mut frame);
     *known = frame.into_scope().into_known();
-    slots
+    let block = slots?;
+    Ok(Fun::new(gives.len(), block))
 }
 
 /// The slots of a body, where no name of a value is in sight but the argument's.
@@ -96,7 +70,6 @@ fn slots_of(
     ensures extends { Extends frame.old.types frame.new.types }
     ensures known { frame.new.sight.known ≡ frame.old.sight.known }
 {
-    let name = argument.copy(alloc)?;
-    frame.add(name, takes)?;
+    frame.add(alloc, argument, takes)?;
     block(alloc, body, frame)
 }

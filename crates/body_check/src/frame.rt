@@ -115,16 +115,17 @@ impl<'a> Frame<'a> {
         self.scope.len()
     }
 
-    /// One name more.
-    pub fn add(&mut self, name: Str, id: TypeId) -> Result<(), AllocError>
-        requires new { find name self.old.sight.names ≡ None }
+    /// One name more, by a copy of it.
+    pub fn add(&mut self, alloc: Global, name: &Str, id: TypeId) -> Result<(), AllocError>
+        requires new { find name.now self.old.sight.names ≡ None }
         requires within { id < length self.old.types }
         ensures types { self.new.types ≡ self.old.types }
         ensures known { self.new.sight.known ≡ self.old.sight.known }
         ensures sight { OnOk result
-            (self.new.sight ≡ with_name name (type_at self.old.types id) self.old.sight) }
+            (self.new.sight ≡ with_name name.now (type_at self.old.types id) self.old.sight) }
         ensures emits { self.new.gives ≡ self.old.gives }
     {
+        let name = name.copy(alloc)?;
         self.scope.add(name, id)
     }
 

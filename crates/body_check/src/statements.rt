@@ -114,9 +114,13 @@ fn place_let(
     ensures emits { frame.new.gives ≡ frame.old.gives }
 {
     let x = new_value(alloc, line, name, e, frame)?;
-    let name = name.copy(alloc)?;
-    frame.add(name, x.ty)?;
-    Ok(Stmt::Let(x.expr))
+    match frame.add(alloc, name, x.ty) {
+        Ok(()) => Ok(Stmt::Let(x.expr)),
+        Err(_) => {
+            drop(x);
+            Err(ScriptFault::Memory)
+        }
+    }
 }
 
 fn place_emit(
@@ -138,6 +142,7 @@ fn place_emit(
     if frame.types().same(x.ty, wanted) {
         Ok(Stmt::Emit(output, x.expr))
     } else {
+        drop(x);
         Err(refused(line, ScriptKind::Mistyped))
     }
 }
@@ -193,9 +198,20 @@ fn place_if(
     ensures emits { frame.new.gives ≡ frame.old.gives }
 {
     let test = truth(alloc, line, e, frame)?;
-    let a = inner(alloc, blocks.first, frame)?;
-    let b = inner(alloc, blocks.second, frame)?;
-    Ok(Stmt::If(test, a, b))
+    match inner(alloc, blocks.first, frame) {
+        Ok(a) => match inner(alloc, blocks.second, frame) {
+            Ok(b) => Ok(Stmt::If(test, a, b)),
+            Err(fault) => {
+                drop(a);
+                drop(test);
+                Err(fault)
+            }
+        },
+        Err(fault) => {
+            drop(test);
+            Err(fault)
+        }
+    }
 }
 
 #[cycle(block)]
@@ -215,9 +231,19 @@ fn place_for(
     ensures emits { frame.new.gives ≡ frame.old.gives }
 {
     let x = new_value(alloc, line, name, e, frame)?;
-    let member = member_of(line, x.ty, frame.types())?;
-    let turn = named(alloc, name, member, body, frame)?;
-    Ok(Stmt::For(x.expr, turn))
+    match member_of(line, x.ty, frame.types()) {
+        Ok(member) => match named(alloc, name, member, body, frame) {
+            Ok(turn) => Ok(Stmt::For(x.expr, turn)),
+            Err(fault) => {
+                drop(x);
+                Err(fault)
+            }
+        },
+        Err(fault) => {
+            drop(x);
+            Err(fault)
+        }
+    }
 }
 
 #[cycle(block)]
@@ -239,9 +265,19 @@ fn place_case(
     ensures emits { frame.new.gives ≡ frame.old.gives }
 {
     let x = frame.resolve(alloc, line, e)?;
-    let sides = sides_of(line, x.ty, frame.types())?;
-    let both = both_sides(alloc, line, sides, names, blocks, frame)?;
-    Ok(Stmt::Case(x.expr, both.first, both.second))
+    match sides_of(line, x.ty, frame.types()) {
+        Ok(sides) => match both_sides(alloc, line, sides, names, blocks, frame) {
+            Ok(both) => Ok(Stmt::Case(x.expr, both.first, both.second)),
+            Err(fault) => {
+                drop(x);
+                Err(fault)
+            }
+        },
+        Err(fault) => {
+            drop(x);
+            Err(fault)
+        }
+    }
 }
 
 // The blocks of both sides.
@@ -313,8 +349,7 @@ fn named(
     ensures emits { frame.new.gives ≡ frame.old.gives }
 {
     let len = frame.len();
-    let name = name.copy(alloc)?;
-    frame.add(name, id)?;
+    frame.add(alloc, name, id)?;
     let slots = inner(alloc, body, frame)?;
     frame.leave(len);
     Ok(slots)
@@ -348,6 +383,7 @@ fn truth(alloc: Global, line: u32, e: &Expr, frame: &mut Frame<'_>) -> Result<Sl
     if is_bool(frame.types(), x.ty) {
         Ok(x.expr)
     } else {
+        drop(x);
         Err(refused(line, ScriptKind::Mistyped))
     }
 }

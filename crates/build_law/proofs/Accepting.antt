@@ -10,6 +10,7 @@ use Rattle.flume_types.specs.declared.types.Ty.{Ty}
 use Rattle.flume_value.proofs.EachLemmas.{Each-append}
 use Rattle.exec_graph.specs.Wellformed.{most_nodes}
 use Rattle.flume_grammar.specs.declared.tree.Type as tree
+use Rattle.flume_grammar.specs.declared.tree.Combiner.{Combiner}
 use Rattle.flume_grammar.specs.declared.tree.Form.{Form}
 use Rattle.flume_grammar.specs.declared.tree.Form.TheVariants as form
 use Rattle.flume_grammar.specs.declared.tree.Function.{Function as Written}
@@ -20,7 +21,7 @@ use Rattle.flume_grammar.specs.declared.tree.Statement.{Statement}
 use Rattle.flume_grammar.specs.declared.tree.TurnLet.{TurnLet}
 use Rattle.flume_grammar.specs.declared.fault.ScriptKind.TheVariants.{Mistyped, NoOutput, NotFlat}
 use Rattle.combine_table.specs.declared.comb.Comb.{Comb}
-use Rattle.written_types.specs.Answer.{Checked, unless, or_fault}
+use Rattle.written_types.specs.Answer.{Checked, ◌>>=◌, unless, or_fault}
 use Rattle.written_types.specs.Named.{Named, fresh}
 use Rattle.written_types.specs.Written.{whole_type}
 use Rattle.graph_build.specs.of_script_program.Limits.{most_collections, most_files}
@@ -139,6 +140,19 @@ module _ (line : ℕ) (s : State) where
       let same = length-map all.part (λ (source : Operand). source.number) in
       subst (λ (n : Making). IsShort n.made) (ok-same _ making t.then) (omega arith)
 
+  -- what is made of a collection by a combiner
+  comb_short : (of : Operand → Comb → Checked Making)
+      → ((one : Operand) (by : Comb) (making : Making) → of one by ≡ Ok making
+      → IsShort making.made)
+      → (source : List ℕ) (combiner : Combiner) (making : Making)
+      → (spec.collection line source s >>= (λ one. spec.comb_of line combiner >>= of one))
+      ≡ Ok making
+      → IsShort making.made
+  comb_short of short source combiner making e =
+      let one = both (spec.collection line source s) _ making e in
+      let by = both (spec.comb_of line combiner) _ making one.then in
+      short one.part by.part making by.then
+
   -- an operation that makes one collection
   alone_short : (one : Checked Making) (makings : List Making)
       → ((making : Making) → one ≡ Ok making → IsShort making.made)
@@ -154,10 +168,7 @@ module _ (line : ℕ) (s : State) where
       alone_short (spec.grouped line source s) makings (group_short source) e
   made_short (operation.Combine source combiner) makings short e =
       alone_short (spec.combined line source combiner s) makings
-      (λ making is.
-      let one = both (spec.collection line source s) _ making is in
-      let by = both (spec.comb_of line combiner) _ making one.then in
-      combine_short one.part by.part making by.then) e
+      (comb_short (spec.combine_of line) combine_short source combiner) e
   made_short (operation.Flatten sources) makings short e =
       alone_short (spec.flattened line sources s) makings
       (λ making is. flatten_short sources making short is) e
@@ -182,10 +193,7 @@ module _ (line : ℕ) (s : State) where
       subst (λ (n : Making). IsShort n.made) (ok-same _ making members.then) tt) e
   made_short (operation.CombineAll source combiner) makings short e =
       alone_short (spec.combined_whole line source combiner s) makings
-      (λ making is.
-      let one = both (spec.collection line source s) _ making is in
-      let by = both (spec.comb_of line combiner) _ making one.then in
-      whole_short one.part by.part making by.then) e
+      (comb_short (spec.combine_all_of line) whole_short source combiner) e
   made_short (operation.Operate objects function) makings short e =
       alone_short (spec.operated line objects function s) makings
       (λ making is.

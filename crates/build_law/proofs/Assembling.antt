@@ -23,7 +23,7 @@ use Rattle.build_law.proofs.Assigning.{AllFrom, all_from, at_of, settled_at}
 use Rattle.build_law.proofs.Blocks.{each_block}
 use Rattle.build_law.proofs.Calling.{built_wanted}
 use Rattle.build_law.proofs.Names.{each_name}
-use Rattle.build_law.proofs.MadeKinds.{IsOther, Kind, built_of, called, kind_of, other}
+use Rattle.build_law.proofs.MadeKinds.{built_of}
 use Rattle.build_law.proofs.Meeting.{IsBuiltBy, IsMadeBy, IsSettled, block_holds, made_of_place}
 use Rattle.build_law.proofs.Outputs.{EachName}
 use Rattle.build_law.proofs.Passing.{call_label}
@@ -136,21 +136,15 @@ module _ (script : Script) (inputs : List (List Value)) (made_ : List (Option Co
               (built_wanted script t number (made.Do input f o) found)).1;
         }
 
-    other_by : (number source : ℕ) (how : Made) → IsOther how
-        → IsMadeBy script (script_world script inputs) (at_of made_) number source how
-        → IsBuiltBy script (script_world script inputs) (at_of made_) number source how
-    other_by number source (made.Do input f o) apart h = absurd apart
-    other_by number source _ apart h = h
-
-    fed : (t number : ℕ) {mk : Made} → Kind mk
+    fed : (t number : ℕ) (mk : Made)
         → get_or (built script) t None ≡ Some (built_of number mk) → IsFed t number mk
-    fed t number (called input f o) found = call_fed t number input f o found
-    fed t number (other how apart) found =
+    fed t number (made.Do input f o) found = call_fed t number input f o found
+    fed t number how found =
         let is = made_here number how (built_wanted script t number how found) in
         record {
-          by = other_by number (source script t) how apart
-              (subst (λ s. IsMadeBy script (script_world script inputs) (at_of made_) number s how)
-              (sym (same_sources script well t number how apart found)) is.0);
+          by = subst
+              (λ s. IsMadeBy script (script_world script inputs) (at_of made_) number s how)
+              (sym (same_sources script well t number how tt found)) is.0;
           reads = is.1;
         }
 
@@ -159,7 +153,7 @@ module _ (script : Script) (inputs : List (List Value)) (made_ : List (Option Co
         each_block script (gives script)
         (λ e. Holds (script_world script inputs) assigned e.number e.node) 0 0 (built script)
         (λ t b found.
-        let it = fed t b.number (kind_of b.made) found in
+        let it = fed t b.number b.made found in
         let rows =
         row_told script nothing (at_of made_) inner_values inner_sized t b.number b.made found in
         block_holds script (script_world script inputs) (at_of made_) assigned (gives script)

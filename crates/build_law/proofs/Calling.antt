@@ -17,7 +17,7 @@ use Rattle.graph_build.specs.Built.{Built, as_made, built, built_as as built_nam
 use Rattle.graph_build.specs.Calls.{emitted_as, emitted_at, is_emitted, is_kept, kept_at}
 use Rattle.graph_build.specs.Wanted.{needed_at, wanted, wanted_from}
 use Rattle.graph_build.proofs.BuiltLemmas.{built_is}
-use Rattle.graph_build.proofs.StepLemmas.{found_below}
+use Rattle.graph_build.proofs.of_script_program.SourceSteps.{found_below}
 use Rattle.graph_build.proofs.WantedLemmas.{wanted_needed}
 use Rattle.build_law.proofs.MadeKinds.{built_of}
 use Rattle.build_law.proofs.Tables.{and_then_some, map_some}

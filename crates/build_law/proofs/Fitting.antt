@@ -17,6 +17,7 @@ use Rattle.graph_build.specs.Nodes.{barrier, before_last, call_branch, entry, fi
 use Rattle.combine_table.specs.declared.comb.Comb.{Comb}
 use Rattle.combine_table.specs.declared.comb.Comb.TheVariants as by
 use Rattle.exec_graph.specs.declared.graph.Act.TheVariants.{Singleton}
+use Rattle.exec_graph.specs.declared.graph.Node.{Node}
 use Rattle.exec_graph.specs.declared.graph.Node.TheVariants.{Flatten}
 use Rattle.exec_graph.specs.declared.step.Does.TheVariants as does
 use Rattle.graph_build.specs.of_script_program.declared.made.Made.{Made}
@@ -81,33 +82,36 @@ module _ (g : Graph) where
         (or_right (same_place c (first_of n)) (same_place c c || false)
         (or_left (same_place c c) false (same_self c))))
 
-    -- the greatest members are read by the last of their nodes
-    greatest_read : (many input : ℕ)
+    -- what is combined of all members is read by the node behind it
+    combined_read : (input : ℕ) (k : Comb) (last : Node) → uses (first_of (n + 2)) last ≡ true
         → any_uses (first_of (n + 2))
-        (made_nodes script gives origin source n (made.Top many input)) ≡ true
-    greatest_read many input =
-        let c = first_of (n + 2) in
-        any_behind (λ e. uses c e.node)
         (entry n (step origin does.Solo (gives input))
         ∷ entry (n + 1) (groups origin (first_of n))
-        ∷ entry (n + 2) (step origin (does.Combine (by.Top many)) (first_of (n + 1))) ∷ [])
-        (entry (n + 3) (last_step origin does.Spread (first_of (n + 2))) ∷ [])
-        (or_left (same_place c c || false) false
-        (or_left (same_place c c) false (same_self c)))
-
-    -- what is combined is read by the last of the nodes
-    whole_read : (input : ℕ) (k : Comb)
-        → any_uses (first_of (n + 2))
-        (made_nodes script gives origin source n (made.CombineAll input k)) ≡ true
-    whole_read input k =
+        ∷ entry (n + 2) (step origin (does.Combine k) (first_of (n + 1)))
+        ∷ entry (n + 3) last ∷ []) ≡ true
+    combined_read input k last used =
         let c = first_of (n + 2) in
         any_behind (λ e. uses c e.node)
         (entry n (step origin does.Solo (gives input))
         ∷ entry (n + 1) (groups origin (first_of n))
         ∷ entry (n + 2) (step origin (does.Combine k) (first_of (n + 1))) ∷ [])
-        (entry (n + 3) (barrier origin (Singleton k) (first_of (n + 2) ∷ [])) ∷ [])
-        (or_left (same_place c c || false) false
-        (or_left (same_place c c) false (same_self c)))
+        (entry (n + 3) last ∷ []) (or_left (uses c last) false used)
+
+    greatest_read : (many input : ℕ)
+        → any_uses (first_of (n + 2))
+        (made_nodes script gives origin source n (made.Top many input)) ≡ true
+    greatest_read many input =
+        let c = first_of (n + 2) in
+        combined_read input (by.Top many) (last_step origin does.Spread c)
+        (or_left (same_place c c) false (same_self c))
+
+    whole_read : (input : ℕ) (k : Comb)
+        → any_uses (first_of (n + 2))
+        (made_nodes script gives origin source n (made.CombineAll input k)) ≡ true
+    whole_read input k =
+        let c = first_of (n + 2) in
+        combined_read input k (barrier origin (Singleton k) (c ∷ []))
+        (or_left (same_place c c) false (same_self c))
 
     -- its last node is read, or each output of its call that has a number
     abbrev pub IsLastRead : Made → Type 0

@@ -15,8 +15,9 @@ use Rattle.graph_build.specs.of_script_program.declared.made.Made.{Made}
 use Rattle.graph_build.specs.of_script_program.declared.made.Made.TheVariants as made
 use Rattle.graph_build.specs.of_script_program.Script.{Script}
 use Rattle.direct_meaning.specs.of_script_laws.WellFormed.{function_at}
+use Rattle.direct_meaning.proofs.DoneLemmas.{has_done}
 use Rattle.direct_meaning.specs.Calls.{answer_of, calls_on}
-use Rattle.direct_meaning.specs.Direct.{all_made, called_by, combined_by, counted_by, done_at, done_beside_at, done_by, joined_at, joined_by, made_as, made_at, operated_at, rows_as, top_by}
+use Rattle.direct_meaning.specs.Direct.{all_made, called_by, combined_by, counted_by, done_at, done_beside_at, joined_at, joined_by, made_as, made_at, operated_at, rows_as, top_by}
 use Rattle.direct_meaning.specs.Objects.{combined_whole, done_beside, operated_by}
 use Rattle.graph_build.specs.of_script_program.Needed.{operands}
 use Rattle.graph_build.specs.Nodes.{source_number}
@@ -109,22 +110,15 @@ module _ (script : Script) (lists all : List (List Value))
       (function_at script.functions f) ≡ Some c
       → Is (made.Do input f output)
   by_function input f output h =
-      let (function, calls_it, done) =
-      and_then_some (λ function. done_at (n - output) output function input table)
-      (function_at script.functions f) c h in
-      let (d, read, done_d) =
-      and_then_some (done_by (n - output) output function) (made_at table input) c done in
-      let (calls, called_calls, is) =
-      map_some (called_by (n - output) output d.traps) (calls_on (answer_of function) d.bag) c
-      done_d in
+      let it = has_done script table (n - output) input f output c h in
       let w : World = script_world script lists in
       record {
-        is = here ∙ sym is
-            ∙ call_is w (n - output) f output (answer_of function) d calls
-            (λ i x. answered_by (calls_it i) x) called_calls
-            ∙ ap (through w (call_label (n - output) f output)) (sym (same input d read));
-        settled = subst IsSettled is (called_settled (n - output) output d.traps calls);
-        read = ((d, read), tt);
+        is = here ∙ sym it.is
+            ∙ call_is w (n - output) f output (answer_of it.function) it.from it.calls
+            (λ i x. answered_by (it.at i) x) it.all
+            ∙ ap (through w (call_label (n - output) f output)) (sym (same input it.from it.read));
+        settled = subst IsSettled it.is (called_settled (n - output) output it.from.traps it.calls);
+        read = ((it.from, it.read), tt);
       }
 
   by_group : (input : ℕ) → option_map by_key (made_at table input) ≡ Some c

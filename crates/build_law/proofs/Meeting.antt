@@ -6,15 +6,16 @@ use Rattle.flume_collection.specs.Collection.{Collection, by_key, together}
 use Rattle.flume_collection.specs.Traps.{trap_set}
 use Rattle.combine_table.specs.declared.comb.Comb.{Comb}
 use Rattle.combine_table.specs.declared.comb.Comb.TheVariants as by
-use Rattle.exec_graph.specs.Meaning.{Meets, nothing, place, through}
+use Rattle.exec_graph.specs.Meaning.{Holds, Meets, nothing, place, through}
 use Rattle.exec_graph.specs.Objects.{act_result, operated, side_input}
 use Rattle.exec_graph.specs.World.{World}
 use Rattle.exec_graph.specs.declared.graph.Act.TheVariants.{SideInput, Operate, Singleton}
+use Rattle.exec_graph.specs.declared.graph.Node.{Node}
 use Rattle.exec_graph.specs.declared.graph.Place.{Place}
 use Rattle.exec_graph.specs.declared.step.Does.TheVariants as does
 use Rattle.exec_graph.proofs.Barriers.{barrier_operate, barrier_side_input}
 use Rattle.graph_build.specs.Calls.{emitted_at, names_needed, needed_from, other_names}
-use Rattle.graph_build.specs.Nodes.{call_branch, first_of, made_nodes, source_number}
+use Rattle.graph_build.specs.Nodes.{barrier, call_branch, entry, first_of, groups, last_step, made_nodes, source_number, step}
 use Rattle.graph_build.specs.of_script_program.Needed.{operands}
 use Rattle.graph_build.specs.of_script_program.declared.made.Made.{Made}
 use Rattle.graph_build.specs.of_script_program.declared.made.Made.TheVariants as made
@@ -156,62 +157,59 @@ module _ (script : Script) (w : World) (at : ℕ → Collection) (m : Place → 
           ),
         )
 
+    -- all members under one key, in one group, combined, and what stands behind
+    combined_holds : (input : ℕ) (k : Comb) (last : Node) → m (gives input) ≡ at input
+        → m (first_of n) ≡ zeros w origin (at input)
+        → m (first_of (n + 1)) ≡ by_key (zeros w origin (at input))
+        → m (first_of (n + 2)) ≡ whole_of w origin k (at input)
+        → Holds w m (n + 3) last
+        → Meets w
+        (entry n (step origin does.Solo (gives input))
+        ∷ entry (n + 1) (groups origin (first_of n))
+        ∷ entry (n + 2) (step origin (does.Combine k) (first_of (n + 1)))
+        ∷ entry (n + 3) last ∷ []) m
+    combined_holds input k last read first second third holds = (
+      (first ∙ ap (through w (only_label origin false does.Solo)) (sym read), tt, tt),
+      (
+        second ∙ ap by_key (sym first),
+        (
+          (
+            third ∙ ap (through w (only_label origin false (does.Combine k))) (sym second),
+            tt,
+            tt,
+          ),
+          (holds, tt),
+        ),
+      ),
+    )
+
     top_holds : (many input : ℕ) → Facts (made.Top many input) → m (gives input) ≡ at input
         → at origin ≡ top_by many (at input)
         → Meets w (made_nodes script gives origin source n (made.Top many input)) m
     top_holds many input fact read is =
-        let solo = only_label origin false does.Solo in
-        let great = only_label origin false (does.Combine (by.Top many)) in
         let spread = only_label origin true does.Spread in
-        let first : m (first_of n) ≡ zeros w origin (at input) = at_first (fact 0 0) in
-        let second : m (first_of (n + 1)) ≡ by_key (zeros w origin (at input)) = fact 1 0 in
         let third : m (first_of (n + 2)) ≡ greatest_of w origin many (at input) = fact 2 0 in
-        let fourth : m (first_of (n + 3)) ≡ at origin = fact 3 0 in (
-          (first ∙ ap (through w solo) (sym read), tt, tt),
-          (
-            second ∙ ap by_key (sym first),
-            (
-              (third ∙ ap (through w great) (sym second), tt, tt),
-              (
-                (
-                  fourth ∙ is
-                      ∙ sym (top_is w origin many (at input) (settled input).set
-                      (settled input).bag)
-                      ∙ ap (through w spread) (sym third),
-                  tt,
-                  tt,
-                ),
-                tt,
-              ),
-            ),
-          ),
+        let fourth : m (first_of (n + 3)) ≡ at origin = fact 3 0 in
+        combined_holds input (by.Top many) (last_step origin does.Spread (first_of (n + 2))) read
+        (at_first (fact 0 0)) (fact 1 0) third (
+          fourth ∙ is
+              ∙ sym (top_is w origin many (at input) (settled input).set (settled input).bag)
+              ∙ ap (through w spread) (sym third),
+          tt,
+          tt,
         )
 
     whole_holds : (input : ℕ) (k : Comb) → Facts (made.CombineAll input k)
         → m (gives input) ≡ at input → at origin ≡ combined_whole origin k (at input)
         → Meets w (made_nodes script gives origin source n (made.CombineAll input k)) m
     whole_holds input k fact read is =
-        let solo = only_label origin false does.Solo in
-        let combine = only_label origin false (does.Combine k) in
-        let first : m (first_of n) ≡ zeros w origin (at input) = at_first (fact 0 0) in
-        let second : m (first_of (n + 1)) ≡ by_key (zeros w origin (at input)) = fact 1 0 in
         let third : m (first_of (n + 2)) ≡ whole_of w origin k (at input) = fact 2 0 in
-        let fourth : m (first_of (n + 3)) ≡ at origin = fact 3 0 in (
-          (first ∙ ap (through w solo) (sym read), tt, tt),
-          (
-            second ∙ ap by_key (sym first),
-            (
-              (third ∙ ap (through w combine) (sym second), tt, tt),
-              (
-                fourth ∙ is
-                    ∙ sym (whole_is w origin k (at input) (settled input).set
-                    (settled input).bag)
-                    ∙ ap (λ c. act_result w origin (Singleton k) (c ∷ [])) (sym third),
-                tt,
-              ),
-            ),
-          ),
-        )
+        let fourth : m (first_of (n + 3)) ≡ at origin = fact 3 0 in
+        combined_holds input k (barrier origin (Singleton k) (first_of (n + 2) ∷ [])) read
+        (at_first (fact 0 0)) (fact 1 0) third
+        (fourth ∙ is
+        ∙ sym (whole_is w origin k (at input) (settled input).set (settled input).bag)
+        ∙ ap (λ c. act_result w origin (Singleton k) (c ∷ [])) (sym third))
 
     pub block_holds : (made : Made) → Facts made → Reads made
         → IsBuiltBy script w at origin source made

@@ -13,7 +13,7 @@ use Rattle.graph_build.specs.of_script_program.declared.made.Emitted.{Emitted}
 use Rattle.graph_build.specs.of_script_program.declared.made.Made.{Made}
 use Rattle.graph_build.specs.of_script_program.declared.made.Made.TheVariants as made
 use Rattle.graph_build.specs.of_script_program.Script.{Function, Node, Script}
-use Rattle.direct_meaning.specs.of_script_laws.WellFormed.{AllFit, Fits, IsEmitted, IsKept, IsNameOf, IsWellFormed, function_at, members_at}
+use Rattle.direct_meaning.specs.of_script_laws.WellFormed.{AllFit, Fits, IsEmitted, ComesOfEarlierRun, IsNameOf, IsWellFormed, function_at, members_at}
 use Rattle.direct_meaning.proofs.of_script_laws.NeededLemmas.{needed_law, operand_before}
 use Rattle.direct_meaning.proofs.PlaceLemmas.{within}
 use Rattle.graph_build.specs.Calls.{beside_first, emitted_as, other_names}
@@ -48,7 +48,7 @@ emitted_fits functions before (made.Do input f o) it type h fit =
     subst (λ (e : Emitted). IsEmitted functions e type) (some_same (emission f o) it h)
     (record { function = fit.function; calls = fit.calls; gives = fit.gives })
 emitted_fits functions before (made.Saved is_object call) it type h fit =
-    subst (λ o. IsKept functions o type) h fit
+    subst (λ o. ComesOfEarlierRun functions o type) h fit
 emitted_fits functions before _ it type h fit = cc
 
 -- the collections from a number on are the names of a call of that function on a source

@@ -124,7 +124,8 @@ module _ (script : Script) (well : IsWellFormed script) where
     pub place : number ≡ t
     pub none : emitted_as mk ≡ None
 
-  pub record IsKeptName (t number : ℕ) (mk : Made) : Type 0 where
+  -- an output of a call, by its place among them
+  pub record HasPlace (number : ℕ) : Type 0 where
     pub first : ℕ
     pub source : ℕ
     pub f : ℕ
@@ -132,18 +133,17 @@ module _ (script : Script) (well : IsWellFormed script) where
     pub place : ℕ
     pub below : place < suc (other_names script f)
     pub is : first + place ≡ number
+
+  pub record IsKeptName (t number : ℕ) (mk : Made) : Type 0 where
+    pub at : HasPlace number
+    pub open at use *
     pub slot : kept_slot script first place ≡ t
     pub is_object : Bool
     pub made : mk ≡ made.Saved is_object (Some (emission f place))
 
   pub record IsCallNode (t number : ℕ) (mk : Made) : Type 0 where
-    pub first : ℕ
-    pub source : ℕ
-    pub f : ℕ
-    pub call : IsCall script first source f
-    pub place : ℕ
-    pub below : place < suc (other_names script f)
-    pub is : first + place ≡ number
+    pub at : HasPlace number
+    pub open at use *
     pub low : length (kept_from script first (suc (other_names script f)))
         < suc (other_names script f)
     pub slot : call_slot script first f ≡ t
@@ -168,6 +168,18 @@ module _ (script : Script) (well : IsWellFormed script) where
         record { place = sym e; none = ap emitted_as (sym same) ∙ none }
 
     module _ (f o : ℕ) (n : IsNamed script well t f o) where
+      abbrev at_place : (place : ℕ) → place < suc (other_names script f)
+          → n.first + place ≡ number → HasPlace number
+      at_place place below is = record {
+        first = n.first;
+        source = n.source;
+        f = f;
+        call = n.call;
+        place = place;
+        below = below;
+        is = is;
+      }
+
       at_kept : (it : IsAmong script n.first (suc (other_names script f)) o number)
           → get_or (wanted script) number None ≡ Some mk → IsKeptName t number mk
       at_kept it wanted_is =
@@ -178,15 +190,10 @@ module _ (script : Script) (well : IsWellFormed script) where
           (ap (slice_get (made_of script)) it.number ∙ (needed_as script number how c.is).made) in
           let before = it.before in
           let place = n.place in
+          let slot : kept_slot script n.first it.place ≡ t = omega arith in
           record {
-            first = n.first;
-            source = n.source;
-            f = f;
-            call = n.call;
-            place = it.place;
-            below = it.below;
-            is = it.number;
-            slot = omega arith;
+            at = at_place it.place it.below it.number;
+            slot = slot;
             is_object = c.is_object;
             made = some_same mk how (sym wanted_is ∙ c.is) ∙ ap (made.Saved c.is_object) name;
           }
@@ -197,16 +204,13 @@ module _ (script : Script) (well : IsWellFormed script) where
       at_call k size none it wanted_is =
           let place = n.place in
           let within_ = n.below in
+          let low : length (kept_from script n.first (suc (other_names script f)))
+          < suc (other_names script f) = omega arith in
+          let slot : call_slot script n.first f ≡ t = omega arith in
           record {
-            first = n.first;
-            source = n.source;
-            f = f;
-            call = n.call;
-            place = it.place;
-            below = it.below;
-            is = it.number;
-            low = omega arith;
-            slot = omega arith;
+            at = at_place it.place it.below it.number;
+            low = low;
+            slot = slot;
             made =
                 some_same mk (made.Do n.source f it.place)
                 (sym wanted_is

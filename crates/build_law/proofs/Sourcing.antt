@@ -15,7 +15,7 @@ use Rattle.graph_build.specs.Calls.{emitted_as, is_kept, kept_at, kept_from, oth
 use Rattle.graph_build.specs.Graphs.{next_source}
 use Rattle.graph_build.specs.Nodes.{sources_made}
 use Rattle.graph_build.specs.Wanted.{wanted}
-use Rattle.graph_build.proofs.StepLemmas.{found_below}
+use Rattle.graph_build.proofs.of_script_program.SourceSteps.{found_below}
 use Rattle.build_law.proofs.Blocks.{source_at}
 use Rattle.build_law.proofs.Calling.{alone_built, built_made, built_wanted, needed_as}
 use Rattle.build_law.proofs.MadeKinds.{IsOther, built_of, emission, is_kept_one}

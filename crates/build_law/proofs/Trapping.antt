@@ -127,6 +127,19 @@ module _ (script : Script) (w : World) (m : Place → Collection) (gives : ℕ �
         → c.traps ≡ d.traps
     last_traps k c d holds is = ap (λ (x : Collection). x.traps) (sym holds ∙ is)
 
+    -- the last step of a collection
+    record IsLast (l : Label) (c : Place) (d : Collection) : Type 0 where
+      pub behind : Behind c d
+      pub same : ((through w l (m c)).traps ++ []) ++ [] ≡ d.traps
+
+    last_step : (k : ℕ) (l : Label) (c : Place) (d : Collection)
+        → m (first_of k) ≡ through w l (m c) → m (first_of k) ≡ d → IsLast l c d
+    last_step k l c d holds is = record {
+      behind = step_behind k l c d holds (same_in (ap (λ (x : Collection). x.traps) is));
+      same =
+          one_step_traps (through w l (m c)).traps d (last_traps k (through w l (m c)) d holds is);
+    }
+
     -- two steps with groups between them, and what stands behind
     two_steps : (one two : Collection) (rest : List Trap) (d : Collection)
         → AreIn one.traps d.traps → Behind (first_of n) d → AreIn two.traps d.traps
@@ -154,21 +167,18 @@ module _ (script : Script) (w : World) (m : Place → Collection) (gives : ℕ �
         let one : Collection = through w (only_label origin false does.Pair) (m (gives input)) in
         let sum : Label = only_label origin true (does.Combine by.Sum) in
         let last : Collection = through w sum (m (first_of (n + 1))) in
-        let end : Behind (first_of (n + 2)) d = same_in (ap (λ (x : Collection). x.traps) is) in
-        let second : Behind (first_of (n + 1)) d =
-        step_behind (n + 2) sum (first_of (n + 1)) d h.1.1.0.0 end in
-        let first : Behind (first_of n) d = group_behind (n + 1) (first_of n) d h.1.0 second in
-        let same : (last.traps ++ []) ++ [] ≡ d.traps =
-        one_step_traps last.traps d (last_traps (n + 2) last d h.1.1.0.0 is) in
+        let end = last_step (n + 2) sum (first_of (n + 1)) d h.1.1.0.0 is in
+        let first : Behind (first_of n) d =
+        group_behind (n + 1) (first_of n) d h.1.0 end.behind in
         record {
           from = both_in (one.traps ++ []) ((m (first_of n)).traps ++ ((last.traps ++ []) ++ []))
               d.traps (step_list one.traps d.traps (given_in n one d h.0.0 first))
               (both_in (m (first_of n)).traps ((last.traps ++ []) ++ []) d.traps first
-              (same_in same));
+              (same_in end.same));
           into = into_behind (one.traps ++ [])
               ((m (first_of n)).traps ++ ((last.traps ++ []) ++ [])) d.traps
               (into_behind (m (first_of n)).traps ((last.traps ++ []) ++ []) d.traps
-              (same_in (sym same)));
+              (same_in (sym end.same)));
         }
 
     top_traps : (many input : ℕ) (d : Collection)
@@ -181,16 +191,12 @@ module _ (script : Script) (w : World) (m : Place → Collection) (gives : ℕ �
         let most : Collection = through w great (m (first_of (n + 1))) in
         let spread : Label = only_label origin true does.Spread in
         let last : Collection = through w spread (m (first_of (n + 2))) in
-        let end : Behind (first_of (n + 3)) d = same_in (ap (λ (x : Collection). x.traps) is) in
-        let third : Behind (first_of (n + 2)) d =
-        step_behind (n + 3) spread (first_of (n + 2)) d h.1.1.1.0.0 end in
+        let end = last_step (n + 3) spread (first_of (n + 2)) d h.1.1.1.0.0 is in
         let second : Behind (first_of (n + 1)) d =
-        step_behind (n + 2) great (first_of (n + 1)) d h.1.1.0.0 third in
+        step_behind (n + 2) great (first_of (n + 1)) d h.1.1.0.0 end.behind in
         let first : Behind (first_of n) d = group_behind (n + 1) (first_of n) d h.1.0 second in
-        let same : (last.traps ++ []) ++ [] ≡ d.traps =
-        one_step_traps last.traps d (last_traps (n + 3) last d h.1.1.1.0.0 is) in
         let all = two_steps one most ((last.traps ++ []) ++ []) d (given_in n one d h.0.0 first)
-        first (given_in (n + 2) most d h.1.1.0.0 third) same in
+        first (given_in (n + 2) most d h.1.1.0.0 end.behind) end.same in
         record { from = all.from; into = all.into }
 
     whole_traps : (input : ℕ) (k : Comb) (d : Collection)
@@ -238,19 +244,15 @@ module _ (script : Script) (w : World) (m : Place → Collection) (gives : ℕ �
         let both : Collection = together (m (first_of n) ∷ m (first_of (n + 1)) ∷ []) in
         let split : Label = only_label origin true does.Split in
         let last : Collection = through w split (m (first_of (n + 3))) in
-        let end : Behind (first_of (n + 4)) d = same_in (ap (λ (x : Collection). x.traps) is) in
-        let fourth : Behind (first_of (n + 3)) d =
-        step_behind (n + 4) split (first_of (n + 3)) d h.1.1.1.1.0.0 end in
+        let end = last_step (n + 4) split (first_of (n + 3)) d h.1.1.1.1.0.0 is in
         let third : Behind (first_of (n + 2)) d =
-        group_behind (n + 3) (first_of (n + 2)) d h.1.1.1.0 fourth in
+        group_behind (n + 3) (first_of (n + 2)) d h.1.1.1.0 end.behind in
         let all : AreIn both.traps d.traps = given_in (n + 2) both d h.1.1.0 third in
         let a : List Trap = (m (first_of n)).traps in
         let b : List Trap = (m (first_of (n + 1))).traps in
         let first : Behind (first_of n) d = then_in a both.traps d.traps (left_in a b) all in
         let second : Behind (first_of (n + 1)) d =
         then_in b both.traps d.traps (right_in a b) all in
-        let same : (last.traps ++ []) ++ [] ≡ d.traps =
-        one_step_traps last.traps d (last_traps (n + 4) last d h.1.1.1.1.0.0 is) in
         let rest : List Trap = (last.traps ++ []) ++ [] in
         let group : List Trap = (m (first_of (n + 2))).traps in
         record {
@@ -260,12 +262,12 @@ module _ (script : Script) (w : World) (m : Place → Collection) (gives : ℕ �
               (both_in (other.traps ++ []) (both.traps ++ (group ++ rest)) d.traps
               (step_list other.traps d.traps (given_in (n + 1) other d h.1.0.0 second))
               (both_in both.traps (group ++ rest) d.traps all
-              (both_in group rest d.traps third (same_in same))));
+              (both_in group rest d.traps third (same_in end.same))));
           into = into_behind (one.traps ++ [])
               ((other.traps ++ []) ++ (both.traps ++ (group ++ rest))) d.traps
               (into_behind (other.traps ++ []) (both.traps ++ (group ++ rest)) d.traps
               (into_behind both.traps (group ++ rest) d.traps
-              (into_behind group rest d.traps (same_in (sym same)))));
+              (into_behind group rest d.traps (same_in (sym end.same)))));
         }
 
     -- the traps of a call are those behind each of its names

@@ -9,7 +9,7 @@ use Rattle.flume_types.specs.Tables.{table_of}
 use Rattle.flume_value.proofs.EachLemmas.{each_from}
 use Rattle.exec_graph.specs.Forests.{Branch}
 use Rattle.exec_graph.specs.Meaning.{place}
-use Rattle.exec_graph.specs.Typing.{ForestTyped, NodeTyped, Signatures, StepTyped}
+use Rattle.exec_graph.specs.Typing.{ForestTyped, IsTagged, NodeTyped, Signatures, StepTyped}
 use Rattle.exec_graph.specs.declared.graph.Place.{Place}
 use Rattle.exec_graph.specs.declared.step.Does.TheVariants as does
 use Rattle.graph_build.specs.Calls.{emitted_at, names_needed, needed_from, other_names}
@@ -20,7 +20,7 @@ use Rattle.graph_build.specs.of_script_program.declared.made.Made.{Made}
 use Rattle.graph_build.specs.of_script_program.declared.made.Made.TheVariants as made
 use Rattle.graph_build.specs.of_script_program.Script.{Function, Node, Script}
 use Rattle.written_types.specs.Named.{Named}
-use Rattle.direct_meaning.specs.of_script_laws.WellFormed.{Fits, IsCombined, IsCounted, IsDone, IsGrouped, IsJoined, IsTop, function_at, members_at}
+use Rattle.direct_meaning.specs.of_script_laws.WellFormed.{Fits, ComesOfCombine, IsCounted, ComesOfDo, ComesOfGroup, IsJoined, IsTop, function_at, members_at}
 use Rattle.build_law.proofs.Outputs.{EachName, buds, kept}
 use Rattle.build_law.proofs.TypedObjects.{beside_typed, operate_typed, types_read, whole_typed}
 
@@ -119,7 +119,7 @@ module _ (script : Script) (s : Signatures) (functions : Named Function) (before
           buds_typed b f t call takes (suc number) (suc k) next xs row each.1,
         )
 
-    do_typed : (input f output : ℕ) (t : Ty) (fit : IsDone functions before input f output t)
+    do_typed : (input f output : ℕ) (t : Ty) (fit : ComesOfDo functions before input f output t)
         → Facts (made.Do input f output) t fit → Known input
         → EachName (NameTyped f) (origin - output) 0 (names_needed script (origin - output) f)
         → Typed (made.Do input f output)
@@ -140,7 +140,7 @@ module _ (script : Script) (s : Signatures) (functions : Named Function) (before
           tt,
         )
 
-    group_typed : (input : ℕ) (t : Ty) (fit : IsGrouped before input t)
+    group_typed : (input : ℕ) (t : Ty) (fit : ComesOfGroup before input t)
         → Facts (made.Group input) t fit → Known input → Typed (made.Group input)
     group_typed input t fit fact known = (
       record {
@@ -152,7 +152,7 @@ module _ (script : Script) (s : Signatures) (functions : Named Function) (before
       tt,
     )
 
-    combine_typed : (input : ℕ) (k : Comb) (t : Ty) (fit : IsCombined before input k t)
+    combine_typed : (input : ℕ) (k : Comb) (t : Ty) (fit : ComesOfCombine before input k t)
         → Facts (made.Combine input k) t fit → Known input → Typed (made.Combine input k)
     combine_typed input k t fit fact known =
         let suits = taken k fit.member fit.value fit.suits in (
@@ -218,6 +218,12 @@ module _ (script : Script) (s : Signatures) (functions : Named Function) (before
           ),
         )
 
+    -- a side of a join, with the tag of that side
+    tagged : (side : Ty → Ty → Ty) (key left right t : Ty) → t ≡ table_of key (side left right)
+        → IsTagged side t (table_of key (type.Either left right))
+    tagged side key left right t takes =
+        record { key = key; left = left; right = right; takes = takes; gives = refl }
+
     join_typed : (left right : ℕ) (t : Ty) (fit : IsJoined before left right t)
         → Facts (made.Join left right) t fit → Known left → Known right
         → Typed (made.Join left right)
@@ -226,44 +232,16 @@ module _ (script : Script) (s : Signatures) (functions : Named Function) (before
         let first : τ (first_of n) ≡ table_of fit.key either = at_start (fact 0 0) in
         let second : τ (first_of (n + 1)) ≡ table_of fit.key either = fact 1 0 in
         let third : τ (first_of (n + 2)) ≡ table_of fit.key either = fact 2 0 in
-        let fourth : τ (first_of (n + 3)) ≡ table_of fit.key (type.List either) = fact 3 0 in (
+        let fourth : τ (first_of (n + 3)) ≡ table_of fit.key (type.List either) = fact 3 0 in
+        let one =
+        tagged (λ l r. l) fit.key fit.left_value fit.right_value (τ (gives left))
+        (known (table_of fit.key fit.left_value) fit.reads_left) in
+        let two =
+        tagged (λ l r. r) fit.key fit.left_value fit.right_value (τ (gives right))
+        (other (table_of fit.key fit.right_value) fit.reads_right) in (
+          ((table_of fit.key either, (refl, one), first, tt), tt),
           (
-            (
-              table_of fit.key either,
-              (
-                refl,
-                record {
-                  key = fit.key;
-                  left = fit.left_value;
-                  right = fit.right_value;
-                  takes = known (table_of fit.key fit.left_value) fit.reads_left;
-                  gives = refl;
-                },
-              ),
-              first,
-              tt,
-            ),
-            tt,
-          ),
-          (
-            (
-              (
-                table_of fit.key either,
-                (
-                  refl,
-                  record {
-                    key = fit.key;
-                    left = fit.left_value;
-                    right = fit.right_value;
-                    takes = other (table_of fit.key fit.right_value) fit.reads_right;
-                    gives = refl;
-                  },
-                ),
-                second,
-                tt,
-              ),
-              tt,
-            ),
+            ((table_of fit.key either, (refl, two), second, tt), tt),
             (
               (first ∙ sym third, (second ∙ sym third, tt)),
               (

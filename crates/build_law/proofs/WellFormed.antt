@@ -19,13 +19,13 @@ use Rattle.direct_meaning.proofs.of_script_laws.NeededLemmas.{needed_law, read_a
 use Rattle.graph_build.specs.Built.{built}
 use Rattle.graph_build.specs.Calls.{emitted_at, names_needed, needed_from, number_behind, other_names}
 use Rattle.graph_build.specs.Graphs.{graph_of, nodes_of}
-use Rattle.graph_build.specs.Nodes.{before_last, call_branch, first_of}
+use Rattle.graph_build.specs.Nodes.{call_branch}
 use Rattle.graph_build.specs.Wanted.{wanted}
 use Rattle.graph_build.proofs.BuiltLemmas.{built_length}
 use Rattle.build_law.specs.Limits.{HasShortFlattens, IsShort}
 use Rattle.build_law.proofs.Blocks.{any_block, each_block}
 use Rattle.build_law.proofs.Calling.{alone_built, built_made, built_wanted, how_wanted, needed_as, wanted_here}
-use Rattle.build_law.proofs.MadeKinds.{IsOther, Kind, Stand, alone, built_of, by_call, called, kept_name, kind_of, other, stand_of}
+use Rattle.build_law.proofs.MadeKinds.{Stand, alone, built_of, by_call, kept_name, stand_of}
 use Rattle.build_law.proofs.Names.{parts}
 use Rattle.build_law.proofs.Objects.{have_objects}
 use Rattle.build_law.proofs.Outputs.{IsAt, where_out}
@@ -127,21 +127,13 @@ module _ (script : Script) (well : IsWellFormed script) where
       (needed_from script (suc (number - o)) (other_names script f)))
       0 0 j (names_needed script (number - o) f) has))
 
-  other_read : (t number : ℕ) (how : Made) → IsOther how
-      → is_read (graph_of script) (first_of (start script t + before_last how)) ≡ true
-      → LastRead t number how
-  other_read t number (made.Do input f o) apart h = absurd apart
-  other_read t number _ apart h = h
-
-  last_read : (t number : ℕ) {mk : Made} → Kind mk
+  last_read : (t number : ℕ) (mk : Made)
       → get_or (built script) t None ≡ Some (built_of number mk) → LastRead t number mk
-  last_read t number (called input f o) found = call_read t number input f o found
-  last_read t number (other how apart) found =
-      let want = built_wanted script t number how found in
-      other_read t number how apart
-      (subst (λ c. is_read (graph_of script) c ≡ true)
-      (stands_where script well t number how apart found)
-      (wanted_read number how want))
+  last_read t number (made.Do input f o) found = call_read t number input f o found
+  last_read t number how found =
+      subst (λ c. is_read (graph_of script) c ≡ true)
+      (stands_where script well t number how tt found)
+      (wanted_read number how (built_wanted script t number how found))
 
   -- ---- outputs
 
@@ -220,7 +212,7 @@ module _ (script : Script) (well : IsWellFormed script) where
         (built script)
         (λ t b found.
         block_ok (graph_of script) script (gives script) b.number (source script t)
-        (start script t) b.made (last_read t b.number (kind_of b.made) found)
+        (start script t) b.made (last_read t b.number b.made found)
         (λ c used. or_left (any_uses c (nodes_of script)) _
         (any_block script (gives script) (λ e. uses c e.node) 0 0 (built script) t b found used))
         (fits_short [] script.nodes b.number b.made well.nodes short

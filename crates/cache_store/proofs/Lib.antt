@@ -1,4 +1,2 @@
-pub mod EntryPlaces
 pub mod Fitting
-pub mod RoomLemmas
-pub mod SlotLemmas
+pub mod SlotEntries

@@ -1,6 +1,5 @@
 // A cache in memory, with bounded room, whose calls fail where a list names them.
 mod cache;
 mod put;
-mod slots;
 
 pub use cache::MemCache;

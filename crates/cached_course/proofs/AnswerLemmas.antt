@@ -1,5 +1,5 @@
 -- What a call answers, from what it came to and what it left.
-use Rattle.std.proofs.Common.{◌≡◌, ◌∙◌, ◌≤◌, inl, inr, ℕ, List, Option, Some, None, Ok, is_some, ap, arith, subst, sym, true≢false}
+use Rattle.std.proofs.Common.{◌≡◌, ◌∙◌, ◌≤◌, inl, inr, ℕ, List, Option, Some, None, Ok, Err, is_some, ap, arith, subst, sym, true≢false}
 use Rattle.std.specs.Prelude.{IfSome}
 use Rattle.cache_store.specs.Entries.{with_entries}
 use Rattle.cache_store.specs.declared.entry.CacheEntry.{CacheEntry}
@@ -16,8 +16,11 @@ use Rattle.run_course.specs.Answers.{IsRefused}
 use Rattle.run_course.specs.Asks.{AsksAll, AsksFor}
 use Rattle.run_course.specs.Hosts.{MayHaveRun}
 use Rattle.run_course.specs.World.{World}
+use Rattle.run_course.specs.declared.stop.Stop.{Stop}
 use Rattle.run_course.specs.declared.stop.Stop.TheVariants.{Refused, Trapped}
 use Rattle.run_course.specs.declared.stop.Trapped.{Trapped as NamedTrap}
+use Rattle.run_course.specs.inner.Course.{TellsStop}
+use Rattle.run_course.proofs.HostLemmas.{may_have_run}
 use Rattle.run_texts.specs.Lines.{trap_line}
 use Rattle.run_texts.specs.declared.status.Place.TheVariants.{File, Screen}
 use Rattle.run_texts.specs.declared.status.Status.{Status}
@@ -49,8 +52,8 @@ delivered_for words source source' files text kept shelf shelf' screen screen' c
     Done is all = all
 delivered_for words source source' files text kept shelf shelf' screen screen' cache later
     (WriteFault place) is all = all
-delivered_for words source source' files text kept shelf shelf' screen screen' cache later _ is all =
-    absurd is
+delivered_for words source source' files text kept shelf shelf' screen screen' cache later
+    _ is all = absurd is
 
 -- ---- a cache that was to keep some entries
 
@@ -208,48 +211,54 @@ module _ (cache middle later : SeenCache) (same : middle.entries ≡ cache.entri
 
 module _ (words : List (List ℕ)) (before after : World) (cache later : SeenCache)
     (same : later.entries ≡ cache.entries) where
-  pub refusal : (status : Status)
+  refusal : (status : Status)
       → IsStop words before.source after.source before.hosts after.hosts cache later
       (Refused status)
       → IsRefused status before after → Answers words before after cache later status
   refusal (GaveUp stage phase task) why left =
-      let run = why.0 in
-      record {
-        it = run.it;
-        rows = run.rows;
-        table = run.table;
-        plan = run.plan;
-        meant = run.meant;
-        planned = run.planned;
-        given_up = why.1;
-        refused = left;
-        entries = same;
-      }
+      record { run = why.0; given_up = why.1; refused = left; entries = same }
   refusal Done why left = absurd why
   refusal (WriteFault place) why left = absurd why
   refusal (Trap origin kind element) why left = absurd why
   refusal _ why left = record { cause = why; refused = left; entries = same }
 
-  pub trapped : (trap : NamedTrap)
+  trapped : (trap : NamedTrap)
       → IsStop words before.source after.source before.hosts after.hosts cache later (Trapped trap)
       → after.shelf ≡ before.shelf
       → HasLine (trap_line trap.name trap.trap.kind trap.trap.element) before.screen after.screen
       → Answers words before after cache later
       (Trap trap.trap.origin trap.trap.kind trap.trap.element)
   trapped trap why shelf line =
-      let run = why.0 in
       record {
-        it = run.it;
-        rows = run.rows;
-        table = run.table;
-        plan = run.plan;
+        run = why.0;
         name = trap.name;
-        meant = run.meant;
         trap = why.1;
-        planned = run.planned;
         first = why.2;
         named = why.3;
         shelf = shelf;
         line = line;
         entries = same;
       }
+
+  -- what a call answers that this stops
+  pub stopped : (why : Stop) (status : Status)
+      → IsStop words before.source after.source before.hosts after.hosts cache later why
+      → TellsStop why before.screen after.screen status → after.shelf ≡ before.shelf
+      → Answers words before after cache later status
+  stopped (Refused told) status is tells shelf =
+      subst (λ (s : Status). Answers words before after cache later s) (sym tells.0)
+      (refusal told is (record { shelf = shelf; line = tells.1 }))
+  stopped (Trapped trap) status is tells shelf =
+      subst (λ (s : Status). Answers words before after cache later s) (sym tells.0)
+      (trapped trap is shelf tells.1)
+
+-- and what its hosts were asked for
+pub stopped_asks : (T : Type 0) (words : List (List ℕ)) (told : Option (List NamedBytes))
+    (olds news : List Account) (cache later : SeenCache) (why : Stop)
+    (screen screen' : SeenScreen) (status : Status) → TellsStop why screen screen' status
+    → AsksHostsInCall {T = T} words told olds news cache later (Err why)
+    → AsksHosts words told olds news cache later status
+stopped_asks T words told olds news cache later why screen screen' status tells (inl none) =
+    inl none
+stopped_asks T words told olds news cache later why screen screen' status tells (inr run) =
+    inr (may_have_run T why screen screen' status tells run.0, run.1)

@@ -11,7 +11,7 @@ use Rattle.flume_value.specs.Ranges.{IsHeld}
 use Rattle.kept_results.specs.Keyed.{keyed_nodes}
 use Rattle.kept_results.specs.Sizes.{sizes_told}
 use Rattle.kept_results.specs.of_direct_meaning.Inputs.{inputs_of}
-use Rattle.key_meaning.specs.Keyed.{IsShort}
+use Rattle.key_meaning.specs.Keyed.{HasKeyLength}
 use Rattle.keyed_loading.specs.Files.{AreFilesOf}
 use Rattle.keyed_loading.specs.Keyed.{LoadsKeyed}
 use Rattle.outside.specs.Asked.{Asks}
@@ -42,7 +42,7 @@ use Rattle.script_keys.specs.declared.outline.Outline.{Outline}
 use Rattle.script_program.specs.Script.{Script}
 use Rattle.script_program.specs.declared.made.Output.{Output}
 use Rattle.cache_store.specs.Seen.{SeenCache}
-use Rattle.cached_course.specs.Looked.{AreAsked}
+use Rattle.cached_course.specs.Looked.{AreKeyedOutputs}
 use Rattle.cached_course.specs.declared.missing.Missing.{Missing}
 use Rattle.cached_course.specs.declared.saving.Given.{Given}
 use Rattle.cached_course.specs.inner.Course.{IsStop, StopsRun, WasRun, counted_too}
@@ -63,7 +63,7 @@ pub are_asked : (told middle : Option (List File)) (name : List ℕ) (script : S
     → AreFilesOf middle (inputs_of script) files
     → All (λ (text : List ℕ). length text < 2 ^ 64) shown
     → All (λ (entry : List ℕ × Output). length entry.1.name < 2 ^ 64) script.outputs
-    → AreAsked told name script (keyed_nodes outlines texts files script)
+    → AreKeyedOutputs told name script (keyed_nodes outlines texts files script)
 are_asked told middle name script outlines texts shown files same is loaded inputs short named =
     record {
       outlines = outlines;
@@ -73,9 +73,9 @@ are_asked told middle name script outlines texts shown files same is loaded inpu
       inputs = subst (λ (t : Option (List File)). AreFilesOf t (inputs_of script) files) same
           inputs;
       keyed = refl;
-      texts_short = recursion_from_All IsShort texts
+      texts_short = recursion_from_All HasKeyLength texts
           (subst (All (λ (text : List ℕ). length text < 2 ^ 64)) is short);
-      names_short = recursion_from_All (λ (entry : List ℕ × Output). IsShort entry.1.name)
+      names_short = recursion_from_All (λ (entry : List ℕ × Output). HasKeyLength entry.1.name)
           script.outputs named;
     }
 

@@ -22,20 +22,20 @@ use Rattle.kept_results.specs.of_direct_meaning.Inputs.{Wanted, inputs_of}
 use Rattle.kept_results.specs.of_saved_meaning.Found.{MayBeFound as IsClean, members_of}
 use Rattle.kept_results.proofs.SameLemmas.{saved_same}
 use Rattle.kept_results.proofs.Steps.{asked_from}
-use Rattle.key_meaning.specs.Keyed.{AllHaveRowsIn as TheyHaveRows, IsShort, Keyed, Working, key}
+use Rattle.key_meaning.specs.Keyed.{AllHaveRowsIn as TheyHaveRows, HasKeyLength, Keyed, Working, key}
 use Rattle.key_meaning.specs.Rested.{rested_sizes}
 use Rattle.keyed_loading.specs.Files.{AreFilesOf, IsFileOf}
 use Rattle.outside.specs.Files.{bytes_of}
 use Rattle.outside.specs.declared.file.File.{File}
 use Rattle.run_course.specs.of_script_loading.Loads.{AllHaveRows}
-use Rattle.run_course.specs.Written.{Table}
+use Rattle.run_course.specs.Written.{CollectionTable}
 use Rattle.saved_results.specs.Saved.{saved_value}
 use Rattle.saved_results.specs.declared.saved.Saved.{Saved}
 use Rattle.script_keys.specs.Keys.{key_of, parts_from}
 use Rattle.script_program.specs.declared.made.Output.{Output}
 use Rattle.script_program.specs.Script.{Node, Script}
 use Rattle.written_types.specs.Named.{Named}
-use Rattle.cached_course.specs.Looked.{AreAsked}
+use Rattle.cached_course.specs.Looked.{AreKeyedOutputs}
 use Rattle.cached_course.specs.Sound.{AreSound, IsValueOf, saved_of, value_of}
 
 -- ---- the files of inputs
@@ -87,7 +87,7 @@ module _ (told : List File) where
   )
 
   pub short_files : (inputs : List Wanted) (files : List File) → AreFilesOf (Some told) inputs files
-      → Each (λ (f : File). IsShort f.bytes) files
+      → Each (λ (f : File). HasKeyLength f.bytes) files
   short_files [] [] are = tt
   short_files [] (f ∷ fs) are = absurd are
   short_files (w ∷ ws) [] are = absurd are
@@ -182,8 +182,8 @@ asked_named outputs n (entry ∷ nodes) =
 -- ---- keys
 
 module _ (told : List File) (name : List ℕ) (script : Script) (asked : List (ℕ × List ℕ))
-    (is : AreAsked (Some told) name script asked) (rows : List (List Value))
-    (have : AllHaveRows (Some told) (inputs_of script) rows) (made : Table)
+    (is : AreKeyedOutputs (Some told) name script asked) (rows : List (List Value))
+    (have : AllHaveRows (Some told) (inputs_of script) rows) (made : CollectionTable)
     (means : meaning script rows ≡ Some made) where
   -- the script, over the files of its inputs
   abbrev pub work_here : Working
@@ -193,7 +193,7 @@ module _ (told : List File) (name : List ℕ) (script : Script) (asked : List (�
     cut = is.loaded.2.cut;
     statements = is.loaded.2.ast.statements;
     spelled = is.loaded.2.spelled;
-    texts_short = subst (Each IsShort) is.loaded.2.texted is.texts_short;
+    texts_short = subst (Each HasKeyLength) is.loaded.2.texted is.texts_short;
     script = script;
     checked = is.loaded.2.checked;
     files = is.files;
@@ -212,7 +212,7 @@ module _ (told : List File) (name : List ℕ) (script : Script) (asked : List (�
     file = output.0;
     output = output.1;
     asked = among;
-    short = each_at (λ (it : List ℕ × Output). IsShort it.1.name) script.outputs output
+    short = each_at (λ (it : List ℕ × Output). HasKeyLength it.1.name) script.outputs output
         is.names_short among;
   }
 

@@ -28,7 +28,7 @@ use Rattle.key_meaning.specs.Rested.{rested_sizes}
 use Rattle.outside.specs.Told.{WhereTold}
 use Rattle.outside.specs.declared.file.File.{File}
 use Rattle.run_course.specs.of_script_loading.Loads.{AllHaveRows}
-use Rattle.run_course.specs.Written.{Table}
+use Rattle.run_course.specs.Written.{CollectionTable}
 use Rattle.saved_results.specs.Saved.{saved_value}
 use Rattle.saved_results.specs.declared.saved.Saved.{Saved}
 use Rattle.saved_results.specs.declared.saved.Size.{Size}
@@ -39,7 +39,7 @@ use Rattle.cached_course.specs.Kept.{HasKept, bytes_kept, entries_kept, value_ke
 use Rattle.cached_course.specs.Looked.{not_found}
 use Rattle.cached_course.specs.Promises.{IsAsMeant}
 use Rattle.cached_course.specs.Reused.{IsReused}
-use Rattle.cached_course.specs.Sound.{AreSound, IsSound, line_size, saved_of, value_of}
+use Rattle.cached_course.specs.Sound.{AreSound, TellsSoundEntries, line_size, saved_of, value_of}
 use Rattle.cached_course.proofs.AskedLemmas.{keyed_read, same_firsts}
 use Rattle.cached_course.proofs.KeyedLemmas.{IsKeyedBy, IsMeantBy, all_keyed, found_meant, has_members, is_clean, keyed_here}
 use Rattle.cached_course.proofs.SoundLemmas.{files_same, sizes_same, table_same, value_same}
@@ -50,7 +50,8 @@ use Rattle.cached_course.proofs.EntryLemmas.{IsSoundEntry, each_first, not_found
 pub record Laws : Type 0 where
   pub meaning_of : (script : Script) (inputs : List (List Value)) → IsWellFormed script
       → AreInputs script inputs
-      → (made : Table) × (meaning script inputs ≡ Some made) × AreMade script script.nodes made
+      → (made : CollectionTable) × (meaning script inputs ≡ Some made)
+      × AreMade script script.nodes made
   pub rows_are : (told : Option (List File)) (script : Script) (rows : List (List Value))
       → HasNoSaved script → AllHaveRows told (inputs_of script) rows → AreInputs script rows
   pub given_are : (script : Script) (asked : List (ℕ × List ℕ)) (looked : List (Option Saved))
@@ -60,21 +61,21 @@ pub record Laws : Type 0 where
       → AreInputs (later_of script (found_of asked looked))
       (given_to script (found_of asked looked) rows)
   pub given_same : (script : Script) (asked : List (ℕ × List ℕ)) (looked : List (Option Saved))
-      (rows : List (List Value)) (table : Table) → IsWellFormed script → HasNoSaved script
+      (rows : List (List Value)) (table : CollectionTable) → IsWellFormed script → HasNoSaved script
       → firsts asked ≡ firsts (asked_nodes script) → AreKept script asked looked
       → Each (HasMembers table) (found_of asked looked)
       → given_to script (found_of asked looked) rows
       ≡ lists_for script (later_of script (found_of asked looked)) rows table
   pub saved_means : (script : Script) (numbers : List ℕ) (rows : List (List Value))
-      (table : Table) → IsWellFormed script → HasNoSaved script
+      (table : CollectionTable) → IsWellFormed script → HasNoSaved script
       → meaning script rows ≡ Some table → AreMade script script.nodes table
       → Each (IsClean table) numbers → MeansSame script (with_saved numbers script) rows table
   pub saved_through : (script : Script) (numbers : List ℕ) (rows : List (List Value))
-      (table own : Table) → IsWellFormed script → HasNoSaved script
+      (table own : CollectionTable) → IsWellFormed script → HasNoSaved script
       → meaning script rows ≡ Some table → AreMade script script.nodes table
       → IsSame (with_saved numbers script) table own → traps_of own ≡ [] → traps_of table ≡ []
-  pub saved_trapped : (script : Script) (numbers : List ℕ) (table own : Table) (trap : Trap)
-      → IsSame (with_saved numbers script) table own → Contains (traps_of own) trap
+  pub saved_trapped : (script : Script) (numbers : List ℕ) (table own : CollectionTable)
+      (trap : Trap) → IsSame (with_saved numbers script) table own → Contains (traps_of own) trap
       → Contains (traps_of table) trap
 
 -- ---- sizes
@@ -89,8 +90,8 @@ sizes_kept_so (line ∷ lines) = ap (λ l. line.1 ∷ l) (sizes_kept_so lines)
 
 module _ (laws : Laws) (words : List (List ℕ)) (told : List File) (cache later : SeenCache)
     (entries : List CacheEntry) (tells : cache.entries ≡ Some entries) (sound : AreSound entries)
-    (it : HasLooked words (Some told) cache later) (rows : List (List Value)) (table : Table)
-    (reused : IsReused (Some told) it.script (found it) rows table) where
+    (it : HasLooked words (Some told) cache later) (rows : List (List Value))
+    (table : CollectionTable) (reused : IsReused (Some told) it.script (found it) rows table) where
   abbrev script : Script
   script = it.script
 
@@ -106,7 +107,7 @@ module _ (laws : Laws) (words : List (List ℕ)) (told : List File) (cache later
   inputs : AreInputs script rows
   inputs = laws.rows_are (Some told) script rows plain reused.inputs
 
-  abbrev made : Table
+  abbrev made : CollectionTable
   made = (laws.meaning_of script rows well inputs).0
 
   means : meaning script rows ≡ Some made
@@ -182,8 +183,8 @@ module _ (laws : Laws) (words : List (List ℕ)) (told : List File) (cache later
       let both : Some all.0 ≡ Some table = sym all.1 ∙ reused.means in
       let is : all.0 ≡ table = cc both in
       subst
-      (λ (t : Table). AreMade (later_of script (found it)) (later_of script (found it)).nodes t) is
-      all.2
+      (λ (t : CollectionTable). AreMade (later_of script (found it))
+      (later_of script (found it)).nodes t) is all.2
 
   through : traps_of table ≡ [] → traps_of made ≡ []
   through none = laws.saved_through script numbers rows made table well plain means are same none
@@ -261,7 +262,8 @@ module _ (laws : Laws) (words : List (List ℕ)) (told : List File) (cache later
 
     pub left_sound : Each (λ (x : ℕ × List ℕ). IsHeld (value_kept script (found it) table x.0))
         (not_found it.asked it.looked)
-        → HasKept (entries_kept script it.asked it.looked table) cache later → IsSound later
+        → HasKept (entries_kept script it.asked it.looked table) cache later
+        → TellsSoundEntries later
     left_sound held kept =
         told_sound (entries_kept script it.asked it.looked table) entries sound (all_right held)
         later.entries (subst (λ (o : Option (List CacheEntry)).

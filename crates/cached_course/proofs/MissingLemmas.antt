@@ -16,8 +16,8 @@ use Rattle.kept_results.specs.of_saved_meaning.Found.{members_of}
 use Rattle.kept_results.specs.Sizes.{rested_nodes, to_keep}
 use Rattle.kept_results.proofs.FoundLemmas.{IsRead, firsts}
 use Rattle.kept_results.proofs.of_direct_meaning.PlaceLemmas.{zip_more}
-use Rattle.run_course.specs.of_script_run.Comes.{AreMembers}
-use Rattle.run_course.specs.Written.{Table}
+use Rattle.run_course.specs.of_script_run.Comes.{AreMembersOf}
+use Rattle.run_course.specs.Written.{CollectionTable}
 use Rattle.saved_results.specs.Saved.{saved_value}
 use Rattle.saved_results.specs.declared.saved.Saved.{Saved}
 use Rattle.script_program.specs.Script.{Script}
@@ -92,8 +92,8 @@ of_made (Some c) members are = are
 
 -- where the first of some outputs reads it, or another
 module _ (entry : List ℕ × Output) (outputs : Named Output) (members : List Value)
-    (written : List (List Value)) (table : Table) (number : ℕ)
-    (first : AreMembers table entry.1.reads members)
+    (written : List (List Value)) (table : CollectionTable) (number : ℕ)
+    (first : AreMembersOf table entry.1.reads members)
     (others : IsRead outputs number
     → members_for outputs written number ≡ members_of (made_at table number)) where
   other_right : eqb entry.1.reads number ≡ false
@@ -116,9 +116,9 @@ module _ (entry : List ℕ × Output) (outputs : Named Output) (members : List V
       read)
 
 -- what the first output writes that reads a collection are its members
-members_right : (outputs : Named Output) (written : List (List Value)) (table : Table)
+members_right : (outputs : Named Output) (written : List (List Value)) (table : CollectionTable)
     (number : ℕ)
-    → AllZip (λ output members. AreMembers table output.1.reads members) outputs written
+    → AllZip (λ output members. AreMembersOf table output.1.reads members) outputs written
     → IsRead outputs number
     → members_for outputs written number ≡ members_of (made_at table number)
 members_right [] written table number are read = absurd (not_in_none number read)
@@ -172,8 +172,8 @@ module _ (outputs : Named Output) (written : List (List Value)) (i number : ℕ)
 -- ---- what is kept of them
 
 module _ (script : Script) (nodes_of : Script) (known : List (ℕ × ℕ))
-    (written : List (List Value)) (table : Table)
-    (are : AllZip (λ output members. AreMembers table output.1.reads members) script.outputs
+    (written : List (List Value)) (table : CollectionTable)
+    (are : AllZip (λ output members. AreMembersOf table output.1.reads members) script.outputs
     written) where
   -- of one, by its number, and its entry
   abbrev pub value_as : ℕ → Value

@@ -1,5 +1,5 @@
 -- What a call promises, from what its answer says.
-use Rattle.std.proofs.Common.{◌≡◌, ◌≤◌, ◌⊎◌, inl, inr, ℕ, false, List, [], Option, None, is_some, refl, arith, sym, subst}
+use Rattle.std.proofs.Common.{◌≡◌, ◌≤◌, ◌⊎◌, inl, inr, ℕ, false, List, [], Option, None, Err, ap, is_some, refl, arith, sym, subst}
 use Rattle.std.specs.Prelude.{IsSome, IsSomeAnd}
 use Rattle.cache_store.specs.declared.entry.CacheEntry.{CacheEntry}
 use Rattle.cache_store.specs.Seen.{SeenCache}
@@ -22,10 +22,13 @@ use Rattle.run_course.specs.Asks.{AsksFor}
 use Rattle.run_course.specs.Lent.{lent}
 use Rattle.run_course.specs.Promises.{EndsWith, IsEnded, IsUnlessFailed}
 use Rattle.run_course.specs.World.{Keeps, World}
-use Rattle.run_course.specs.Written.{Table}
+use Rattle.run_course.specs.Written.{CollectionTable}
 use Rattle.run_course.specs.of_script_loading.Loads.{AllHaveRows}
 use Rattle.run_course.specs.of_script_run.Runs.{phases_of}
+use Rattle.run_course.specs.declared.stop.Stop.{Stop}
+use Rattle.run_course.specs.inner.Course.{AsksInCall, TellsStop}
 use Rattle.run_course.proofs.AlwaysLemmas.{none_asked}
+use Rattle.run_course.proofs.AskLemmas.{stopped_for}
 use Rattle.run_course.proofs.CompleteLemmas.{asked_as, done_end, trapped_end}
 use Rattle.run_course.proofs.GivenUpLemmas.{not_given_up}
 use Rattle.run_course.proofs.LeftLemmas.{begun_then, left_then, same_begun, same_left}
@@ -39,8 +42,10 @@ use Rattle.script_program.specs.Script.{Script}
 use Rattle.cached_course.specs.Answers.{Answers, AsksHosts, HasLooked, IsGaveUp, IsKept, WasReused, found, lists_run, script_run}
 use Rattle.cached_course.specs.Promises.{CanRun, Ends, Promises}
 use Rattle.cached_course.specs.Reused.{IsReused}
-use Rattle.cached_course.specs.Sound.{AreSound, IsSound}
+use Rattle.cached_course.specs.Sound.{AreSound, TellsSoundEntries}
+use Rattle.cached_course.specs.inner.Course.{AsksHostsInCall, IsStop}
 use Rattle.cached_course.specs.inner.Laws.{MeantLaw, SoundLaw}
+use Rattle.cached_course.proofs.AnswerLemmas.{stopped, stopped_asks}
 use Rattle.cached_course.proofs.ReadLemmas.{looked_reads}
 
 -- settings of one command
@@ -97,13 +102,13 @@ module _ (words : List (List ℕ)) (before after : World) (cache later : SeenCac
   always Done wanted tells stops answers =
       written_not wanted tells stops answers.0 answers.1 answers.2
   always (Trap origin kind element) wanted tells stops answers =
-      looked_not wanted tells stops answers.it answers.rows answers.meant.inputs
+      looked_not wanted tells stops answers.run.it answers.run.rows answers.run.meant.inputs
   always (WriteFault (File name)) wanted tells stops answers =
       written_not wanted tells stops answers.0 answers.1 answers.2
   always (WriteFault Screen) wanted tells stops answers =
       written_not wanted tells stops answers.0 answers.1 answers.2
   always (GaveUp stage phase task) wanted tells stops answers =
-      looked_not wanted tells stops answers.it answers.rows answers.meant.inputs
+      looked_not wanted tells stops answers.run.it answers.run.rows answers.run.meant.inputs
   always Usage wanted tells stops answers =
       absurd (asked_some words told wanted stops answers.cause)
   always (NoFile name) wanted tells stops answers =
@@ -147,7 +152,7 @@ module _ (words : List (List ℕ)) (before after : World) (cache later : SeenCac
         (looked_reads words told cache later it))
 
     ends_with : (status : Status) (it : HasLooked words told cache later)
-        (own : List (List Value)) (table : Table)
+        (own : List (List Value)) (table : CollectionTable)
         → IsReused told it.script (found it) own table → EndsWith (traps_of table) status
         → Ends words before cache later rows status
     ends_with status it own table meant ends = record {
@@ -158,8 +163,8 @@ module _ (words : List (List ℕ)) (before after : World) (cache later : SeenCac
       ends = ends;
     }
 
-    stopped : {A : Type 0} (status : Status) → Stops words told status → A
-    stopped status stops =
+    not_stopped : {A : Type 0} (status : Status) → Stops words told status → A
+    not_stopped status stops =
         absurd (no_run words told status (Run s None) script rows can.told stops can.reads
         can.inputs tt)
 
@@ -167,18 +172,19 @@ module _ (words : List (List ℕ)) (before after : World) (cache later : SeenCac
     given_up : {A : Type 0} (stage : ℕ) (phase : Phase) (task : ℕ)
         → IsGaveUp words before after cache later stage phase task → A
     given_up stage phase task up =
-        let it = up.it in
+        let run = up.run in
+        let it = run.it in
         let Finishes : RunSettings → List (List Value) → Type 0
         = λ t r. CanFinishAll t.tries t.drill
-        (with_tasks (phases_of t (script_run it) (lists_run it r) up.plan))
+        (with_tasks (phases_of t (script_run it) (lists_run it r) run.plan))
         (lent t before.hosts) (lent t after.hosts) in
-        let ends : Finishes it.settings up.rows
+        let ends : Finishes it.settings run.rows
         = subst (λ (r : List (List Value)). Finishes it.settings r)
-        (sym (rows_same it up.rows up.meant.inputs))
+        (sym (rows_same it run.rows run.meant.inputs))
         (subst (λ (t : RunSettings). Finishes t rows) (settings_same it)
-        (can.hosts it up.plan up.planned)) in
+        (can.hosts it run.plan run.planned)) in
         absurd (not_given_up it.settings.tries it.settings.drill _
-        (phases_of it.settings (script_run it) (lists_run it up.rows) up.plan)
+        (phases_of it.settings (script_run it) (lists_run it run.rows) run.plan)
         (lent it.settings before.hosts) (lent it.settings after.hosts) stage phase task up.given_up
         ends)
 
@@ -199,9 +205,9 @@ module _ (words : List (List ℕ)) (before after : World) (cache later : SeenCac
         inr (ends_with Done was.it was.writes.rows was.table through.meant
         (done_end (traps_of was.table) through.through))
     complete (Trap origin kind element) answers =
-        inr (ends_with (Trap origin kind element) answers.it answers.rows answers.table
-        answers.meant
-        (trapped_end (traps_of answers.table) origin kind element
+        let run = answers.run in
+        inr (ends_with (Trap origin kind element) run.it run.rows run.table run.meant
+        (trapped_end (traps_of run.table) origin kind element
         (record { origin = origin; element = element; kind = kind }) answers.trap))
     complete WantOfMemory answers = inl refl
     complete (WriteFault (File name)) answers = absurd (can.shelf answers.3.4.faults)
@@ -210,34 +216,34 @@ module _ (words : List (List ℕ)) (before after : World) (cache later : SeenCac
     complete (GaveUp stage phase task) answers = given_up stage phase task answers
     complete Usage answers = none_asked words (Run s None) can.reads.0 answers.cause can.reads.2
     complete (NoFile name) answers =
-        stopped (NoFile name) (no_file_stops words before.source name answers.cause)
+        not_stopped (NoFile name) (no_file_stops words before.source name answers.cause)
     complete (TooLong name limit) answers =
-        stopped (TooLong name limit)
+        not_stopped (TooLong name limit)
         (too_long_stops words before.source name limit answers.cause)
     complete (ScriptRefused line kind) answers =
-        stopped (ScriptRefused line kind)
+        not_stopped (ScriptRefused line kind)
         (script_stops words before.source line kind answers.cause)
     complete (PlanRefused step kind) answers =
-        stopped (PlanRefused step kind) (plan_stops words before.source step kind answers.cause)
+        not_stopped (PlanRefused step kind) (plan_stops words before.source step kind answers.cause)
     complete (InputRefused name row column kind) answers =
-        stopped (InputRefused name row column kind)
+        not_stopped (InputRefused name row column kind)
         (input_stops words before.source name row column kind answers.cause)
 
   -- ---- the cache
 
-  module _ (law : SoundLaw) (tells : IsSome told) (is : IsSound cache) where
+  module _ (law : SoundLaw) (tells : IsSome told) (is : TellsSoundEntries cache) where
     kept_sound : (files : List NamedBytes) (text : List ℕ)
         (was : WasReused words before after cache later files text)
-        → IsKept words before after cache later was → IsSound later
+        → IsKept words before after cache later was → TellsSoundEntries later
     kept_sound files text was kept =
         let through = was.writes.through in
         law words told cache later was.it was.writes.rows was.table tells is through.meant
         through.through kept.held kept.has
 
-    same_sound : later.entries ≡ cache.entries → IsSound later
+    same_sound : later.entries ≡ cache.entries → TellsSoundEntries later
     same_sound same = subst (λ (o : Option (List CacheEntry)). IsSomeAnd o AreSound) (sym same) is
 
-    sound : (status : Status) → Says status → IsSound later
+    sound : (status : Status) → Says status → TellsSoundEntries later
     sound Done answers = kept_sound answers.0 answers.1 answers.2 answers.4
     sound (WriteFault (File name)) answers = same_sound answers.4
     sound (WriteFault Screen) answers = kept_sound answers.0 answers.1 answers.2 answers.4
@@ -284,3 +290,24 @@ of_memory meant_law sound_law words before after cache refused kept same hosts =
     (record { cause = tt; refused = refused; entries = refl }) kept
     (inl (subst (λ (it : SeenSource). Asks 0 [] before.source it) (sym same)
     (asks_none 0 before.source))) (inl (sym hosts)) refl (omega arith)
+
+-- what a run promises that something stops
+pub stop_promises : (T : Type 0) → MeantLaw → SoundLaw → (words : List (List ℕ))
+    (before after : World) (cache later : SeenCache) (why : Stop) (status : Status)
+    → later.entries ≡ cache.entries
+    → cache.faults ≤ later.faults
+    → IsStop words before.source after.source before.hosts after.hosts cache later why
+    → TellsStop why before.screen after.screen status → after.shelf ≡ before.shelf
+    → Keeps before after → AsksInCall words before.source after.source {T = T} (Err why)
+    → AsksHostsInCall {T = T} words before.source.files before.hosts after.hosts cache later
+    (Err why)
+    → Promises words before after cache later status
+stop_promises T meant_law sound_law words before after cache later why status same rises is
+    tells shelf kept asked hosts =
+    promises words before after cache later meant_law sound_law status
+    (stopped words before after cache later same why status is tells shelf) kept
+    (stopped_for T words before.source after.source why before.screen after.screen status
+    tells asked)
+    (stopped_asks T words before.source.files before.hosts after.hosts cache later why
+    before.screen after.screen status tells hosts)
+    (ap (λ (o : Option (List CacheEntry)). is_some o) same) rises

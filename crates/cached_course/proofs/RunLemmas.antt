@@ -13,8 +13,8 @@ use Rattle.kept_results.specs.of_direct_meaning.Inputs.{inputs_of}
 use Rattle.kept_results.proofs.FoundLemmas.{IsRead, firsts}
 use Rattle.outside.specs.declared.file.File.{File}
 use Rattle.run_course.specs.Lent.{lent}
-use Rattle.run_course.specs.Written.{AllTasksRan, Table, files_of, text_shown}
-use Rattle.run_course.specs.of_script_run.Comes.{AreMembers}
+use Rattle.run_course.specs.Written.{AllTasksRan, CollectionTable, files_of, text_shown}
+use Rattle.run_course.specs.of_script_run.Comes.{AreMembersOf}
 use Rattle.run_course.specs.of_script_loading.Loads.{AllHaveRows}
 use Rattle.run_course.specs.of_script_plans.Plans.{IsScriptPlan}
 use Rattle.run_settings.specs.Settings.{RunSettings}
@@ -43,11 +43,11 @@ module _ (told : Option (List File)) (script : Script) (asked : List (ℕ × Lis
   abbrev pub lists_here : List (List Value)
   lists_here = given_to script found_here rows
 
-  pub means_here : (table : Table) → meaning given.program.script given.lists ≡ Some table
+  pub means_here : (table : CollectionTable) → meaning given.program.script given.lists ≡ Some table
       → meaning script_here lists_here ≡ Some table
   means_here table means = (λ i. meaning (sym is.program i) (sym is.lists i)) ∙ means
 
-  pub reused : (table : Table) → AllHaveRows told (inputs_of script) rows
+  pub reused : (table : CollectionTable) → AllHaveRows told (inputs_of script) rows
       → meaning given.program.script given.lists ≡ Some table
       → IsReused told script found_here rows table
   reused table have means = record { inputs = have; means = means_here table means }
@@ -56,7 +56,7 @@ module _ (told : Option (List File)) (script : Script) (asked : List (ℕ × Lis
       → IsScriptPlan script_here plan
   planned_here plan planned = subst (λ (s : Script). IsScriptPlan s plan) is.program planned
 
-  known_same : (table : Table) → known_by given table ≡ known script found_here table
+  known_same : (table : CollectionTable) → known_by given table ≡ known script found_here table
   known_same table =
       λ i. is.known i
       ++ beside (nodes_needed (is.program i))
@@ -99,7 +99,8 @@ module _ (told : Option (List File)) (script : Script) (asked : List (ℕ × Lis
       ∙ (λ i. map (entry_of (is.program i) (known_same run.table i) run.written)
       given.missing.items)
       ∙ entries_are script_here script (known script found_here run.table) run.written run.table
-      (subst (λ (x : Script). AllZip (λ output members. AreMembers run.table output.1.reads members)
+      (subst
+      (λ (x : Script). AllZip (λ output members. AreMembersOf run.table output.1.reads members)
       x.outputs run.written) is.program run.are)
       (not_found asked is.looked) given.missing.items is.missing
       (not_found_each (IsRead script.outputs) asked is.looked read)
@@ -112,7 +113,8 @@ module _ (told : Option (List File)) (script : Script) (asked : List (ℕ × Lis
       (not_found asked is.looked)
   held_here s olds news files text kept read run =
       held_are script_here script (known script found_here run.table) run.written run.table
-      (subst (λ (x : Script). AllZip (λ output members. AreMembers run.table output.1.reads members)
+      (subst
+      (λ (x : Script). AllZip (λ output members. AreMembersOf run.table output.1.reads members)
       x.outputs run.written) is.program run.are)
       (not_found asked is.looked) given.missing.items is.missing
       (not_found_each (IsRead script.outputs) asked is.looked read)

@@ -6,7 +6,7 @@ use Rattle.flume_collection.specs.Collection.{Collection}
 use Rattle.kept_results.specs.of_direct_meaning.Direct.{made_at, size_of, sizes_from}
 use Rattle.kept_results.specs.Sizes.{beside, named_only, size_at}
 use Rattle.key_meaning.specs.Rested.{sized}
-use Rattle.run_course.specs.Written.{Table}
+use Rattle.run_course.specs.Written.{CollectionTable}
 use Rattle.script_program.specs.Needed.{numbered}
 use Rattle.script_program.specs.Script.{Node}
 use Rattle.written_types.specs.Named.{Named}
@@ -26,7 +26,7 @@ abbrev pub named_size : (ℕ → Option Collection) → ℕ × (List ℕ × Node
 named_size f it = (it.1.0, size_in (f it.0))
 
 module _ (p : ℕ → Bool) (f : ℕ → Option Collection) where
-  next_size : (entry : List ℕ × Node) (nodes : Named Node) (table : Table) (n : ℕ)
+  next_size : (entry : List ℕ × Node) (nodes : Named Node) (table : CollectionTable) (n : ℕ)
       → sizes_from nodes table
       ≡ map (named_size f) (filter (λ it. p it.0) (numbered (suc n) nodes))
       → (o : Option Collection) (b : Bool) → is_some o ≡ b → o ≡ f n
@@ -41,7 +41,8 @@ module _ (p : ℕ → Bool) (f : ℕ → Option Collection) where
   next_size entry nodes table n rest (Some c) false some is = cc
 
   -- the sizes of what is made, which is what is told by p
-  pub sizes_by : (nodes : Named Node) (table : Table) (n : ℕ) → length nodes ≡ length table
+  pub sizes_by : (nodes : Named Node) (table : CollectionTable) (n : ℕ)
+      → length nodes ≡ length table
       → ((k : ℕ) → k < length nodes → made_at table k ≡ f (n + k))
       → ((k : ℕ) → k < length nodes → is_some (made_at table k) ≡ p (n + k))
       → sizes_from nodes table ≡ map (named_size f) (filter (λ it. p it.0) (numbered n nodes))

@@ -22,7 +22,7 @@ use Rattle.kept_results.proofs.of_script_laws.SavedLemmas.{saved-well}
 use Rattle.key_meaning.specs.Rested.{rested_sizes}
 use Rattle.outside.specs.declared.file.File.{File}
 use Rattle.run_course.proofs.RunLemmas.{as_many}
-use Rattle.run_course.specs.Written.{Table, files_of}
+use Rattle.run_course.specs.Written.{CollectionTable, files_of}
 use Rattle.saved_results.specs.Saved.{saved_value}
 use Rattle.saved_results.specs.declared.saved.Saved.{Saved}
 use Rattle.saved_results.specs.declared.saved.Size.{Size}
@@ -42,7 +42,8 @@ use Rattle.cached_course.proofs.SizedLemmas.{HasNumber, Numbered, beside_sizes, 
 -- ---- the table
 
 -- what is given means what the script means, by number
-pub table_same : (script : Script) (found : Found) (rows : List (List Value)) (made table : Table)
+pub table_same : (script : Script) (found : Found) (rows : List (List Value))
+    (made table : CollectionTable)
     → MeansSame script (later_of script found) rows made
     → given_to script found rows ≡ lists_for script (later_of script found) rows made
     → meaning (later_of script found) (given_to script found rows) ≡ Some table
@@ -67,7 +68,7 @@ reads_in (entry ∷ outputs) =
           (λ o among. at_tail entry.1.reads reads o.1.reads among) outputs (reads_in outputs),
     )
 
-files_from : (made table : Table) (outputs : Named Output)
+files_from : (made table : CollectionTable) (outputs : Named Output)
     → Each (λ (o : List ℕ × Output). made_at table o.1.reads ≡ made_at made o.1.reads) outputs
     → files_of table outputs ≡ files_of made outputs
 files_from made table [] same = refl
@@ -101,7 +102,7 @@ right_sizes f (it ∷ xs) = (refl, right_sizes f xs)
 -- ---- what is told
 
 module _ (script : Script) (well : IsWellFormed script) (found : Found)
-    (read : Each (IsRead script.outputs) (numbers_of found)) (made table : Table)
+    (read : Each (IsRead script.outputs) (numbers_of found)) (made table : CollectionTable)
     (are : AreMade script script.nodes made)
     (own : AreMade (later_of script found) (later_of script found).nodes table)
     (same : IsSame (later_of script found) made table)

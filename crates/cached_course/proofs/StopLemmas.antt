@@ -19,7 +19,7 @@ use Rattle.plan_phases.specs.Told.{IsGivenUp}
 use Rattle.run_course.specs.Answers.{IsFirstOfPlan, name_at}
 use Rattle.run_course.specs.Asked.{AskFor}
 use Rattle.run_course.specs.Lent.{lent}
-use Rattle.run_course.specs.Written.{Table}
+use Rattle.run_course.specs.Written.{CollectionTable}
 use Rattle.run_course.specs.declared.stop.Stop.{Stop}
 use Rattle.run_course.specs.declared.stop.Stop.TheVariants.{Refused, Trapped}
 use Rattle.run_course.specs.declared.stop.Trapped.{Trapped as NamedTrap}
@@ -35,10 +35,10 @@ use Rattle.script_program.specs.Needed.{has}
 use Rattle.script_program.specs.Saved.{saved_from, saved_node}
 use Rattle.script_program.specs.Script.{Node, Script}
 use Rattle.written_types.specs.Named.{Named}
-use Rattle.cached_course.specs.Answers.{AsksRun, HasLooked}
-use Rattle.cached_course.specs.Looked.{AreAsked}
+use Rattle.cached_course.specs.Answers.{AsksRun, HasLooked, IsRunning}
+use Rattle.cached_course.specs.Looked.{AreKeyedOutputs}
 use Rattle.cached_course.specs.declared.saving.Given.{Given}
-use Rattle.cached_course.specs.inner.Course.{AsksPhases, GivesUp, IsPrepared, IsRunning, IsStop, StopsRun, Traps, WasGiven, WasRun}
+use Rattle.cached_course.specs.inner.Course.{AsksPhases, GivesUp, IsPrepared, IsStop, StopsRun, Traps, WasGiven, WasRun}
 use Rattle.cached_course.proofs.AskedLemmas.{keyed_read}
 use Rattle.cached_course.proofs.RunLemmas.{found_here, held_here, keeps_here, lists_here, planned_here, reused, script_here, writes_here}
 
@@ -61,7 +61,7 @@ names_from found k (entry ∷ nodes) (suc n) = names_from found (suc k) nodes n
 module _ (words : List (List ℕ)) (before after : SeenSource) (olds news : List Account)
     (cache later : SeenCache) (s : RunSettings) (name : List ℕ) (script : Script)
     (asked : List (ℕ × List ℕ)) (asks : AskFor words (Run s None) name)
-    (of_script : AreAsked before.files name script asked) (rows : List (List Value))
+    (of_script : AreKeyedOutputs before.files name script asked) (rows : List (List Value))
     (have : AllHaveRows before.files (inputs_of script) rows) (given : Given)
     (is : WasGiven script asked rows cache later given) where
   -- how far the call came
@@ -83,10 +83,10 @@ module _ (words : List (List ℕ)) (before after : SeenSource) (olds news : List
   abbrev given_here : List (List Value)
   given_here = lists_here before.files script asked rows cache later given is
 
-  running : (table : Table) (plan : Plan)
+  running : (table : CollectionTable) (plan : Plan)
       → meaning given.program.script given.lists ≡ Some table
       → IsScriptPlan given.program.script plan
-      → IsRunning words before after olds news cache later
+      → IsRunning words before.files cache later
   running table plan means planned = record {
     it = it_here;
     rows = rows;
@@ -148,7 +148,7 @@ module _ (words : List (List ℕ)) (before after : SeenSource) (olds news : List
       (sym up.3) (giving plan up.0 up.1 up.2 planned up.4)
 
   -- it traps
-  trapping : (trap : NamedTrap) (plan : Plan) (table : Table)
+  trapping : (trap : NamedTrap) (plan : Plan) (table : CollectionTable)
       → IsScriptPlan given.program.script plan
       → TrapsAt
       (λ traps it. Contains traps it

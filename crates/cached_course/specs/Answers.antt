@@ -17,12 +17,12 @@ use Rattle.outside.specs.Says.{HasLine}
 use Rattle.outside.specs.declared.file.File.{File as NamedBytes}
 use Rattle.outside.specs.declared.host.Phase.{Phase}
 use Rattle.plan_phases.specs.Told.{IsGivenUp}
-use Rattle.run_course.specs.Answers.{FailsAtFile, HasText, IsCause, IsCutOff, IsFirstOfPlan, IsRefused, name_at}
+use Rattle.run_course.specs.Answers.{FailsAtFile, HasShown, IsCause, IsCutOff, IsFirstOfPlan, IsRefused, name_at}
 use Rattle.run_course.specs.Asked.{AskFor}
 use Rattle.run_course.specs.Hosts.{MayHaveRun}
 use Rattle.run_course.specs.Lent.{lent}
 use Rattle.run_course.specs.World.{World}
-use Rattle.run_course.specs.Written.{Table}
+use Rattle.run_course.specs.Written.{CollectionTable}
 use Rattle.run_settings.specs.Settings.{RunSettings}
 use Rattle.run_texts.specs.Lines.{line_of, trap_line}
 use Rattle.run_texts.specs.declared.status.Place.TheVariants.{File, Screen}
@@ -35,7 +35,7 @@ use Rattle.script_program.specs.Script.{Script}
 use Rattle.run_course.specs.of_script_run.Runs.{AsksSomePhases, phases_of}
 use Rattle.kept_results.specs.of_direct_meaning.Inputs.{inputs_of}
 use Rattle.cached_course.specs.Kept.{HasKept, entries_kept, value_kept}
-use Rattle.cached_course.specs.Looked.{AreAsked, WereLooked, not_found}
+use Rattle.cached_course.specs.Looked.{AreKeyedOutputs, WereLooked, not_found}
 use Rattle.cached_course.specs.Reused.{Found, IsReused, WritesReused}
 
 -- How far the call came: its words ask for a run of a script, of whose collections that are asked
@@ -48,7 +48,7 @@ pub record HasLooked (words : List (List ℕ)) (told : Option (List NamedBytes))
   pub asked : List (ℕ × List ℕ)
   pub looked : List (Option Saved)
   pub asks : AskFor words (Run settings None) name
-  pub of_script : AreAsked told name script asked
+  pub of_script : AreKeyedOutputs told name script asked
   pub was : WereLooked script asked looked cache later
 
 module _ {words : List (List ℕ)} {told : Option (List NamedBytes)} {cache later : SeenCache}
@@ -63,13 +63,23 @@ module _ {words : List (List ℕ)} {told : Option (List NamedBytes)} {cache late
   abbrev pub lists_run : List (List Value) → List (List Value)
   lists_run rows = given_to it.script found rows
 
+-- a plan of what is run, over what it is run over, which means this table
+pub record IsRunning (words : List (List ℕ)) (told : Option (List NamedBytes))
+    (cache later : SeenCache) : Type 0 where
+  pub it : HasLooked words told cache later
+  pub rows : List (List Value)
+  pub table : CollectionTable
+  pub plan : Plan
+  pub meant : IsReused told it.script (found it) rows table
+  pub planned : IsScriptPlan (script_run it) plan
+
 -- ---- what is written
 
 -- the call came to its writing, with these files and this text
 pub record WasReused (words : List (List ℕ)) (before after : World) (cache later : SeenCache)
     (files : List NamedBytes) (text : List ℕ) : Type 0 where
   pub it : HasLooked words before.source.files cache later
-  pub table : Table
+  pub table : CollectionTable
   pub writes : WritesReused it.settings before.source.files before.hosts after.hosts it.script
       (found it) files text table
 
@@ -83,14 +93,17 @@ module _ (words : List (List ℕ)) (before after : World) (cache later : SeenCac
         (not_found was.it.asked was.it.looked)
     pub has : HasKept (entries_kept was.it.script was.it.asked was.it.looked was.table) cache later
 
-  -- Done: each output file is whole and ended, what was not found was kept, and the screen has got
-  -- its text
-  abbrev pub IsDone : Type 0
-  IsDone =
+  -- each output file is whole and ended, what was not found was kept, and this is so of the text
+  -- that is the screen's
+  abbrev pub CameToScreen : (List ℕ → Type 0) → Type 0
+  CameToScreen is_told =
       (files : List NamedBytes) × (text : List ℕ)
       × (was : WasReused words before after cache later files text)
-      × HasFiles files before.shelf after.shelf × IsKept was
-      × HasText text before.screen after.screen
+      × HasFiles files before.shelf after.shelf × IsKept was × is_told text
+
+  -- Done: and the screen has got its text
+  abbrev pub IsDone : Type 0
+  IsDone = CameToScreen (λ text. HasShown text before.screen after.screen)
 
   -- WriteFault of a file: the shelf failed there, and nothing was kept
   abbrev pub IsFileFault : List ℕ → Type 0
@@ -102,50 +115,36 @@ module _ (words : List (List ℕ)) (before after : World) (cache later : SeenCac
 
   -- WriteFault of the screen: it failed in its text, behind the files and what was kept
   abbrev pub IsScreenFault : Type 0
-  IsScreenFault =
-      (files : List NamedBytes) × (text : List ℕ)
-      × (was : WasReused words before after cache later files text)
-      × HasFiles files before.shelf after.shelf × IsKept was
-      × IsCutOff text before.screen after.screen
+  IsScreenFault = CameToScreen (λ text. IsCutOff text before.screen after.screen)
 
   -- ---- what is not
 
   -- Trap: it is the first of the tasks of the plan that is run, and of the meaning of what is run
   pub record IsTrap (origin : ℕ) (kind : Kind) (element : Value) : Type 0 where
-    pub it : HasLooked words before.source.files cache later
-    pub rows : List (List Value)
-    pub table : Table
-    pub plan : Plan
+    pub run : IsRunning words before.source.files cache later
     pub name : List ℕ
-    pub meant : IsReused before.source.files it.script (found it) rows table
-    pub trap : Contains (traps_of table)
+    pub trap : Contains (traps_of run.table)
         (record { origin = origin; element = element; kind = kind })
-    pub planned : IsScriptPlan (script_run it) plan
-    pub first : IsFirstOfPlan it.settings (script_run it) (lists_run it rows) plan
-        (lent it.settings before.hosts) (lent it.settings after.hosts)
+    pub first : IsFirstOfPlan run.it.settings (script_run run.it) (lists_run run.it run.rows)
+        run.plan (lent run.it.settings before.hosts) (lent run.it.settings after.hosts)
         (record { origin = origin; element = element; kind = kind })
-    pub named : name_at it.script origin ≡ Some name
+    pub named : name_at run.it.script origin ≡ Some name
     pub shelf : after.shelf ≡ before.shelf
     pub line : HasLine (trap_line name kind element) before.screen after.screen
     pub entries : later.entries ≡ cache.entries
 
   -- GaveUp: of this task of the plan that is run no attempt has won
   pub record IsGaveUp (stage : ℕ) (phase : Phase) (task : ℕ) : Type 0 where
-    pub it : HasLooked words before.source.files cache later
-    pub rows : List (List Value)
-    pub table : Table
-    pub plan : Plan
-    pub meant : IsReused before.source.files it.script (found it) rows table
-    pub planned : IsScriptPlan (script_run it) plan
-    pub given_up : IsGivenUp it.settings.tries it.settings.drill
-        (script_world (script_run it) (lists_run it rows))
-        (phases_of it.settings (script_run it) (lists_run it rows) plan)
-        (lent it.settings before.hosts) (lent it.settings after.hosts) stage phase task
+    pub run : IsRunning words before.source.files cache later
+    pub given_up : IsGivenUp run.it.settings.tries run.it.settings.drill
+        (script_world (script_run run.it) (lists_run run.it run.rows))
+        (phases_of run.it.settings (script_run run.it) (lists_run run.it run.rows) run.plan)
+        (lent run.it.settings before.hosts) (lent run.it.settings after.hosts) stage phase task
     pub refused : IsRefused (GaveUp stage phase task) before after
     pub entries : later.entries ≡ cache.entries
 
   -- a refusal before anything is looked for: its cause is that of the run without a cache
-  pub record IsStopped (status : Status) : Type 0 where
+  pub record IsRefusedEarly (status : Status) : Type 0 where
     pub cause : IsCause words before.source after.source before.hosts after.hosts status
     pub refused : IsRefused status before after
     pub entries : later.entries ≡ cache.entries
@@ -157,7 +156,7 @@ module _ (words : List (List ℕ)) (before after : World) (cache later : SeenCac
   Answers (WriteFault Screen) = IsScreenFault
   Answers (Trap origin kind element) = IsTrap origin kind element
   Answers (GaveUp stage phase task) = IsGaveUp stage phase task
-  Answers status = IsStopped status
+  Answers status = IsRefusedEarly status
 
 -- ---- what hosts are asked for
 

@@ -11,7 +11,7 @@ use Rattle.kept_results.specs.Lists.{found_of}
 use Rattle.kept_results.specs.Sizes.{rested_nodes, to_keep}
 use Rattle.outside.specs.Cause.{Rose}
 use Rattle.outside.specs.Told.{WhereTold}
-use Rattle.run_course.specs.Written.{Table}
+use Rattle.run_course.specs.Written.{CollectionTable}
 use Rattle.kept_results.specs.of_saved_meaning.Found.{members_of}
 use Rattle.saved_results.specs.Saved.{saved_value}
 use Rattle.saved_results.specs.declared.saved.Saved.{Saved}
@@ -21,17 +21,17 @@ use Rattle.cached_course.specs.Reused.{Found, known}
 
 -- what is kept of the collection of a number: its members, and the sizes of what it rests on, as
 -- they were found or as the run gave them; as a value, and as bytes
-abbrev pub value_kept : Script → Found → Table → ℕ → Value
+abbrev pub value_kept : Script → Found → CollectionTable → ℕ → Value
 value_kept script found table number =
     saved_value
     (to_keep (known script found table) (rested_nodes script number)
     (members_of (made_at table number)))
 
-abbrev pub bytes_kept : Script → Found → Table → ℕ → List ℕ
+abbrev pub bytes_kept : Script → Found → CollectionTable → ℕ → List ℕ
 bytes_kept script found table number = canonical (value_kept script found table number)
 
 -- of each collection that is asked for and was not found, its key and these bytes
-abbrev pub entries_kept : Script → List (ℕ × List ℕ) → List (Option Saved) → Table
+abbrev pub entries_kept : Script → List (ℕ × List ℕ) → List (Option Saved) → CollectionTable
     → List CacheEntry
 entries_kept script asked looked table =
     map

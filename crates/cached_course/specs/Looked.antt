@@ -2,7 +2,7 @@
 use Rattle.std.specs.Prelude.{◌≡◌, ◌++◌, ℕ, List, [], ◌∷◌, Option, Some, None, IfSome}
 use Rattle.std.specs.List.{AllByRecursion}
 use Rattle.cache_store.specs.Seen.{SeenCache}
-use Rattle.key_meaning.specs.Keyed.{IsShort}
+use Rattle.key_meaning.specs.Keyed.{HasKeyLength}
 use Rattle.kept_results.specs.of_direct_meaning.Inputs.{inputs_of}
 use Rattle.kept_results.specs.Keyed.{keyed_nodes}
 use Rattle.kept_results.specs.Kept.{AreFound, AreKept, FindsEach}
@@ -16,7 +16,7 @@ use Rattle.script_program.specs.Script.{Script}
 
 -- The collections that outputs of the script of this file read, by number and key: the keys are
 -- over the files of the inputs that it needs.
-pub record AreAsked (told : Option (List File)) (name : List ℕ) (script : Script)
+pub record AreKeyedOutputs (told : Option (List File)) (name : List ℕ) (script : Script)
     (asked : List (ℕ × List ℕ)) : Type 0 where
   pub outlines : List Outline
   pub texts : List (List ℕ)
@@ -25,8 +25,8 @@ pub record AreAsked (told : Option (List File)) (name : List ℕ) (script : Scri
   pub inputs : AreFilesOf told (inputs_of script) files
   pub keyed : asked ≡ keyed_nodes outlines texts files script
   -- what a key is made of is in memory: 64 bits hold each length
-  pub texts_short : AllByRecursion IsShort texts
-  pub names_short : AllByRecursion (λ output. IsShort output.1.name) script.outputs
+  pub texts_short : AllByRecursion HasKeyLength texts
+  pub names_short : AllByRecursion (λ output. HasKeyLength output.1.name) script.outputs
 
 -- What was found of each: nothing but what may be kept of it and stands under its key; and just
 -- that, where the cache did not fail.

@@ -20,7 +20,7 @@ use Rattle.run_course.specs.Asks.{AsksFor}
 use Rattle.run_course.specs.Lent.{lent}
 use Rattle.run_course.specs.Promises.{EndsWith, IsEnded, IsUnlessFailed}
 use Rattle.run_course.specs.World.{Keeps, World}
-use Rattle.run_course.specs.Written.{IsMeant, Table, files_of}
+use Rattle.run_course.specs.Written.{IsMeant, CollectionTable, files_of}
 use Rattle.run_settings.specs.Settings.{RunSettings}
 use Rattle.run_texts.specs.declared.status.Status.{Status}
 use Rattle.run_texts.specs.declared.status.Status.TheVariants.{InputRefused, ScriptRefused, TooLong, WantOfMemory}
@@ -30,15 +30,15 @@ use Rattle.script_program.specs.Script.{Script}
 use Rattle.run_course.specs.of_script_run.Runs.{phases_of}
 use Rattle.cached_course.specs.Answers.{Answers, AsksHosts, HasLooked, found, lists_run, script_run}
 use Rattle.cached_course.specs.Reused.{Found, IsReused, all_sizes}
-use Rattle.cached_course.specs.Sound.{IsSound}
+use Rattle.cached_course.specs.Sound.{TellsSoundEntries}
 
 -- ---- over a sound cache
 
 -- What is run means what the script means: the outputs have the same files and all collections the
 -- same sizes; where the one has no trap the other has none, and each trap is one of the script.
 pub record IsAsMeant (told : Option (List File)) (script : Script) (found : Found)
-    (rows : List (List Value)) (table : Table) : Type 0 where
-  pub made : Table
+    (rows : List (List Value)) (table : CollectionTable) : Type 0 where
+  pub made : CollectionTable
   pub meant : IsMeant told script rows made
   pub files : files_of table script.outputs ≡ files_of made script.outputs
   pub sizes : all_sizes script found table ≡ sizes_of script made
@@ -68,7 +68,7 @@ pub record CanRun (words : List (List ℕ)) (before after : World) (cache later 
 pub record Ends (words : List (List ℕ)) (before : World) (cache later : SeenCache)
     (rows : List (List Value)) (status : Status) : Type 0 where
   pub it : HasLooked words before.source.files cache later
-  pub table : Table
+  pub table : CollectionTable
   pub meant : IsReused before.source.files it.script (found it) rows table
   pub ends : EndsWith (traps_of table) status
 
@@ -100,11 +100,11 @@ pub record Promises (words : List (List ℕ)) (before after : World) (cache late
       (status ≡ WantOfMemory) ⊎ Ends words before cache later rows status
   -- over a sound cache whatever was found, what is run means what the script means, and the cache
   -- that is left is sound
-  pub as_meant : IsSome before.source.files → IsSound cache →
+  pub as_meant : IsSome before.source.files → TellsSoundEntries cache →
       (it : HasLooked words before.source.files cache later) (rows : List (List Value))
-      (table : Table) → IsReused before.source.files it.script (found it) rows table →
+      (table : CollectionTable) → IsReused before.source.files it.script (found it) rows table →
       IsAsMeant before.source.files it.script (found it) rows table
-  pub sound : IsSome before.source.files → IsSound cache → IsSound later
+  pub sound : IsSome before.source.files → TellsSoundEntries cache → TellsSoundEntries later
   -- the source tells what it told, the cache tells where it told, no count of failures falls, and
   -- what hosts tell only grows
   pub kept : Keeps before after

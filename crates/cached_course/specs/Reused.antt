@@ -9,7 +9,7 @@ use Rattle.kept_results.specs.Lists.{given_to, later_of}
 use Rattle.kept_results.specs.Sizes.{nodes_needed, sizes_known, sizes_told}
 use Rattle.outside.specs.declared.file.File.{File}
 use Rattle.run_course.specs.Lent.{lent}
-use Rattle.run_course.specs.Written.{AllTasksRan, Table, files_of, text_shown}
+use Rattle.run_course.specs.Written.{AllTasksRan, CollectionTable, files_of, text_shown}
 use Rattle.run_settings.specs.Settings.{RunSettings}
 use Rattle.run_texts.specs.Texts.{size_lines}
 use Rattle.saved_results.specs.declared.saved.Saved.{Saved}
@@ -22,24 +22,24 @@ abbrev pub Found : Type 0
 Found = List (ℕ × Saved)
 
 -- what is known of sizes: as they were kept, and then as the run gives them
-abbrev pub known : Script → Found → Table → List (ℕ × ℕ)
+abbrev pub known : Script → Found → CollectionTable → List (ℕ × ℕ)
 known script found table = sizes_known script found (sizes_of (later_of script found) table)
 
 -- the sizes of all collections that the script needs, under their names and in order
-abbrev pub all_sizes : Script → Found → Table → List (List ℕ × ℕ)
+abbrev pub all_sizes : Script → Found → CollectionTable → List (List ℕ × ℕ)
 all_sizes script found table = sizes_told (known script found table) (nodes_needed script)
 
 -- All inputs that the script needs have these rows. Over those that are still needed, and what was
 -- found, the script in which that is kept means these collections.
 pub record IsReused (told : Option (List File)) (script : Script) (found : Found)
-    (rows : List (List Value)) (table : Table) : Type 0 where
+    (rows : List (List Value)) (table : CollectionTable) : Type 0 where
   pub inputs : AllHaveRows told (inputs_of script) rows
   pub means : meaning (later_of script found) (given_to script found rows) ≡ Some table
 
 -- The same, without a trap: the files of the outputs, and a text of all sizes behind another text.
 pub record IsThrough (told : Option (List File)) (script : Script) (found : Found)
-    (front : List ℕ) (files : List File) (text : List ℕ) (rows : List (List Value)) (table : Table)
-    : Type 0 where
+    (front : List ℕ) (files : List File) (text : List ℕ) (rows : List (List Value))
+    (table : CollectionTable) : Type 0 where
   pub meant : IsReused told script found rows table
   pub through : traps_of table ≡ []
   pub written : files_of table script.outputs ≡ Some files
@@ -48,7 +48,7 @@ pub record IsThrough (told : Option (List File)) (script : Script) (found : Foun
 -- What such a run writes and leaves: the graph that has what was found as sources, and its plan;
 -- then the sizes. Each task of that plan was run on the lent hosts.
 pub record WritesReused (s : RunSettings) (told : Option (List File)) (olds news : List Account)
-    (script : Script) (found : Found) (files : List File) (text : List ℕ) (table : Table)
+    (script : Script) (found : Found) (files : List File) (text : List ℕ) (table : CollectionTable)
     : Type 0 where
   pub plan : Plan
   pub rows : List (List Value)

@@ -43,5 +43,5 @@ abbrev pub AreSound : List CacheEntry → Type 0
 AreSound entries = (it : Keyed) → IfSome (found_in entries (key it)) (IsValueOf it)
 
 -- the cache tells its entries, and they are sound
-abbrev pub IsSound : SeenCache → Type 0
-IsSound cache = IsSomeAnd cache.entries AreSound
+abbrev pub TellsSoundEntries : SeenCache → Type 0
+TellsSoundEntries cache = IsSomeAnd cache.entries AreSound

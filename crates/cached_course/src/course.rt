@@ -5,9 +5,7 @@ ghost use Rattle.std.specs.Option.{option_map};
 ghost use Rattle.command_words.specs.declared.words.Command.TheVariants.{Run};
 ghost use Rattle.outside.specs.Saves.{output_file};
 ghost use Rattle.run_course.specs.Asked.{AskFor};
-ghost use Rattle.run_course.specs.Asks.{AsksFor};
-ghost use Rattle.run_course.specs.World.{Keeps, world};
-ghost use Rattle.cached_course.specs.Answers.{Answers, AsksHosts};
+ghost use Rattle.run_course.specs.World.{world};
 ghost use Rattle.cached_course.specs.Kept.{HasKept};
 ghost use Rattle.cached_course.specs.Promises.{Promises};
 ghost use Rattle.cached_course.specs.inner.Course.{DeliversKept};
@@ -18,9 +16,9 @@ use cache_store::{Cache, CacheEntry};
 use flume_value::Str;
 use kept_results::keep_each;
 use outside::{Host, Output, Screen, Shelf, Source, save_all, say};
-use run_course::Stop;
+use run_course::stop_told;
 use run_settings::Settings;
-use run_texts::{Place, Status, tell, tell_trap};
+use run_texts::{Place, Status, tell};
 use std::alloc::Global;
 use std::thread::Threads;
 
@@ -46,57 +44,9 @@ pub fn run_cached<X: Threads + Sync, R: Source, H: Host + Send, K: Shelf, P: Scr
     ensures hosts { drop settings.now.workers hosts.new ≡ drop settings.now.workers hosts.old }
 {
     reuse_law();
-    answer(
-        rt, alloc, settings, name, source, hosts, shelf, screen, cache,
-    )
-}
-
-// Runs the script, and tells of a refusal or a trap.
-fn answer<X: Threads + Sync, R: Source, H: Host + Send, K: Shelf, P: Screen, C: Cache>(
-    rt: &X,
-    alloc: Global,
-    settings: &Settings,
-    name: &str,
-    source: &mut R,
-    hosts: &mut [H],
-    shelf: &mut K,
-    screen: &mut P,
-    cache: &mut C,
-) -> Status
-    requires { length hosts.old ≡ 16 }
-    ensures answers { (words : List (List ℕ)) → AskFor words (Run settings.now None) name.now →
-        Answers words
-        (world (R.seen source.old) (K.seen shelf.old) (P.seen screen.old) (map H.account hosts.old))
-        (world (R.seen source.new) (K.seen shelf.new) (P.seen screen.new) (map H.account hosts.new))
-        (C.seen cache.old) (C.seen cache.new) result }
-    ensures kept { Keeps
-        (world (R.seen source.old) (K.seen shelf.old) (P.seen screen.old) (map H.account hosts.old))
-        (world (R.seen source.new) (K.seen shelf.new) (P.seen screen.new)
-        (map H.account hosts.new)) }
-    ensures asked { (words : List (List ℕ)) → AskFor words (Run settings.now None) name.now →
-        AsksFor words (R.seen source.old) (R.seen source.new) result }
-    ensures asked_hosts { (words : List (List ℕ)) → AskFor words (Run settings.now None) name.now →
-        AsksHosts words (R.seen source.old).files (map H.account hosts.old)
-        (map H.account hosts.new) (C.seen cache.old) (C.seen cache.new) result }
-    ensures tells { is_some (C.seen cache.new).entries ≡ is_some (C.seen cache.old).entries }
-    ensures rises { (C.seen cache.old).faults ≤ (C.seen cache.new).faults }
-    ensures hosts { drop settings.now.workers hosts.new ≡ drop settings.now.workers hosts.old }
-{
     match prepare(rt, alloc, settings, name, source, hosts, cache) {
         Ok(reused) => deliver(reused, shelf, screen, cache),
-        Err(Stop::Refused(status)) => {
-            tell(screen, &status);
-            status
-        }
-        Err(Stop::Trapped(trapped)) => {
-            let trap = trapped.trap;
-            tell_trap(screen, trapped.name.as_bytes(), trap.kind, &trap.element);
-            Status::Trap {
-                origin: trap.origin,
-                kind: trap.kind,
-                element: trap.element,
-            }
-        }
+        Err(stop) => stop_told(stop, screen),
     }
 }
 

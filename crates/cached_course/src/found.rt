@@ -7,9 +7,9 @@ ghost use Rattle.kept_results.specs.Sizes.{beside, rested_nodes as rested};
 ghost use Rattle.saved_results.specs.declared.saved.Saved.{Saved as Kept};
 ghost use Rattle.cached_course.specs.inner.Found.{IsApart, found_as, next_of};
 
-use flume_value::{Items, Str};
+use flume_value::{Items, Pile, Str};
 use kept_results::{push_kept, rested_nodes};
-use saved_results::Saved;
+use saved_results::{Saved, Size};
 use script_program::Program;
 use std::alloc::{AllocError, Global};
 use std::vec::IntoIter;
@@ -115,11 +115,27 @@ fn push_found(
         (map (λ size. size.members) saved.sizes)) }
 {
     let Saved { members, sizes } = saved;
+    push_known(alloc, program, number, &sizes, &mut found.known)?;
+    drop(sizes);
+    found.numbers.push(number)?;
+    found.members.push(members)?;
+    Ok(())
+}
+
+// Puts behind what is known the sizes that were kept of what the collection of a number rests on.
+fn push_known(
+    alloc: Global,
+    program: &Program,
+    number: u32,
+    sizes: &Pile<Size>,
+    known: &mut Vec<(u32, u64)>,
+) -> Result<(), AllocError>
+    ensures { OnOk result (known.new.items ≡ known.old.items
+        ++ beside (rested program.now.script number) (map (λ size. size.members) sizes.now)) }
+{
     let nodes = rested_nodes(alloc, program, number as usize)?;
     let rested = nodes.as_slice();
     let counts = sizes.as_slice();
-    push_kept(rested, counts, &mut found.known)?;
-    found.numbers.push(number)?;
-    found.members.push(members)?;
+    push_kept(rested, counts, known)?;
     Ok(())
 }

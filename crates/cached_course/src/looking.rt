@@ -43,8 +43,9 @@ pub fn looked_for<C: Cache>(
     let keyed = keyed_by(alloc, program, outlines, texts, files)?;
     let asked = keyed.as_slice();
     let looked = find_each(alloc, program, asked, cache)?;
-    let it = gone_on(alloc, program, asked, looked)?;
-    Ok(it)
+    let it = gone_on(alloc, program, asked, looked);
+    drop(keyed);
+    it
 }
 
 // The collections that are asked for, by number and key.

@@ -2,6 +2,7 @@
 ghost use Rattle.std.specs.Prelude.{◌≡◌, ◌++◌, IfOk, List, OnOk, drop, length, map, slice_get, take, ℕ};
 ghost use Rattle.std.specs.List.{AllByRecursion};
 ghost use Rattle.std.specs.Vec.Iter.{into_iter_items};
+ghost use Rattle.flume_value.specs.Canonical.{canonical};
 ghost use Rattle.flume_value.specs.Ranges.{IsHeld};
 ghost use Rattle.cached_course.specs.Looked.{missing_as, not_found};
 ghost use Rattle.cached_course.specs.inner.Missing as spec;
@@ -65,10 +66,12 @@ fn push_missing(
 fn missing_at(alloc: Global, program: &Program, asked: &(u32, Str)) -> Result<Missing, AllocError>
     ensures { IfOk result (spec.IsMissing program.now.script asked.now) }
 {
+    let nodes = rested_nodes(alloc, program, asked.0 as usize)?;
+    let key = asked.1.copy(alloc)?;
     Ok(Missing {
         number: asked.0,
-        key: asked.1.copy(alloc)?,
-        nodes: rested_nodes(alloc, program, asked.0 as usize)?,
+        key,
+        nodes,
     })
 }
 
@@ -165,11 +168,41 @@ fn entry_of(
     ensures held { OnOk result (IsHeld
         (spec.kept_value program.now.script known.now written.now missing)) }
 {
-    let Missing { number, key, nodes } = missing;
-    let members = members_for(alloc, program, number as usize, written)?;
-    let rested = nodes.as_slice();
+    match value_of(alloc, program, &missing, known, written) {
+        Ok(value) => {
+            let Missing {
+                number: _,
+                key,
+                nodes,
+            } = missing;
+            drop(nodes);
+            Ok(CacheEntry { key, value })
+        }
+        Err(e) => {
+            drop(missing);
+            Err(e)
+        }
+    }
+}
+
+// The bytes that are kept of one.
+fn value_of(
+    alloc: Global,
+    program: &Program,
+    missing: &Missing,
+    known: &[(u32, u64)],
+    written: &[Items],
+) -> Result<Str, AllocError>
+    requires count { length written.now ≡ length program.now.script.outputs }
+    ensures value { IfOk result (λ value. value
+        ≡ canonical (spec.kept_value program.now.script known.now written.now missing.now)) }
+    ensures held { OnOk result (IsHeld
+        (spec.kept_value program.now.script known.now written.now missing.now)) }
+{
+    let members = members_for(alloc, program, missing.number as usize, written)?;
+    let rested = missing.nodes.as_slice();
     let value = kept_bytes(alloc, known, rested, members)?;
-    Ok(CacheEntry { key, value })
+    Ok(value)
 }
 
 // The members of the first output that reads the collection of a number.

@@ -34,6 +34,7 @@ use run_course::script_loading::ReadyProgram;
 use run_course::script_run::Ran;
 use run_course::{ShownPlan, Stop, Written, output_files, plan_shown, ran_through, with_sizes};
 use run_settings::Settings;
+use run_texts::Status;
 use script_program::Program;
 use std::alloc::{AllocError, Global};
 use std::thread::Threads;
@@ -91,7 +92,13 @@ pub fn prepare<X: Threads + Sync, R: Source, H: Host + Send, C: Cache>(
 {
     let tries = settings.tries();
     let script = keyed_script(alloc, name, source, tries)?;
-    let inputs = keyed_inputs(alloc, &script.program, source, tries)?;
+    let inputs = match keyed_inputs(alloc, &script.program, source, tries) {
+        Ok(inputs) => inputs,
+        Err(status) => {
+            script.program.let_go();
+            return Err(Stop::Refused(status));
+        }
+    };
     let texts = script.texts.as_slice();
     texts_short(texts);
     let held = script.program.as_program();
@@ -125,9 +132,13 @@ fn look_up<C: Cache>(
     } = script;
     let KeyedInputs { rows, files } = inputs;
     let held = program.as_program();
-    let it = looked_for(alloc, held, &outlines, &texts, &files, cache)?;
-    let given = taken_for(alloc, program, rows, it)?;
-    Ok(given)
+    match looked_for(alloc, held, &outlines, &texts, &files, cache) {
+        Ok(it) => Ok(taken_for(alloc, program, rows, it)?),
+        Err(e) => {
+            program.let_go();
+            Err(e)
+        }
+    }
 }
 
 // Takes what was found for a part of the inputs, which have these rows.
@@ -161,14 +172,19 @@ fn taken_for(
     let later = program.with_saved(kept);
     let held = later.as_program();
     let asked = inputs.as_slice();
-    let lists = given_lists(alloc, held, asked, rows, members)?;
-    Ok(Given {
-        program: later,
-        lists,
-        known,
-        missing,
-        needed,
-    })
+    match given_lists(alloc, held, asked, rows, members) {
+        Ok(lists) => Ok(Given {
+            program: later,
+            lists,
+            known,
+            missing,
+            needed,
+        }),
+        Err(e) => {
+            later.let_go();
+            Err(e)
+        }
+    }
 }
 
 // Runs what is given, by the plan of its program.
@@ -194,8 +210,13 @@ fn run_given<X: Threads + Sync, H: Host + Send>(
     ensures grew { AllZip Grew (map H.account hosts.old) (map H.account hosts.new) }
     ensures hosts { drop settings.now.workers hosts.new ≡ drop settings.now.workers hosts.old }
 {
-    let shown = plan_shown(alloc, &given.program)?;
-    carried_out(rt, alloc, given, shown, hosts, settings)
+    match plan_shown(alloc, &given.program) {
+        Ok(shown) => carried_out(rt, alloc, given, shown, hosts, settings),
+        Err(_) => {
+            given.program.let_go();
+            Err(Stop::Refused(Status::WantOfMemory))
+        }
+    }
 }
 
 // Runs what is given, by a plan.
@@ -233,10 +254,21 @@ fn carried_out<X: Threads + Sync, H: Host + Send>(
         needed,
     } = given;
     let ShownPlan { plan, text } = shown;
-    let wanted = needed.as_slice();
     match ran_through(rt, alloc, &program, &plan, lists, hosts, settings) {
-        Ok(ran) => Ok(written_out(alloc, &program, &ran, text, known, missing, wanted)?),
-        Err(why) => Err(why),
+        Ok(ran) => {
+            drop(plan);
+            let wanted = needed.as_slice();
+            let reused = written_out(alloc, &program, &ran, text, known, missing, wanted);
+            drop(ran);
+            program.let_go();
+            let out = reused?;
+            Ok(out)
+        }
+        Err(why) => {
+            drop(plan);
+            program.let_go();
+            Err(why)
+        }
     }
 }
 

@@ -21,11 +21,13 @@ impl Call {
             head: Vec::new(alloc),
             faults: Faults::new(alloc),
         };
-        call.add_always(case, command)?;
-        for (k, when) in whens.iter().enumerate() {
-            call.add_when(if k == 0 { b" when " } else { b" and " }, when)?;
+        match call.add_all(case, command, whens) {
+            Ok(()) => Ok(call),
+            Err(e) => {
+                drop(call);
+                Err(e)
+            }
         }
-        Ok(call)
     }
 
     /// The same once more, in which nothing else fails.
@@ -33,6 +35,19 @@ impl Call {
         let mut call = Call::new(alloc, case, command, &[])?;
         call.head.extend_from_slice(b" again")?;
         Ok(call)
+    }
+
+    fn add_all(
+        &mut self,
+        case: &Case,
+        command: &Command,
+        whens: &[&When],
+    ) -> Result<(), AllocError> {
+        self.add_always(case, command)?;
+        for (k, when) in whens.iter().enumerate() {
+            self.add_when(if k == 0 { b" when " } else { b" and " }, when)?;
+        }
+        Ok(())
     }
 
     fn add_always(&mut self, case: &Case, command: &Command) -> Result<(), AllocError> {

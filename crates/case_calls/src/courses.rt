@@ -2,13 +2,14 @@
 use crate::caches::cache_of;
 use crate::calls::Call;
 use crate::outcomes::{CacheCounts, outcome_of};
-use crate::pages::Caller;
+use crate::pages::{Caller, Calls};
 use crate::worlds::World;
 use cache_store::MemCache;
 use case_reports::Report;
 use std::alloc::{AllocError, Global};
+use std::mem::replace;
 use std::thread::Threads;
-use worked_cases::{Case, Command, TextFile};
+use worked_cases::{Case, TextFile};
 
 /// A case so far: the files that the source has behind the first call, the cache, and what is told.
 #[derive(Drop)]
@@ -41,28 +42,31 @@ impl Course {
 
     /// A new cache, in which these fail.
     pub fn renew(&mut self, alloc: Global, case: &Case, call: &Call) -> Result<(), AllocError> {
-        self.cache = cache_of(alloc, &case.entries, &call.faults.cache)?;
+        let cache = cache_of(alloc, &case.entries, &call.faults.cache)?;
+        drop(replace(&mut self.cache, cache));
         Ok(())
     }
 
     /// Makes a call of a command, and tells what came of it.
     pub fn make<X: Threads + Sync, C: Caller>(
         &mut self,
-        rt: &X,
-        caller: &C,
-        alloc: Global,
-        case: &Case,
-        command: &Command,
+        calls: &Calls<'_, X, C>,
         call: &Call,
     ) -> Result<(), AllocError> {
+        let (alloc, case) = (calls.alloc, calls.case);
         let mut world = World::new(alloc, case, &self.kept, &call.faults)?;
         let before = self.cache.faults();
-        let status = caller.call(rt, alloc, &command.words, &mut world, &mut self.cache);
+        let words = &calls.command.words;
+        let status = calls
+            .caller
+            .call(calls.rt, alloc, words, &mut world, &mut self.cache);
         let cache = CacheCounts {
             faults: self.cache.faults().saturating_sub(before),
             entries: self.cache.entry_count(),
         };
-        self.tell(alloc, case, call, status, &world, cache)
+        let told = self.tell(alloc, case, call, status, &world, cache);
+        drop(world);
+        told
     }
 
     fn tell(

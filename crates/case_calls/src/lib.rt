@@ -10,6 +10,7 @@ mod calls;
 mod courses;
 mod outcomes;
 mod pages;
+mod rooms;
 mod worlds;
 
 pub use pages::{Caller, print_cases};

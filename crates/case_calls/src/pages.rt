@@ -84,41 +84,51 @@ fn case_page<X: Threads + Sync, C: Caller>(
 ) -> Result<String, AllocError> {
     let mut course = Course::new(alloc, case)?;
     for command in &case.commands {
-        make_calls(rt, caller, alloc, case, command, &mut course)?;
+        let calls = Calls {
+            rt,
+            caller,
+            alloc,
+            case,
+            command,
+        };
+        make_calls(&calls, &mut course)?;
     }
     Ok(course.into_page())
 }
 
-// A command: with nothing more that fails, with each thing that is to, and with each two of those.
+/// The calls of a command of a case, and who makes them.
+#[derive(Drop)]
+pub struct Calls<'a, X, C> {
+    pub rt: &'a X,
+    pub caller: &'a C,
+    pub alloc: Global,
+    pub case: &'a Case,
+    pub command: &'a Command,
+}
+
+// The calls of a command: with nothing more that fails, with each thing that is to, and with each
+// two of those.
 fn make_calls<X: Threads + Sync, C: Caller>(
-    rt: &X,
-    caller: &C,
-    alloc: Global,
-    case: &Case,
-    command: &Command,
+    calls: &Calls<'_, X, C>,
     course: &mut Course,
 ) -> Result<(), AllocError> {
-    make_call(rt, caller, alloc, case, command, &[], course)?;
-    for when in &case.whens {
-        make_call(rt, caller, alloc, case, command, &[when], course)?;
+    make_call(calls, &[], course)?;
+    for when in &calls.case.whens {
+        make_call(calls, &[when], course)?;
     }
-    if case.has_pairs {
-        make_pairs(rt, caller, alloc, case, command, course)?;
+    if calls.case.has_pairs {
+        make_pairs(calls, course)?;
     }
     Ok(())
 }
 
 fn make_pairs<X: Threads + Sync, C: Caller>(
-    rt: &X,
-    caller: &C,
-    alloc: Global,
-    case: &Case,
-    command: &Command,
+    calls: &Calls<'_, X, C>,
     course: &mut Course,
 ) -> Result<(), AllocError> {
-    for (k, one) in case.whens.iter().enumerate() {
-        for other in case.whens.iter().skip(k).skip(1) {
-            make_call(rt, caller, alloc, case, command, &[one, other], course)?;
+    for (k, one) in calls.case.whens.iter().enumerate() {
+        for other in calls.case.whens.iter().skip(k).skip(1) {
+            make_call(calls, &[one, other], course)?;
         }
     }
     Ok(())
@@ -127,20 +137,29 @@ fn make_pairs<X: Threads + Sync, C: Caller>(
 // A call of a command in which these fail. Where each call is made twice, it has a new cache, and
 // is made once more over what that has then.
 fn make_call<X: Threads + Sync, C: Caller>(
-    rt: &X,
-    caller: &C,
-    alloc: Global,
-    case: &Case,
-    command: &Command,
+    calls: &Calls<'_, X, C>,
     whens: &[&When],
     course: &mut Course,
 ) -> Result<(), AllocError> {
-    let call = Call::new(alloc, case, command, whens)?;
-    if !case.is_twice {
-        return course.make(rt, caller, alloc, case, command, &call);
-    }
-    course.renew(alloc, case, &call)?;
-    course.make(rt, caller, alloc, case, command, &call)?;
-    let again = Call::again(alloc, case, command)?;
-    course.make(rt, caller, alloc, case, command, &again)
+    let call = Call::new(calls.alloc, calls.case, calls.command, whens)?;
+    let made = if calls.case.is_twice {
+        make_twice(calls, &call, course)
+    } else {
+        course.make(calls, &call)
+    };
+    drop(call);
+    made
+}
+
+fn make_twice<X: Threads + Sync, C: Caller>(
+    calls: &Calls<'_, X, C>,
+    call: &Call,
+    course: &mut Course,
+) -> Result<(), AllocError> {
+    course.renew(calls.alloc, calls.case, call)?;
+    course.make(calls, call)?;
+    let again = Call::again(calls.alloc, calls.case, calls.command)?;
+    let made = course.make(calls, &again);
+    drop(again);
+    made
 }

@@ -1,11 +1,11 @@
 // The world of a call: what the memory forms hold, and which of their calls fail.
-ghost use Rattle.std.specs.Prelude.{◌≡◌, ◌≤◌, IfOk, IsTrue, length, sum_by, vec_len};
-ghost use Rattle.outside.specs.Files.{file_size};
+ghost use Rattle.std.specs.Prelude.{◌≡◌, IfOk, vec_len};
 
+use crate::rooms::fitting;
 use flume_value::{Pile, Str};
 use outside::{File, MemHost, MemScreen, MemShelf, MemSource};
 use std::alloc::{AllocError, Global};
-use worked_cases::{Case, Faults, HostDown, Room, TextFile};
+use worked_cases::{Case, Faults, HostDown, TextFile};
 
 /// The outside of a call.
 #[derive(Drop)]
@@ -88,34 +88,6 @@ fn file_of(alloc: Global, text: &TextFile) -> Result<File, AllocError> {
         name: Str::from_slice(alloc, &text.name)?,
         bytes: Str::from_slice(alloc, &text.bytes)?,
     })
-}
-
-// These files, which fit the room, since a case is not read where they do not.
-fn fitting(alloc: Global, files: Pile<File>, room: Room) -> Pile<File>
-    ensures few { length result ≤ room.files }
-    ensures fits { sum_by file_size result ≤ room.bytes }
-{
-    if files.len() as u64 <= u64::from(room.files) && fits(files.as_slice(), room.bytes) {
-        files
-    } else {
-        Pile::new(alloc)
-    }
-}
-
-// Whether files, with their names, have no more bytes than this.
-fn fits(files: &[File], most: u64) -> bool
-    ensures { IsTrue result → sum_by file_size files.now ≤ most }
-{
-    let mut left = most;
-    for file in files {
-        let name = file.name.len() as u64;
-        let bytes = file.bytes.len() as u64;
-        if name > left || bytes > left - name {
-            return false;
-        }
-        left = left - name - bytes;
-    }
-    true
 }
 
 fn hosts_of(alloc: Global, downs: &[HostDown]) -> Result<Vec<MemHost>, AllocError>

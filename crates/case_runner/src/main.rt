@@ -35,7 +35,9 @@ impl Caller for Flume {
             &mut world.screen,
             cache,
         );
-        status.code()
+        let code = status.code();
+        drop(status);
+        code
     }
 }
 

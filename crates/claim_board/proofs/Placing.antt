@@ -6,7 +6,7 @@ use Rattle.std.proofs.lemmas.List.Sums.{sum_by_push}
 use mathlib.Core.Option.{some, some-ne-none}
 use lib.ListN.{get_elem?}
 use Rattle.claim_board.specs.Counts.{one_if}
-use Rattle.claim_board.specs.Protocol.{Deed, PassState, BoardState, steps_of, times_placed, Does, Lead, IsInOrder}
+use Rattle.claim_board.specs.Protocol.{Deed, PassState, BoardState, steps_of, times_placed, DeedGives, Lead, IsInOrder}
 use Rattle.claim_board.specs.Boards.{AreBefore}
 use Rattle.claim_board.proofs.Totals.{total_up, all_set, all_at, all_map, at_test}
 
@@ -29,11 +29,11 @@ module _ {A : Type 0} where
 module _ (tasks tries : ℕ) where
   lead_more : (next : ℕ) (words : List ℕ) (es : List Deed) (mid : ℕ) (vs : List ℕ) (e : Deed)
       (m : ℕ) (ws : List ℕ) → Lead tasks tries next words es mid vs
-      → Does tasks tries mid vs e m ws → Lead tasks tries next words (es ++ e ∷ []) m ws
+      → DeedGives tasks tries mid vs e m ws → Lead tasks tries next words (es ++ e ∷ []) m ws
   lead_more next words [] mid vs e m ws h does = (
     m,
     ws,
-    subst (λ (x : ℕ × List ℕ). Does tasks tries x.0 x.1 e m ws) (λ i. (h.0 i, h.1 i)) does,
+    subst (λ (x : ℕ × List ℕ). DeedGives tasks tries x.0 x.1 e m ws) (λ i. (h.0 i, h.1 i)) does,
     (refl, refl),
   )
   lead_more next words (x ∷ es) mid vs e m ws h does =
@@ -42,7 +42,8 @@ module _ (tasks tries : ℕ) where
   -- one deed more, of one pass
   pub order_more : (s : BoardState) (i : ℕ) (p q : PassState) (e : Deed) (m : ℕ) (ws : List ℕ)
       → IsInOrder tasks tries s → get_elem? s.passes i ≡ some p
-      → q.deeds ≡ p.deeds ++ (steps_of s.passes, e) ∷ [] → Does tasks tries s.next s.words e m ws
+      → q.deeds ≡ p.deeds ++ (steps_of s.passes, e) ∷ []
+      → DeedGives tasks tries s.next s.words e m ws
       → IsInOrder tasks tries record { next = m; words = ws; passes = set s.passes i q }
   order_more s i p q e m ws h at grew does =
       let n = steps_of s.passes in

@@ -44,8 +44,8 @@ abbrev pub new_passes : Board → Passes
 new_passes b = record { board = b; members = fresh_passes b b.crew }
 
 -- each pass is the board's
-abbrev pub AreOf : Board → List Pass → Type 0
-AreOf b ps = All (λ p. p.board ≡ b) ps
+abbrev pub AreOfBoard : Board → List Pass → Type 0
+AreOfBoard b ps = All (λ p. p.board ≡ b) ps
 
 abbrev pub states_of : List Pass → List PassState
 states_of ps = map (λ p. p.state) ps

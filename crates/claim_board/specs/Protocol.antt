@@ -158,20 +158,20 @@ module _ (tasks tries : ℕ) where
   Runs old (e ∷ es) new = (mid : BoardState) × Step old e mid × Runs mid es new
 
   -- with the deed the next number and the words become m and ws, and it tells what stood there
-  abbrev pub Does : ℕ → List ℕ → Deed → ℕ → List ℕ → Type 0
-  Does next words (DrewNumber d) m ws = (d ≡ next) × (m ≡ next + 1) × (ws ≡ words)
-  Does next words (SawWord t x) m ws = (x ≡ slice_index words t) × (m ≡ next) × (ws ≡ words)
-  Does next words (WonTask d) m ws =
+  abbrev pub DeedGives : ℕ → List ℕ → Deed → ℕ → List ℕ → Type 0
+  DeedGives next words (DrewNumber d) m ws = (d ≡ next) × (m ≡ next + 1) × (ws ≡ words)
+  DeedGives next words (SawWord t x) m ws = (x ≡ slice_index words t) × (m ≡ next) × (ws ≡ words)
+  DeedGives next words (WonTask d) m ws =
       (slice_index words (task_of tasks d) ≡ 0) × (m ≡ next)
       × (ws ≡ slice_set words (task_of tasks d) (attempt_of tasks d))
-  Does next words (LostTask d x) m ws =
+  DeedGives next words (LostTask d x) m ws =
       (x ≡ slice_index words (task_of tasks d)) × (x ≢ 0) × (m ≡ next) × (ws ≡ words)
 
   -- the deeds, one after the other, lead from there to there
   abbrev pub Lead : ℕ → List ℕ → List Deed → ℕ → List ℕ → Type 0
   Lead next words [] m ws = (m ≡ next) × (ws ≡ words)
   Lead next words (e ∷ es) m ws =
-      (mid : ℕ) × (vs : List ℕ) × Does next words e mid vs × Lead mid vs es m ws
+      (mid : ℕ) × (vs : List ℕ) × DeedGives next words e mid vs × Lead mid vs es m ws
 
   -- the deeds of all passes, each in its place, are one list, which leads from the start to what
   -- stands

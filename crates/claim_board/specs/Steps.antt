@@ -9,16 +9,16 @@ use Rattle.claim_board.specs.Protocol.{PassState, fresh, steps_of, drawn, looked
 use Rattle.claim_board.specs.Seats.{View, limit_at, maker_view, pass_view, spent_view, all_passes, state_of, Rule}
 
 -- a state of the table
-abbrev pub BoardState : Type 0
-BoardState = TableState (Unit {0}) View
+abbrev pub BoardTable : Type 0
+BoardTable = TableState (Unit {0}) View
 
 -- the place of the next step
-abbrev pub next_place : BoardState → ℕ
+abbrev pub next_place : BoardTable → ℕ
 next_place s = steps_of (all_passes s.views)
 
 -- the seat `id`, of the pass p, steps: the words become ws, and p becomes q. That keeps the rule,
 -- and is the protocol's step
-abbrev pub StepsTo : Size → BoardState → ℕ → PassState → List ℕ → PassState → (ℕ → Event) → Type 0
+abbrev pub StepsTo : Size → BoardTable → ℕ → PassState → List ℕ → PassState → (ℕ → Event) → Type 0
 StepsTo k s id p ws q e =
     Rule k record { words = ws; homes = s.homes; views = slice_set s.views id (pass_view k q) }
     × ((j : ℕ) × (get_elem? (all_passes s.views) j ≡ some p)
@@ -26,11 +26,11 @@ StepsTo k s id p ws q e =
     (state_of ws (slice_set s.views id (pass_view k q))))
 
 -- whatever the table is, where the pass may step: the words and the pass after it, and the event
-abbrev pub Moves : (Size → BoardState → PassState → Type 0)
-    → (Size → BoardState → PassState → List ℕ) → (Size → BoardState → PassState → PassState)
+abbrev pub Moves : (Size → BoardTable → PassState → Type 0)
+    → (Size → BoardTable → PassState → List ℕ) → (Size → BoardTable → PassState → PassState)
     → (ℕ → Event) → Type 0
 Moves may words after e =
-    (k : Size) (s : BoardState) (id : ℕ) (p : PassState) → Rule k s
+    (k : Size) (s : BoardTable) (id : ℕ) (p : PassState) → Rule k s
     → get_elem? s.views id ≡ some (pass_view k p) → may k s p
     → StepsTo k s id p (words k s p) (after k s p) e
 

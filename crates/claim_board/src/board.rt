@@ -1,7 +1,7 @@
 // A board, which its workers share.
 ghost use Rattle.std.specs.Prelude.{◌≡◌, ◌≢◌, ◌*◌, ◌^◌, ◌<◌, ◌≤◌, true, false, length, IfOk, IfErr, IfSome, IfNone, IsNone};
 ghost use Rattle.claim_board.specs.Protocol.{IsGood};
-ghost use Rattle.claim_board.specs.Boards.{new_passes, AreOf, IsOpenDraw, Drew, DrewNone, Saw, HasWon, HasLost, KeepsClaims, KeepsOtherClaims};
+ghost use Rattle.claim_board.specs.Boards.{new_passes, AreOfBoard, IsOpenDraw, Drew, DrewNone, Saw, HasWon, HasLost, KeepsClaims, KeepsOtherClaims};
 ghost use Rattle.claim_board.specs.Told.{closing_state, DrawnOnce, WonOnce, SawWinners, LostToWinners, EndedPastLimit};
 
 use crate::draw::{Draw, Lost, Won};
@@ -151,7 +151,7 @@ impl Board {
     /// Ends the board, with all its passes, and tells the winners. It takes no memory.
     pub fn close(self, passes: Passes) -> Tally
         requires board { passes.board ≡ self }
-        requires members { AreOf self passes.members × (length passes.members ≡ self.crew) }
+        requires members { AreOfBoard self passes.members × (length passes.members ≡ self.crew) }
         // what the tally and the passes say together is a good state of the protocol
         ensures good { IsGood self.tasks self.tries (closing_state result passes.members) }
         ensures size { length result.winners ≡ self.tasks }

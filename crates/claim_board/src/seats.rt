@@ -4,7 +4,7 @@ ghost use Rattle.std.specs.Mem.Slots.{slots_items, slots_len, IsFull};
 ghost use Rattle.claim_board.specs.Protocol.{IsGood};
 ghost use Rattle.claim_board.specs.Seats.{maker_view, task_words, words_state};
 ghost use Rattle.claim_board.specs.inner.Seats.{board_of};
-ghost use Rattle.claim_board.specs.Boards.{new_passes, states_of, AreOf};
+ghost use Rattle.claim_board.specs.Boards.{new_passes, states_of, AreOfBoard};
 
 use crate::pass::Pass;
 use crate::passes::Passes;
@@ -48,7 +48,7 @@ fn gather(
         × (0 < words.now.table_id.words) }
     requires view { (maker.me ≡ (maker_view maker.me.0.size maker.me.0.made [], []))
         × (maker.me.0.size ≡ words.now.key) }
-    requires members { AreOf (board_of words.now.table_id words.now.key) members.items }
+    requires members { AreOfBoard (board_of words.now.table_id words.now.key) members.items }
     ensures table { (result.table_id ≡ words.now.table_id) × (result.id ≡ 0) }
     ensures view { result.me
         ≡ (maker_view words.now.key maker.me.0.made (states_of members.items), []) }
@@ -64,7 +64,7 @@ fn gather(
 pub(crate) fn take_back(table: BoardTable, passes: Passes) -> Closed<(), Global>
     requires board { (passes.board ≡ board_of table.shared.table_id table.shared.key)
         × (0 < table.shared.table_id.words) }
-    requires members { AreOf passes.board passes.members
+    requires members { AreOfBoard passes.board passes.members
         × (length passes.members ≡ passes.board.crew) }
     ensures full { IsFull result.words
         × (slots_len result.words ≡ length (slots_items result.words))

@@ -42,7 +42,10 @@ fn ints(alloc: Global, all: &[i64]) -> Result<Items, AllocError>
 fn is_made(alloc: Global, comb: Comb, bag: &Items, wanted: Wanted) -> bool
     requires { All (Suits comb) bag.now }
 {
-    is_wanted(&combine(alloc, comb, bag), wanted)
+    let made = combine(alloc, comb, bag);
+    let is_so = is_wanted(&made, wanted);
+    drop(made);
+    is_so
 }
 
 // Whether a combiner that takes ints makes this of the bag.
@@ -88,7 +91,9 @@ fn is_made_of_none(alloc: Global, comb: Comb, wanted: bool) -> bool {
 // Whether the accumulator of no values is this.
 fn is_zero(alloc: Global, comb: Comb, wanted: Wanted) -> Result<bool, AllocError> {
     let none = zero(alloc, comb)?;
-    Ok(is_value(&none, wanted))
+    let is_so = is_value(&none, wanted);
+    drop(none);
+    Ok(is_so)
 }
 
 static NOTHING: Wanted = Wanted::List(&[]);
@@ -116,11 +121,29 @@ fn merge_sums(alloc: Global, left: Value, right: Value) -> Result<Value, AllocEr
     merge(alloc, Comb::Sum, left, right)
 }
 
+// The accumulator of a sum with an int more.
+fn with_more(alloc: Global, sum: Value, n: i64) -> Result<Value, AllocError>
+    requires { HasShape Comb.Sum sum }
+    ensures { IfOk result (HasShape Comb.Sum) }
+{
+    match lift_sum(alloc, n) {
+        Ok(more) => merge_sums(alloc, sum, more),
+        Err(fault) => {
+            drop(sum);
+            Err(fault)
+        }
+    }
+}
+
 // Whether this comes of three ints, whose accumulators are merged one after another.
 fn is_sum(alloc: Global, a: i64, b: i64, c: i64, wanted: Wanted) -> Result<bool, AllocError> {
-    let two = merge_sums(alloc, lift_sum(alloc, a)?, lift_sum(alloc, b)?)?;
-    let three = merge_sums(alloc, two, lift_sum(alloc, c)?)?;
-    Ok(is_wanted(&finish(Comb::Sum, three), wanted))
+    let one = lift_sum(alloc, a)?;
+    let two = with_more(alloc, one, b)?;
+    let three = with_more(alloc, two, c)?;
+    let made = finish(Comb::Sum, three);
+    let is_so = is_wanted(&made, wanted);
+    drop(made);
+    Ok(is_so)
 }
 
 #[test]

@@ -17,7 +17,9 @@ fn has_parts(pair: &Value, first: i64, second: i64) -> bool
 // Whether the parts of a pair are read as it was made.
 fn is_read(alloc: Global, first: i64, second: i64) -> Result<bool, AllocError> {
     let pair = ints(alloc, first, second)?;
-    Ok(has_parts(&pair, first, second))
+    let is_so = has_parts(&pair, first, second);
+    drop(pair);
+    Ok(is_so)
 }
 
 #[test]

@@ -1,5 +1,5 @@
 // Tables that are grouped and then combined, with their traps.
-ghost use Rattle.std.specs.Prelude.{IfOk};
+ghost use Rattle.std.specs.Prelude.{All, IfOk};
 ghost use Rattle.flume_types.specs.declared.types.Ty.TheVariants as ty;
 ghost use Rattle.flume_types.specs.Tables.{table_of};
 ghost use Rattle.flume_types.specs.Typing.{AllHave};
@@ -11,7 +11,7 @@ use crate::wanted::is_int;
 use bag_groups::pair;
 use bag_steps::group;
 use combine_table::Comb;
-use flume_value::{Kind, Pile, Value, sorted};
+use flume_value::{Items, Kind, Pile, Value, sorted};
 use keyed_steps::{KeyFault, combine_each};
 use std::alloc::{AllocError, Global};
 use std::test::Fail;
@@ -46,10 +46,10 @@ fn are_pairs(pairs: &[Value], wanted: &[(i64, i64)]) -> bool {
 }
 
 // Whether that is what was made.
-fn is_combined(made: &Result<Vec<Value>, KeyFault>, wanted: Combined) -> bool {
+fn is_combined(made: &Result<Items, KeyFault>, wanted: Combined) -> bool {
     match made {
         Ok(pairs) => match wanted {
-            Combined::Pairs(all) => are_pairs(pairs, all),
+            Combined::Pairs(all) => are_pairs(pairs.as_slice(), all),
             Combined::Traps(_, _) => false,
         },
         Err(KeyFault::Trap { kind, key }) => match wanted {
@@ -61,7 +61,7 @@ fn is_combined(made: &Result<Vec<Value>, KeyFault>, wanted: Combined) -> bool {
 }
 
 /// The table grouped, and then combined.
-fn steps(alloc: Global, comb: Comb, pairs: Vec<Value>) -> Result<Vec<Value>, KeyFault>
+fn steps(alloc: Global, comb: Comb, pairs: Vec<Value>) -> Result<Items, KeyFault>
     requires typed { AllHave (table_of ty.Int ty.Int) pairs.items }
     requires takes { TakesType comb ty.Int }
 {
@@ -80,7 +80,10 @@ fn gives(
     requires { TakesType comb ty.Int }
 {
     let pairs = table(alloc, pairs)?;
-    Ok(is_combined(&steps(alloc, comb, pairs), wanted))
+    let made = steps(alloc, comb, pairs);
+    let is_so = is_combined(&made, wanted);
+    drop(made);
+    Ok(is_so)
 }
 
 static SUMS: [(i64, i64); 4] = [(2, 5), (1, i64::MAX), (1, 1), (1, -1)];
@@ -108,12 +111,22 @@ fn key_of_none(alloc: Global, key: i64) -> Result<Value, AllocError>
     pair(alloc, Value::Int(key), Value::List(Pile::new(alloc)))
 }
 
+// Whether that comes of the groups.
+fn combines(alloc: Global, comb: Comb, groups: &[Value], wanted: Combined) -> bool
+    requires { All (IsGroup comb) groups.now }
+{
+    let made = combine_each(alloc, comb, groups);
+    let is_so = is_combined(&made, wanted);
+    drop(made);
+    is_so
+}
+
 // Whether the sum and the least of no values, at the key 7, are so.
 fn none_gives(alloc: Global, sum: Combined, least: Combined) -> Result<bool, AllocError> {
     let mut groups = Vec::new(alloc);
     groups.push(key_of_none(alloc, 7)?)?;
-    let is_sum = is_combined(&combine_each(alloc, Comb::Sum, &groups), sum);
-    let is_least = is_combined(&combine_each(alloc, Comb::Min, &groups), least);
+    let is_sum = combines(alloc, Comb::Sum, &groups, sum);
+    let is_least = combines(alloc, Comb::Min, &groups, least);
     Ok(is_sum && is_least)
 }
 

@@ -169,7 +169,7 @@ fn numbers(settings: &Settings) -> [u32; 4] {
 }
 
 fn is_lost(entry: &Entry, lost: Lost) -> bool {
-    (entry.stage(), entry.phase(), entry.task(), entry.attempt()) == lost
+    (entry.stage, entry.phase, entry.task, entry.attempt) == lost
 }
 
 fn are_lost(entries: &[Entry], attempts: &[Lost]) -> bool {

@@ -2,12 +2,11 @@
 -- `clap`, of a command line that has `run` with a flag, and no file of a plan.
 use Rattle.std.specs.Prelude.{ℕ, List, Option, Some, None, codes, if◌then◌else◌, option_and_then}
 use Rattle.std.specs.Str.{bytes_eq}
-use Rattle.clap.specs.Words.{App, Row, Text, fault_of, first_of, subcommand_of, with_rule, with_subcommand}
-use Rattle.clap.specs.Walk.{is_empty}
+use Rattle.clap.specs.Words.{App, Row, Text, first_of, with_rule, with_subcommand}
 use Rattle.drill_text.specs.Drills.{◌>>=◌}
 use Rattle.run_settings.specs.Settings.{RunSettings}
 use Rattle.command_words.specs.Options.{settings_given}
-use Rattle.command_words.specs.Words.{flag_rule, is_operand, is_set, program_app, settings_app}
+use Rattle.command_words.specs.Words.{asks_by, flag_rule, is_operand, is_set, program_app, settings_app}
 
 -- the command `run` of a cached run, with its flag
 abbrev pub cached_run_app : App
@@ -48,6 +47,4 @@ cached_of met = option_and_then (λ p. cached_at p.0 p.1) met
 
 -- the cached run that the words ask for, where they do
 abbrev pub cached_for : List Text → Option CachedRun
-cached_for words =
-    if is_empty (fault_of cached_app words) then cached_of (subcommand_of cached_app words)
-    else None
+cached_for words = asks_by cached_app cached_of words

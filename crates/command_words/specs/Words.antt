@@ -5,6 +5,7 @@ use Rattle.std.specs.Option.{option_map_or}
 use Rattle.std.specs.Str.{bytes_eq}
 use Rattle.clap.specs.Words.{App, Row, Rule, Shape, Text, fault_of, first_of, new_app, new_rule, subcommand_of, with_rule, with_subcommand}
 use Rattle.clap.specs.Walk.{is_empty}
+use Rattle.clap.specs.declared.builder.action.ArgAction.{ArgAction}
 use Rattle.clap.specs.declared.builder.action.ArgAction.TheVariants.{Set, SetTrue}
 use Rattle.drill_text.specs.Drills.{◌>>=◌}
 use Rattle.drill_text.specs.Numbers.{number_in}
@@ -26,9 +27,13 @@ operand_rule name = record (new_rule name) { required = true; action = Some Set 
 abbrev pub script_rule : Rule
 script_rule = operand_rule (codes "script")
 
--- a flag, under the name that it has as a word
+-- what is set so by the name that it has as a word
+abbrev pub named_rule : ArgAction → Text → Rule
+named_rule action name = record (new_rule name) { long = Some name; action = Some action }
+
+-- a flag
 abbrev pub flag_rule : Text → Rule
-flag_rule name = record (new_rule name) { long = Some name; action = Some SetTrue }
+flag_rule name = named_rule SetTrue name
 
 -- a command that takes a script
 abbrev pub script_app : Text → App
@@ -40,9 +45,9 @@ plan_app =
     with_rule (with_rule (script_app (codes "plan")) (flag_rule (codes "json")))
     (flag_rule (codes "rewrites"))
 
--- an option with a value, under the name that it has as a word
+-- an option with a value
 abbrev pub option_rule : Text → Rule
-option_rule name = record (new_rule name) { long = Some name; action = Some Set }
+option_rule name = named_rule Set name
 
 -- the command `run`, with the options that say how it is carried out
 abbrev pub settings_app : App
@@ -100,6 +105,13 @@ abbrev pub is_operand : List ℕ → Bool
 is_operand [] = false
 is_operand (first ∷ rest) = not (first == dash)
 
+-- what words ask a command line for, by what is read of the command that is met and of its matches:
+-- nothing where `clap` refuses them
+abbrev pub asks_by : {A : Type 0} → App → (Option (Text × List Row) → Option A) → List Text
+    → Option A
+asks_by app read words =
+    if is_empty (fault_of app words) then read (subcommand_of app words) else None
+
 -- ---- a made workload
 
 -- the most that either of its numbers may be
@@ -133,9 +145,7 @@ workload_of met = option_and_then (λ p. workload_at p.0 p.1) met
 
 -- the workload that the words ask for, where they do
 abbrev pub workload_for : List Text → Option Workload
-workload_for words =
-    if is_empty (fault_of flume_app words) then workload_of (subcommand_of flume_app words)
-    else None
+workload_for words = asks_by flume_app workload_of words
 
 -- ---- a command on a script
 
@@ -205,5 +215,4 @@ asked_of met = option_and_then (λ p. asked_at p.0 p.1) met
 
 -- what the words ask for: nothing where `clap` refuses them, and else what their matches say
 abbrev pub asked_for : List Text → Option Asked
-asked_for words =
-    if is_empty (fault_of flume_app words) then asked_of (subcommand_of flume_app words) else None
+asked_for words = asks_by flume_app asked_of words

@@ -28,8 +28,12 @@ pub fn cached_for(alloc: Global, words: &[String]) -> Result<Option<CachedRun<'_
         ≡ spec.cached_for (map string_bytes words.now)) }
 {
     match cached_line(alloc)?.try_get_matches_from(words) {
-        Ok(matches) => cached_of(alloc, &matches),
-        Err(error) => refused(error.kind()),
+        Ok(matches) => {
+            let run = cached_of(alloc, &matches);
+            drop(matches);
+            run
+        }
+        Err(error) => refused(error),
     }
 }
 
@@ -41,21 +45,9 @@ fn cached_of<'a>(
     ensures { IfOk result (λ run. option_map cached_in run
         ≡ spec.cached_of (subcommand_rows_of matches.now)) }
 {
-    match matches.subcommand() {
-        Some((name, found)) => cached_at(alloc, name, found),
-        None => Ok(None),
-    }
-}
-
-// What a command that was met asks for.
-fn cached_at<'a>(
-    alloc: Global,
-    name: &str,
-    found: &ArgMatches<'a>,
-) -> Result<Option<CachedRun<'a>>, AllocError>
-    ensures { IfOk result (λ run. option_map cached_in run
-        ≡ spec.cached_at name.now (rows_of (found_of found.now))) }
-{
+    let Some((name, found)) = matches.subcommand() else {
+        return Ok(None);
+    };
     match name {
         "run" => cached_by(alloc, found),
         _ => Ok(None),

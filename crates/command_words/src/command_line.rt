@@ -1,6 +1,6 @@
 // The commands of the program, as `clap` is told of them.
-ghost use Rattle.std.specs.Prelude.{◌≡◌, IfOk, false};
-ghost use Rattle.clap.specs.Words.{app_of, rule_of};
+ghost use Rattle.std.specs.Prelude.{◌≡◌, IfOk, IsOkAnd, false};
+ghost use Rattle.clap.specs.Words.{app_of, rule_of, with_subcommand};
 ghost use Rattle.clap.specs.declared.builder.command.Command.TheViews.{out-Command};
 ghost use Rattle.command_words.specs.Cached as cached;
 ghost use Rattle.command_words.specs.Words as spec;
@@ -12,24 +12,36 @@ use std::alloc::{AllocError, Global};
 pub fn command_line<'a>(alloc: Global) -> Result<Command<'a>, AllocError>
     ensures { IfOk result (λ line. app_of line ≡ spec.flume_app) }
 {
-    let check = script_command(alloc, "check")?;
-    let plan = plan_command(alloc)?;
-    let direct = script_command(alloc, "direct")?;
-    let run = run_command(alloc)?;
-    let make = make_command(alloc)?;
-    program(alloc)
-        .subcommand(check)?
-        .subcommand(plan)?
-        .subcommand(direct)?
-        .subcommand(run)?
-        .subcommand(make)
+    let one = extended(program(alloc), script_command(alloc, "check"))?;
+    let two = extended(one, plan_command(alloc))?;
+    let three = extended(two, script_command(alloc, "direct"))?;
+    let four = extended(three, run_command(alloc))?;
+    extended(four, make_command(alloc))
+}
+
+// A command line with one command more, where memory was found for that.
+fn extended<'a>(
+    line: Command<'a>,
+    command: Result<Command<'a>, AllocError>,
+) -> Result<Command<'a>, AllocError>
+    requires { IfOk command (λ one. (out-Command one).has_globals ≡ false) }
+    ensures { IfOk result (λ longer. IsOkAnd command.entry (λ one.
+        app_of longer ≡ with_subcommand (app_of line.entry) (app_of one).top)) }
+{
+    match command {
+        Ok(command) => line.subcommand(command),
+        Err(e) => {
+            drop(line);
+            Err(e)
+        }
+    }
 }
 
 // The program with the one command that takes the flag of cached runs.
 pub fn cached_line<'a>(alloc: Global) -> Result<Command<'a>, AllocError>
     ensures { IfOk result (λ line. app_of line ≡ cached.cached_app) }
 {
-    let run = cached_command(alloc)?;
+    let run = settings_command(alloc)?.arg(named(alloc, "cached", ArgAction::SetTrue))?;
     program(alloc).subcommand(run)
 }
 
@@ -49,16 +61,16 @@ fn plan_command<'a>(alloc: Global) -> Result<Command<'a>, AllocError>
     ensures local { IfOk result (λ command. (out-Command command).has_globals ≡ false) }
 {
     script_command(alloc, "plan")?
-        .arg(flag(alloc, "json"))?
-        .arg(flag(alloc, "rewrites"))
+        .arg(named(alloc, "json", ArgAction::SetTrue))?
+        .arg(named(alloc, "rewrites", ArgAction::SetTrue))
 }
 
-// A flag, under the name that it has as a word.
-fn flag<'a>(alloc: Global, name: &'a str) -> Arg<'a>
-    ensures rule { rule_of result ≡ spec.flag_rule name.entry.now }
+// A flag, or an option with a value, under the name that it has as a word.
+fn named<'a>(alloc: Global, name: &'a str, action: ArgAction) -> Arg<'a>
+    ensures rule { rule_of result ≡ spec.named_rule action name.entry.now }
     ensures local { result.global ≡ false }
 {
-    Arg::new(alloc, name).long(name).action(ArgAction::SetTrue)
+    Arg::new(alloc, name).long(name).action(action)
 }
 
 // The command `run`, with its options.
@@ -66,15 +78,7 @@ fn run_command<'a>(alloc: Global) -> Result<Command<'a>, AllocError>
     ensures app { IfOk result (λ command. app_of command ≡ spec.run_app) }
     ensures local { IfOk result (λ command. (out-Command command).has_globals ≡ false) }
 {
-    settings_command(alloc)?.arg(option(alloc, "plan"))
-}
-
-// The command `run` of a cached run, with its flag.
-fn cached_command<'a>(alloc: Global) -> Result<Command<'a>, AllocError>
-    ensures app { IfOk result (λ command. app_of command ≡ cached.cached_run_app) }
-    ensures local { IfOk result (λ command. (out-Command command).has_globals ≡ false) }
-{
-    settings_command(alloc)?.arg(flag(alloc, "cached"))
+    settings_command(alloc)?.arg(named(alloc, "plan", ArgAction::Set))
 }
 
 // The command `run`, with the options that say how it is carried out.
@@ -83,19 +87,11 @@ fn settings_command<'a>(alloc: Global) -> Result<Command<'a>, AllocError>
     ensures local { IfOk result (λ command. (out-Command command).has_globals ≡ false) }
 {
     script_command(alloc, "run")?
-        .arg(option(alloc, "workers"))?
-        .arg(option(alloc, "shards"))?
-        .arg(option(alloc, "partitions"))?
-        .arg(option(alloc, "tries"))?
-        .arg(option(alloc, "fail"))
-}
-
-// An option with a value, under the name that it has as a word.
-fn option<'a>(alloc: Global, name: &'a str) -> Arg<'a>
-    ensures rule { rule_of result ≡ spec.option_rule name.entry.now }
-    ensures local { result.global ≡ false }
-{
-    Arg::new(alloc, name).long(name).action(ArgAction::Set)
+        .arg(named(alloc, "workers", ArgAction::Set))?
+        .arg(named(alloc, "shards", ArgAction::Set))?
+        .arg(named(alloc, "partitions", ArgAction::Set))?
+        .arg(named(alloc, "tries", ArgAction::Set))?
+        .arg(named(alloc, "fail", ArgAction::Set))
 }
 
 // A command that takes a script.

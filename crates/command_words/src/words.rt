@@ -1,15 +1,15 @@
 // The words of a command line, and the command and the script that they ask for.
 ghost use Rattle.std.specs.Prelude.{◌≡◌, IfOk, IsErr, None, map, string_bytes};
 ghost use Rattle.std.specs.Option.{option_map};
-ghost use Rattle.clap.specs.Words.{found_of, rows_of, subcommand_rows_of};
+ghost use Rattle.clap.specs.Words.{found_of, kind_of, rows_of, subcommand_rows_of};
 ghost use Rattle.command_words.specs.Held.{asked_in};
 ghost use Rattle.command_words.specs.Words as spec;
 
 use crate::command_line::command_line;
 use crate::matches::text_of;
 use crate::options::settings_given;
-use clap::ArgMatches;
 use clap::error::ErrorKind;
+use clap::{ArgMatches, Error};
 use outside::FileName;
 use run_settings::Settings;
 use std::alloc::{AllocError, Global};
@@ -54,16 +54,22 @@ pub fn asked_for(alloc: Global, words: &[String]) -> Result<Option<Asked<'_>>, A
         ≡ spec.asked_for (map string_bytes words.now)) }
 {
     match command_line(alloc)?.try_get_matches_from(words) {
-        Ok(matches) => asked_of(alloc, &matches),
-        Err(error) => refused(error.kind()),
+        Ok(matches) => {
+            let asked = asked_of(alloc, &matches);
+            drop(matches);
+            asked
+        }
+        Err(error) => refused(error),
     }
 }
 
 // Words that are refused ask for nothing, but where it was memory that was wanting.
-pub(crate) fn refused<T>(kind: ErrorKind) -> Result<Option<T>, AllocError>
+pub(crate) fn refused<T>(error: Error) -> Result<Option<T>, AllocError>
     ensures nothing { IfOk result (λ asked. asked ≡ None) }
-    ensures memory { kind ≡ ErrorKind.OutOfMemory → IsErr result }
+    ensures memory { kind_of error ≡ ErrorKind.OutOfMemory → IsErr result }
 {
+    let kind = error.kind();
+    drop(error);
     match kind {
         ErrorKind::OutOfMemory => Err(AllocError),
         _ => Ok(None),
@@ -75,21 +81,9 @@ fn asked_of<'a>(alloc: Global, matches: &ArgMatches<'a>) -> Result<Option<Asked<
     ensures { IfOk result (λ asked. option_map asked_in asked
         ≡ spec.asked_of (subcommand_rows_of matches.now)) }
 {
-    match matches.subcommand() {
-        Some((name, found)) => asked_at(alloc, name, found),
-        None => Ok(None),
-    }
-}
-
-// What a command that was met asks for.
-fn asked_at<'a>(
-    alloc: Global,
-    name: &str,
-    found: &ArgMatches<'a>,
-) -> Result<Option<Asked<'a>>, AllocError>
-    ensures { IfOk result (λ asked. option_map asked_in asked
-        ≡ spec.asked_at name.now (rows_of (found_of found.now))) }
-{
+    let Some((name, found)) = matches.subcommand() else {
+        return Ok(None);
+    };
     match command_of(alloc, name, found)? {
         Some(command) => Ok(asking(command, text_of(found, "script"))),
         None => Ok(None),
@@ -103,7 +97,10 @@ fn asking<'a>(command: Command, word: Option<&'a str>) -> Option<Asked<'a>>
 {
     match word {
         Some(script) if is_operand(script) => Some(Asked { command, script }),
-        _ => None,
+        _ => {
+            drop(command);
+            None
+        }
     }
 }
 
@@ -130,17 +127,26 @@ fn run_given(alloc: Global, found: &ArgMatches<'_>) -> Result<Option<Command>, A
     ensures { IfOk result (λ command. command ≡ spec.run_of (rows_of (found_of found.now))) }
 {
     let from = plan_given(alloc, text_of(found, "plan"))?;
-    let settings = settings_given(alloc, found)?;
-    Ok(run_with(settings, from))
+    match settings_given(alloc, found) {
+        Ok(settings) => Ok(run_with(settings, from)),
+        Err(e) => {
+            drop(from);
+            Err(e)
+        }
+    }
 }
 
 // A run by settings, of the plan of a file or of the script's own.
 fn run_with(settings: Option<Settings>, from: Option<Option<FileName>>) -> Option<Command>
     ensures { result ≡ spec.run_with settings from }
 {
-    let settings = settings?;
-    let from = from?;
-    Some(Command::Run(settings, from))
+    match settings {
+        Some(settings) => Some(Command::Run(settings, from?)),
+        None => {
+            drop(from);
+            None
+        }
+    }
 }
 
 // The file of the plan that the option's text names, or none where the option is not there.

@@ -2,7 +2,7 @@
 ghost use Rattle.std.specs.Prelude.{◌≡◌, ◌≤◌, IfOk, IfSome, map, option_and_then, string_bytes};
 ghost use Rattle.std.specs.Option.{option_map};
 ghost use Rattle.clap.specs.Words.{found_of, rows_of, subcommand_rows_of};
-ghost use Rattle.command_words.specs.Workloads.{IsWithin};
+ghost use Rattle.command_words.specs.Workloads.{IsWithinLimits};
 ghost use Rattle.command_words.specs.Words as spec;
 
 use crate::command_line::command_line;
@@ -27,18 +27,22 @@ pub struct Workload {
 /// where no memory is left.
 pub fn workload_for(alloc: Global, words: &[String]) -> Result<Option<Workload>, AllocError>
     ensures value { IfOk result (λ made. made ≡ spec.workload_for (map string_bytes words.now)) }
-    ensures within { IfOk result (λ made. IfSome made IsWithin) }
+    ensures within { IfOk result (λ made. IfSome made IsWithinLimits) }
 {
     match command_line(alloc)?.try_get_matches_from(words) {
-        Ok(matches) => Ok(workload_of(&matches)),
-        Err(error) => refused(error.kind()),
+        Ok(matches) => {
+            let made = workload_of(&matches);
+            drop(matches);
+            Ok(made)
+        }
+        Err(error) => refused(error),
     }
 }
 
 // What the matches of the command line ask for.
 fn workload_of(matches: &ArgMatches<'_>) -> Option<Workload>
     ensures value { result ≡ spec.workload_of (subcommand_rows_of matches.now) }
-    ensures within { IfSome result IsWithin }
+    ensures within { IfSome result IsWithinLimits }
 {
     match matches.subcommand() {
         Some((name, found)) => workload_at(name, found),
@@ -49,7 +53,7 @@ fn workload_of(matches: &ArgMatches<'_>) -> Option<Workload>
 // What a command that was met asks for.
 fn workload_at(name: &str, found: &ArgMatches<'_>) -> Option<Workload>
     ensures value { result ≡ spec.workload_at name.now (rows_of (found_of found.now)) }
-    ensures within { IfSome result IsWithin }
+    ensures within { IfSome result IsWithinLimits }
 {
     match name {
         "make" => workload_in(text_of(found, "start"), text_of(found, "rows")),
@@ -61,7 +65,7 @@ fn workload_at(name: &str, found: &ArgMatches<'_>) -> Option<Workload>
 fn workload_in(start: Option<&str>, rows: Option<&str>) -> Option<Workload>
     ensures value { result ≡ spec.workload_in (option_map (λ text. text.now) start.entry)
         (option_map (λ text. text.now) rows.entry) }
-    ensures within { IfSome result IsWithin }
+    ensures within { IfSome result IsWithinLimits }
 {
     let start = count_in(start)?;
     let rows = count_in(rows)?;

@@ -5,7 +5,7 @@ use Rattle.outside.specs.declared.host.At.{At}
 use Rattle.outside.specs.Cause.{RoseBy}
 use Rattle.crew.specs.declared.drill.Entry.{Entry}
 use Rattle.outside.specs.Accounts.{Account, Gains}
-use Rattle.crew.specs.Hosts.{Grew, Passed, Refused, at_place}
+use Rattle.crew.specs.Hosts.{Grew, Passed, RefusedPlace, at_place}
 
 -- counts that rise one after the other
 pub rises : (a b c m n : ℕ) → a ≤ b → b ≤ c → RoseBy m a b → RoseBy n b c → RoseBy (m + n) a c
@@ -59,8 +59,8 @@ passed_before a b c xs h k g t =
           ∙ ap (λ (l : List At). a.passed ++ l) (sym (append_assoc ps y.0 (xs ++ y.1))))),
     )
 
-pub refused_before : (a b c : Account) (e : Entry) → Grew a b → Refused b c e → Grew b c
-    → Refused a c e
+pub refused_before : (a b c : Account) (e : Entry) → Grew a b → RefusedPlace b c e → Grew b c
+    → RefusedPlace a c e
 refused_before a b c e h k g t =
     let ds = h.1 in
     let y = k t in let x = h.2.told (g.2.told t).0 in

@@ -11,7 +11,7 @@ use Rattle.outside.specs.declared.host.At.{At}
 use Rattle.claim_board.specs.Counts.{times}
 use Rattle.claim_board.specs.Protocol.{PassState, fresh, limit}
 use Rattle.outside.specs.Accounts.{Account}
-use Rattle.crew.specs.Hosts.{HaveRisen, Refused, SomeHost, at_place}
+use Rattle.crew.specs.Hosts.{HaveRisen, RefusedPlace, SomeHost, at_place}
 use Rattle.crew.specs.Drills.{Settings}
 use Rattle.crew.specs.Work.{Turn, Worker, IsAsked, Cause, TookTurns, HaveWorked, all_downs, look_of, drawn_attempt}
 use Rattle.crew.specs.Work.{Cause as cause}
@@ -162,9 +162,9 @@ module _ (tasks : ℕ) (s : Settings) (places : ℕ → ℕ) where
   -- where its host tells, it has refused a place of each down
   pub downs_told : (p q : PassState) (a b : Account) (ts : List Turn)
       → TookTurns tasks s places p q a b ts
-      → All (λ d. Refused a b (drawn_attempt tasks s d)) (downed ts)
+      → All (λ d. RefusedPlace a b (drawn_attempt tasks s d)) (downed ts)
   downs_told p q a b ts w =
-      All-weaker (StandsIn (all_downs ts)) (λ d. Refused a b (drawn_attempt tasks s d))
+      All-weaker (StandsIn (all_downs ts)) (λ d. RefusedPlace a b (drawn_attempt tasks s d))
       (λ d k t. (
         k.0,
         k.1,
@@ -204,7 +204,7 @@ rise_both us vs xs ys m n h k =
 
 module _ (tasks : ℕ) (s : Settings) where
   abbrev Fell : List Account → List Account → ℕ → Type 0
-  Fell us vs d = SomeHost (λ a b. Refused a b (drawn_attempt tasks s d)) us vs
+  Fell us vs d = SomeHost (λ a b. RefusedPlace a b (drawn_attempt tasks s d)) us vs
 
   abbrev HaveFate : List ℕ → PassState → Type 0
   HaveFate downs p = All (λ d. d < limit tasks s.tries → Fate tasks s downs p d) p.draws
@@ -233,11 +233,12 @@ module _ (tasks : ℕ) (s : Settings) where
             (rise_both us vs xs ys (length h.downs) (length k.downs) h.risen k.risen);
         told = All-append (Fell (us ++ xs) (vs ++ ys)) h.downs k.downs
             (All-weaker (Fell us vs) (Fell (us ++ xs) (vs ++ ys))
-            (λ d t. some_host_left (λ a b. Refused a b (drawn_attempt tasks s d)) us vs xs ys t)
+            (λ d t.
+            some_host_left (λ a b. RefusedPlace a b (drawn_attempt tasks s d)) us vs xs ys t)
             h.downs h.told)
             (All-weaker (Fell xs ys) (Fell (us ++ xs) (vs ++ ys))
-            (λ d t. some_host_right (λ a b. Refused a b (drawn_attempt tasks s d)) us vs xs ys len
-            t)
+            (λ d t.
+            some_host_right (λ a b. RefusedPlace a b (drawn_attempt tasks s d)) us vs xs ys len t)
             k.downs k.told);
       }
 
@@ -262,7 +263,7 @@ module _ (tasks : ℕ) (s : Settings) (places : ℕ → ℕ) where
         risen = rise_one a b (length downs)
             (subst (λ (n : ℕ). RoseBy n a.losses b.losses) (sym (length_downed w.turns))
             took.lost);
-        told = All-weaker (λ d. Refused a b (drawn_attempt tasks s d))
+        told = All-weaker (λ d. RefusedPlace a b (drawn_attempt tasks s d))
             (Fell tasks s (a ∷ []) (b ∷ [])) (λ d t. inl t) downs
             (downs_told tasks s places old w.pass a b w.turns took);
       }

@@ -1,6 +1,6 @@
 -- What one worker has done, and what two groups of workers have.
 use Rattle.std.proofs.Common.{◌≡◌, ℕ, true, inl, List, [], ◌∷◌, ◌++◌, get_or, set, length, map, append-nil, append_assoc, refl, sym, ap, ◌∙◌, subst, arith}
-use Rattle.std.specs.Prelude.{All, Result, Ok, Err, IfOk, OnOk}
+use Rattle.std.specs.Prelude.{All, Result, Ok, Err, IfOk, IsOkAnd, OnOk}
 use Rattle.std.specs.List.{AllZip}
 use Rattle.std.proofs.lemmas.List.{map-append}
 use Rattle.std.proofs.lemmas.List.Elements.{All-nil, All-cons, All-head, All-append, All-weaker, length_all_zip}
@@ -126,6 +126,20 @@ module _ (tasks : ℕ) (s : Settings) {O : Type 0} (is_value : ℕ → O → Typ
         ended = All-append (λ (p : Pass). p.state.ended ≡ true) ps qs h.ended k.ended;
         worked = worked_both tasks s places ps qs us vs xs ys h.worked k.worked;
       }
+
+  -- where both keep their outs
+  pub phased_kept : {E : Type 0} (first last all : Result (List (KeptOut O)) E) (ps qs : List Pass)
+      (us vs xs ys : List Account) → AllZip Grew us vs
+      → IfOk first (Phased tasks s is_value places ps us vs)
+      → IfOk last (Phased tasks s is_value places qs xs ys)
+      → IfOk all (λ ks. IsOkAnd first (λ one. IsOkAnd last (λ other. ks ≡ one ++ other)))
+      → IfOk all (Phased tasks s is_value places (ps ++ qs) (us ++ xs) (vs ++ ys))
+  phased_kept (Ok one) (Ok other) (Ok ks) ps qs us vs xs ys grew h k is =
+      subst (Phased tasks s is_value places (ps ++ qs) (us ++ xs) (vs ++ ys)) (sym is)
+      (phased_both ps qs us vs xs ys one other grew h k)
+  phased_kept (Ok one) (Err e) (Ok ks) ps qs us vs xs ys grew h k is = absurd is
+  phased_kept (Err e) last (Ok ks) ps qs us vs xs ys grew h k is = absurd is
+  phased_kept first last (Err e) ps qs us vs xs ys grew h k is = tt
 
   -- one worker, with a fresh pass
   pub phased_one : (old : PassState) (q : Pass) (a b : Account) (ks : List (KeptOut O))

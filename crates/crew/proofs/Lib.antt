@@ -7,5 +7,6 @@ pub mod Joining
 pub mod Fronts
 pub mod InOrder
 pub mod Counting
+pub mod Closing
 pub mod Ending
 pub mod Asking

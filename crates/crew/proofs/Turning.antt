@@ -15,7 +15,7 @@ use Rattle.crew.specs.Hosts.{at_place, places_below}
 use Rattle.crew.specs.Drills.{Settings, attempt_in, is_drilled}
 use Rattle.crew.specs.Attempts.{Ran, StoppedDown, StoppedEarly}
 use Rattle.crew.specs.Outs.{IsOut, RanOn}
-use Rattle.crew.specs.Work.{Turn, HasDone, IsAsked, IsCommitted, IsMade, drawn_attempt}
+use Rattle.crew.specs.Work.{Turn, HasDone, IsAsked, IsCommitted, WasMade, drawn_attempt}
 use Rattle.crew.specs.Work.Cause.{Won, Lost, Taken, Drilled, WentDown}
 use Rattle.crew.specs.inner.Turns.{TookTurn, TookOne, Turned}
 use Rattle.crew.proofs.Accounts.{gains_nothing}
@@ -87,7 +87,7 @@ module _ (tasks : ℕ) (s : Settings) (places : ℕ → ℕ) where
     commit = commit;
   }
 
-  made : (d : ℕ) (commit : List Deed) → IsMade tasks s places (made_turn d commit)
+  made : (d : ℕ) (commit : List Deed) → WasMade tasks s places (made_turn d commit)
   made d commit = record { free = refl; passed = refl; downs = refl }
 
   -- the drill does not name it

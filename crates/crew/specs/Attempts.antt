@@ -12,9 +12,9 @@ MatchAttempt (Made out) P Q = P
 MatchAttempt Down P Q = Q
 
 -- the out that was made, where one was, has P
-abbrev pub IsMadeOf : {O : Type 0} → (O → Type 0) → Attempt O → Type 0
-IsMadeOf P (Made out) = P out
-IsMadeOf P Down = ⊤
+abbrev pub MadeHas : {O : Type 0} → (O → Type 0) → Attempt O → Type 0
+MadeHas P (Made out) = P out
+MadeHas P Down = ⊤
 
 -- the host has let all places through, in order
 abbrev pub Ran : Entry → ℕ → Account → Account → Type 0

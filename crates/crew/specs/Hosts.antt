@@ -29,8 +29,8 @@ places_below e zero = []
 places_below e (suc n) = places_below e n ++ at_place e n ∷ []
 
 -- where the host tells, it has refused a place of the attempt since
-abbrev pub Refused : Account → Account → Entry → Type 0
-Refused a b e =
+abbrev pub RefusedPlace : Account → Account → Entry → Type 0
+RefusedPlace a b e =
     b.tells ≡ true → (before : List At) × (after : List At) × (place : ℕ)
     × (b.downs ≡ a.downs ++ (before ++ (at_place e place ∷ after)))
 

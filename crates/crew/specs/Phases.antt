@@ -8,7 +8,7 @@ use Rattle.crew.specs.declared.kept.KeptOut.{KeptOut}
 use Rattle.crew.specs.declared.phase.PhaseFault.{PhaseFault}
 use Rattle.crew.specs.declared.phase.PhaseFault.TheVariants.{GaveUp, Memory}
 use Rattle.outside.specs.Accounts.{Account, Gains}
-use Rattle.crew.specs.Hosts.{HaveRisen, Refused, SomeHost}
+use Rattle.crew.specs.Hosts.{HaveRisen, RefusedPlace, SomeHost}
 use Rattle.crew.specs.Drills.{Settings, attempt_in, names, is_drilled, drilled_tries}
 use Rattle.crew.specs.Outs.{IsOut, RanOn}
 use Rattle.crew.specs.Work.{Worker, AreWorkers, CameFar, HaveWorked}
@@ -76,7 +76,7 @@ module _ (tasks : ℕ) (s : Settings) where
     pub counted : s.tries ≤ drilled_tries s task + losses
     pub told : (attempt : ℕ) → 0 < attempt → attempt ≤ s.tries →
         (is_drilled s.drill (attempt_in s task attempt) ≡ true)
-        ⊎ SomeHost (λ a b. Refused a b (attempt_in s task attempt)) olds news
+        ⊎ SomeHost (λ a b. RefusedPlace a b (attempt_in s task attempt)) olds news
 
   -- for each task some try is neither in the drill nor accounted for by the losses of the hosts
   abbrev pub CanFinish : List Account → List Account → Type 0
@@ -101,7 +101,7 @@ module _ (tasks : ℕ) (s : Settings) where
   module _ {O : Type 0} (is_value : ℕ → O → Type 0) (places : ℕ → ℕ) where
     -- the outs of the first n tasks, in order: each was made by the attempt that the board names as
     -- the winner, all of whose places some host has let through
-    pub record AreOuts (olds news : List Account) (board : BoardState) (n : ℕ)
+    pub record AreWinnersOuts (olds news : List Account) (board : BoardState) (n : ℕ)
         (ks : List (KeptOut O))
         : Type 0 where
       pub count : length ks ≡ n
@@ -114,7 +114,7 @@ module _ (tasks : ℕ) (s : Settings) where
     pub record Settled (olds news : List Account) (ks : List (KeptOut O)) : Type 0 where
       pub board : BoardState
       pub closed : IsClosed (length olds) board
-      pub outs : AreOuts olds news board tasks ks
+      pub outs : AreWinnersOuts olds news board tasks ks
       pub worked : HaveWorked tasks s places board.passes olds news
 
     -- the task is the least without a winner; each smaller one has an out
@@ -126,7 +126,7 @@ module _ (tasks : ℕ) (s : Settings) where
       pub none : word board task ≡ 0
       pub least : (t : ℕ) → t < task → word board t ≢ 0
       pub lost : IsLostTask olds news task
-      pub below : AreOuts olds news board task ks
+      pub below : AreWinnersOuts olds news board task ks
       pub worked : HaveWorked tasks s places board.passes olds news
 
     abbrev pub IsPhaseFault : List Account → List Account → PhaseFault O → Type 0

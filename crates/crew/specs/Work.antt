@@ -74,7 +74,7 @@ module _ (tasks : ℕ) (s : Settings) where
       pub taken : t.word ≢ 0 → (t.passed ≡ []) × (t.downs ≡ [])
 
     -- the attempt was made: the look showed no winner, and the host let all its places through
-    pub record IsMade (t : Turn) : Type 0 where
+    pub record WasMade (t : Turn) : Type 0 where
       pub free : t.word ≡ 0
       pub passed :
           t.passed ≡ places_below (drawn_attempt t.draw) (places (task_of tasks t.draw) + 1)
@@ -90,7 +90,7 @@ module _ (tasks : ℕ) (s : Settings) where
 
     -- the attempt was made, the drill does not name it, and its commit came to this
     pub record IsCommitted (t : Turn) (came : Deed) : Type 0 where
-      pub made : IsMade t
+      pub made : WasMade t
       pub drill : is_drilled s.drill (drawn_attempt t.draw) ≡ false
       pub commit : t.commit ≡ came ∷ []
 
@@ -102,7 +102,7 @@ module _ (tasks : ℕ) (s : Settings) where
       Won : IsCommitted t (WonTask t.draw) → 0 < times t.draw p.won → Cause p t
       Lost : (x : ℕ) → IsCommitted t (LostTask t.draw x) → 0 < times_first t.draw p.lost
           → Cause p t
-      Drilled : IsMade t → is_drilled s.drill (drawn_attempt t.draw) ≡ true → t.commit ≡ []
+      Drilled : WasMade t → is_drilled s.drill (drawn_attempt t.draw) ≡ true → t.commit ≡ []
           → Cause p t
       WentDown : IsDown t → t.commit ≡ [] → Cause p t
 

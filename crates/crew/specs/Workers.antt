@@ -1,7 +1,7 @@
 -- What the workers of a phase do, side by side, each with a pass of one board and a host.
 use Rattle.std.specs.Prelude.{◌≡◌, ℕ, ◌<◌, true, List, [], ◌∷◌, ◌++◌, length, map, All}
 use Rattle.claim_board.specs.Protocol.{PassState}
-use Rattle.claim_board.specs.Boards.{Board, Pass, AreOf, states_of}
+use Rattle.claim_board.specs.Boards.{Board, Pass, AreOfBoard, states_of}
 use Rattle.crew.specs.declared.kept.KeptOut.{KeptOut}
 use Rattle.outside.specs.Accounts.{Account}
 use Rattle.crew.specs.Hosts.{SomeHost}
@@ -19,7 +19,7 @@ pub record IsFresh (p : PassState) : Type 0 where
 -- the passes are the board's, have done nothing, and are as many as the hosts; the board is for so
 -- many tasks, with so many tries
 pub record CanStart (b : Board) (count most hosts : ℕ) (ps : List Pass) : Type 0 where
-  pub board : AreOf b ps
+  pub board : AreOfBoard b ps
   pub fresh : All (λ p. IsFresh p.state) ps
   pub passes : (hosts ≡ length ps) × (0 < length ps)
   pub tasks : (b.tasks ≡ count) × (0 < count)

@@ -9,10 +9,14 @@ use std::marker::Model;
 /// An attempt of a task of a phase of a stage.
 #[derive(Clone, Copy)]
 pub struct Entry {
-    stage: u32,
-    phase: Phase,
-    task: u32,
-    attempt: u32,
+    /// The stage, counted from 1 in the order of the plan.
+    pub stage: u32,
+    /// The phase of the stage.
+    pub phase: Phase,
+    /// The task of the phase, counted from 0.
+    pub task: u32,
+    /// The attempt of the task, counted from 1.
+    pub attempt: u32,
 }
 
 impl Entry {
@@ -28,34 +32,6 @@ impl Entry {
             task,
             attempt,
         }
-    }
-
-    /// The stage, counted from 1 in the order of the plan.
-    pub fn stage(&self) -> u32
-        ensures { result ≡ self.now.stage }
-    {
-        self.stage
-    }
-
-    /// The phase of the stage.
-    pub fn phase(&self) -> Phase
-        ensures { result ≡ self.now.phase }
-    {
-        self.phase
-    }
-
-    /// The task of the phase, counted from 0.
-    pub fn task(&self) -> u32
-        ensures { result ≡ self.now.task }
-    {
-        self.task
-    }
-
-    /// The attempt of the task, counted from 1.
-    pub fn attempt(&self) -> u32
-        ensures { result ≡ self.now.attempt }
-    {
-        self.attempt
     }
 }
 

@@ -1,8 +1,8 @@
 // Several workers, forked and joined over halves.
-ghost use Rattle.std.specs.Prelude.{◌≡◌, ◌++◌, length, map, IfOk};
+ghost use Rattle.std.specs.Prelude.{◌≡◌, ◌++◌, length, map, IfOk, IsOkAnd};
 ghost use Rattle.std.specs.List.{AllZip};
 ghost use Rattle.std.specs.Thread.{IsSync, IsSend};
-ghost use Rattle.claim_board.specs.Boards.{AreOf};
+ghost use Rattle.claim_board.specs.Boards.{AreOfBoard};
 ghost use Rattle.crew.specs.Hosts.{Grew};
 ghost use Rattle.crew.specs.Workers.{CanStart, AllTook, Phased};
 
@@ -33,7 +33,7 @@ pub fn work_all<R: Threads + Sync, T: Tasks, H: Host + Send>(
 ) -> Result<Kept<T::Out>, AllocError>
     requires start { CanStart board.now (T.count_of tasks.now) phase.now.tries
         (length hosts.old) passes.old }
-    ensures same { AreOf board.now passes.new }
+    ensures same { AreOfBoard board.now passes.new }
     ensures grew { AllZip Grew (map H.account hosts.old) (map H.account hosts.new) }
     ensures asked { AllTook (T.count_of tasks.now) phase.now (T.places tasks.now) passes.new
         (map H.account hosts.old) (map H.account hosts.new) }
@@ -75,7 +75,7 @@ fn both_halves<R: Threads + Sync, T: Tasks, H: Host + Send>(
         (length first_hosts.old) first_passes.old }
     requires last { CanStart board.now (T.count_of tasks.now) phase.now.tries
         (length last_hosts.old) last_passes.old }
-    ensures same { AreOf board.now first_passes.new × AreOf board.now last_passes.new }
+    ensures same { AreOfBoard board.now first_passes.new × AreOfBoard board.now last_passes.new }
     ensures first { AllZip Grew (map H.account first_hosts.old) (map H.account first_hosts.new) }
     ensures last { AllZip Grew (map H.account last_hosts.old) (map H.account last_hosts.new) }
     ensures first_asked { AllTook (T.count_of tasks.now) phase.now (T.places tasks.now)
@@ -91,7 +91,7 @@ fn both_halves<R: Threads + Sync, T: Tasks, H: Host + Send>(
         requires { IsSync R.row × IsSync T.row × IsSend H.row × IsSend T.Out.row
             × CanStart board.now (T.count_of tasks.now) phase.now.tries
             (length first_hosts.now) first_passes.now }
-        ensures { AreOf board.entry.now first_passes.exit.now × AllZip Grew
+        ensures { AreOfBoard board.entry.now first_passes.exit.now × AllZip Grew
             (map H.account first_hosts.entry.now) (map H.account first_hosts.exit.now) × AllTook
             (T.count_of tasks.entry.now) phase.entry.now (T.places tasks.entry.now)
             first_passes.exit.now (map H.account first_hosts.entry.now)
@@ -104,7 +104,7 @@ fn both_halves<R: Threads + Sync, T: Tasks, H: Host + Send>(
         requires { IsSync R.row × IsSync T.row × IsSend H.row × IsSend T.Out.row
             × CanStart board.now (T.count_of tasks.now) phase.now.tries
             (length last_hosts.now) last_passes.now }
-        ensures { AreOf board.entry.now last_passes.exit.now × AllZip Grew
+        ensures { AreOfBoard board.entry.now last_passes.exit.now × AllZip Grew
             (map H.account last_hosts.entry.now) (map H.account last_hosts.exit.now) × AllTook
             (T.count_of tasks.entry.now) phase.entry.now (T.places tasks.entry.now)
             last_passes.exit.now (map H.account last_hosts.entry.now)
@@ -114,6 +114,17 @@ fn both_halves<R: Threads + Sync, T: Tasks, H: Host + Send>(
             (map H.account last_hosts.exit.now)) }
     { work_all(rt, alloc, board, tasks, phase, last_hosts, last_passes) };
     let (first, last) = join_mut(rt, &mut front, &mut back);
+    both_kept(first, last)
+}
+
+// What both halves keep, the outs of the last behind those of the first.
+fn both_kept<O: Drop>(
+    first: Result<Kept<O>, AllocError>,
+    last: Result<Kept<O>, AllocError>,
+) -> Result<Kept<O>, AllocError>
+    ensures { IfOk result (λ all.
+        IsOkAnd first (λ one. IsOkAnd last (λ other. all ≡ one ++ other))) }
+{
     let mut all = first?;
     let rest = last?;
     all.append(rest)?;
@@ -132,7 +143,7 @@ fn work_alone<T: Tasks, H: Host>(
     requires start { CanStart board.now (T.count_of tasks.now) phase.now.tries
         (length hosts.old) passes.old }
     requires one { length passes.old ≡ 1 }
-    ensures same { AreOf board.now passes.new }
+    ensures same { AreOfBoard board.now passes.new }
     ensures grew { AllZip Grew (map H.account hosts.old) (map H.account hosts.new) }
     ensures asked { AllTook (T.count_of tasks.now) phase.now (T.places tasks.now) passes.new
         (map H.account hosts.old) (map H.account hosts.new) }

@@ -1,6 +1,6 @@
 // What a phase runs.
 ghost use Rattle.std.specs.Prelude.{◌≡◌, ◌+◌, ◌<◌, IfOk, OnErr};
-ghost use Rattle.crew.specs.Attempts.{IsMadeOf, Ran, StoppedDown, StoppedEarly, MatchAttempt};
+ghost use Rattle.crew.specs.Attempts.{MadeHas, Ran, StoppedDown, StoppedEarly, MatchAttempt};
 ghost use Rattle.crew.specs.Drills.{attempt_at};
 
 use crate::attempts::{Attempt, Spot};
@@ -39,7 +39,7 @@ pub trait Tasks: Sync {
         at: &Spot,
     ) -> Result<Attempt<Self::Out>, AllocError>
         requires { task < count_of self.now }
-        ensures value { IfOk result (IsMadeOf (is_value self.now task)) }
+        ensures value { IfOk result (MadeHas (is_value self.now task)) }
         ensures ran { IfOk result (λ r. MatchAttempt r (Ran (attempt_at at.now task)
             (places self.now task) (H.account host.old) (H.account host.new)) (StoppedDown
             (attempt_at at.now task) (places self.now task) (H.account host.old)

@@ -82,11 +82,15 @@ fn turn<T: Tasks, H: Host>(
             Attempt::Down => Ok(None),
             Attempt::Made(out) => {
                 if phase.is_drilled(task, attempt) {
+                    drop(out);
                     return Ok(None);
                 }
                 match board.commit(pass, draw) {
                     Ok(Won) => Ok(Some(KeptOut { task, attempt, out })),
-                    Err(_) => Ok(None),
+                    Err(_) => {
+                        drop(out);
+                        Ok(None)
+                    }
                 }
             }
         },

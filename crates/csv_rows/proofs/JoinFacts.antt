@@ -1,6 +1,6 @@
 -- The rows of some records and then of others.
 use Rattle.std.proofs.Common.{◌≡◌, ◌+◌, ◌==◌, ◌∷◌, ◌++◌, ℕ, Bool, true, false, List, [], length, Option, Some, None, refl, sym, ap}
-use Rattle.std.specs.Prelude.{IfOk, Result, Ok, Err, if◌then◌else◌}
+use Rattle.std.specs.Prelude.{IfOk, IsOkAnd, Result, Ok, Err, if◌then◌else◌}
 use Rattle.flume_value.specs.declared.value.Value.{Value}
 use Rattle.flume_value.specs.declared.value.Value.TheVariants as value
 use Rattle.flume_types.specs.declared.column.Column.{Column}
@@ -111,7 +111,7 @@ behind_joined head.NoNames columns front back xs ys e f =
     rows_joined 1 1 columns front back xs ys e f
 
 -- the same of rows that were put together, where memory sufficed
-pub behind_appended : (h : Head) (columns : List Column) (front back : List Fields)
+behind_appended : (h : Head) (columns : List Column) (front back : List Fields)
     (xs ys : List Value) (all : Result (List Value) RowFault)
     → rows_behind h columns front ≡ Ok xs → rows_from 1 columns back ≡ Ok ys
     → IfOk all (λ rows. rows ≡ xs ++ ys)
@@ -119,3 +119,17 @@ pub behind_appended : (h : Head) (columns : List Column) (front back : List Fiel
 behind_appended h columns front back xs ys (Ok all) e f is =
     rw is (behind_joined h columns front back xs ys e f)
 behind_appended h columns front back xs ys (Err why) e f is = tt
+
+-- the same where both may have failed
+pub both_appended : (h : Head) (columns : List Column) (front back : List Fields)
+    (first rest all : Result (List Value) RowFault)
+    → IfOk first (λ rows. rows_behind h columns front ≡ Ok rows)
+    → IfOk rest (λ rows. rows_from 1 columns back ≡ Ok rows)
+    → IfOk all (λ rows. IsOkAnd first (λ xs. IsOkAnd rest (λ ys. rows ≡ xs ++ ys)))
+    → IfOk all (λ rows. rows_behind h columns (front ++ back) ≡ Ok rows)
+both_appended h columns front back (Ok xs) (Ok ys) all e f is =
+    behind_appended h columns front back xs ys all e f is
+both_appended h columns front back (Ok xs) (Err why) (Ok all) e f is = absurd is
+both_appended h columns front back (Ok xs) (Err why) (Err fault) e f is = tt
+both_appended h columns front back (Err why) rest (Ok all) e f is = absurd is
+both_appended h columns front back (Err why) rest (Err fault) e f is = tt

@@ -22,14 +22,8 @@ state_from s (c ∷ rest) = state_from (step default_config s c).0 rest
 
 -- any state but that inside a comment, of which the default has none
 abbrev pub IsRead : State → Type 0
-IsRead st.StartRecord = Unit {0}
-IsRead st.StartField = Unit {0}
-IsRead st.InField = Unit {0}
-IsRead st.InQuoted = Unit {0}
-IsRead st.AfterQuote = Unit {0}
-IsRead st.InEscape = Unit {0}
 IsRead st.InComment = ⊥
-IsRead st.AfterCr = Unit {0}
+IsRead _ = Unit {0}
 
 -- a step that ends no record goes on inside one, or passes over a byte between two
 abbrev pub Goes : Bool → State × Action → Type 0

@@ -92,7 +92,10 @@ pub(crate) fn read_rows<R: Read + Drop>(
         .from_reader(alloc, source);
     match head {
         Head::Names => read_table(alloc, &mut reader, columns),
-        Head::NoNames => read_rest(alloc, &mut reader, columns),
+        Head::NoNames => {
+            let mut fields = ByteRecord::new(alloc);
+            read_rest(alloc, &mut reader, &mut fields, columns)
+        }
     }
 }
 
@@ -121,14 +124,14 @@ fn read_table<R: Read>(
     if let Some(column) = read_header(columns, &fields) {
         return Err(RowFault::bad(0, column, RowKind::Header));
     }
-    drop(fields);
-    read_rest(alloc, reader, columns)
+    read_rest(alloc, reader, &mut fields, columns)
 }
 
-/// The rows of the records that a reader has left, or the first fault.
+/// The rows of the records that a reader has left, or the first fault. Each is read into `fields`.
 fn read_rest<R: Read>(
     alloc: Global,
     reader: &mut Reader<R>,
+    fields: &mut ByteRecord,
     columns: &[Column],
 ) -> Result<Items, RowFault>
     requires plain { IsPlain reader.old }
@@ -140,12 +143,11 @@ fn read_rest<R: Read>(
         IfSome (left_of R.remaining reader.old)
         (λ records. rows_from 1 columns.now records ≡ Err e)) }
 {
-    let mut fields = ByteRecord::new(alloc);
     let mut rows = Pile::new(alloc);
     'rows: for row in 1..u64::MAX {
-        match next_record(reader, &mut fields)? {
+        match next_record(reader, fields)? {
             Next::Record => {
-                let value = read_row(alloc, row, columns, &fields)?;
+                let value = read_row(alloc, row, columns, fields)?;
                 rows.push(value)?;
             }
             Next::OtherLength => return Err(RowFault::bad(row, 0, RowKind::Width)),

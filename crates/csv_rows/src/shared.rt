@@ -1,7 +1,7 @@
 // The rows of a file, decoded by several threads: its parts are read side by side.
 #![tactic(auto, using(crate::proofs::TypeFacts::under_typed))]
 
-ghost use Rattle.std.specs.Prelude.{◌≡◌, ◌≢◌, ◌≤◌, ◌<◌, ◌+◌, ◌++◌, Ok, Err, Some, IfOk, IfErr, IfSome, OnSome, IsTrue, drop, false, get_or, length, take};
+ghost use Rattle.std.specs.Prelude.{◌≡◌, ◌≢◌, ◌≤◌, ◌<◌, ◌+◌, ◌++◌, Ok, Err, Some, IfOk, IfErr, IfSome, IsOkAnd, OnSome, IsTrue, drop, false, get_or, length, take};
 ghost use Rattle.std.specs.List.{All};
 ghost use Rattle.std.specs.Thread.{IsSync};
 ghost use Rattle.csv.specs.Reading.{strip_bom};
@@ -49,25 +49,10 @@ pub fn rows_by_threads<R: Threads + Sync>(
     let bytes = file.into_vec(alloc)?;
     // so few parts that none becomes too small
     let parts = threads.min(bytes.len() / (2 * PART));
-    rows_of_bytes(rt, &alloc, parts, bytes.as_slice(), columns)
-}
-
-fn rows_of_bytes<R: Threads + Sync>(
-    rt: &R,
-    alloc: &Global,
-    parts: usize,
-    bytes: &[u8],
-    columns: &[Column],
-) -> Result<Items, RowFault>
-    ensures rows { IfOk result (λ rows.
-        rows_under columns.now (records_of bytes.now) ≡ Ok rows) }
-    ensures fault { IfErr result (λ e. e ≢ RowFault.Memory →
-        rows_under columns.now (records_of bytes.now) ≡ Err e) }
-{
-    match rows_in_parts(rt, alloc, parts, bytes, columns, Head::Names) {
+    match rows_in_parts(rt, &alloc, parts, bytes.as_slice(), columns, Head::Names) {
         Ok(rows) => Ok(rows),
         // the first fault of all bytes is told by one reader
-        Err(_) => rows_under_columns(*alloc, bytes, columns),
+        Err(_) => rows_under_columns(alloc, bytes.as_slice(), columns),
     }
 }
 
@@ -119,15 +104,31 @@ fn read_both<R: Threads + Sync>(
                 rows_from 1 columns.entry.now (records_of back.entry.now) ≡ Ok rows) }
         { rows_in_parts(rt, alloc, parts, back, columns, Head::NoNames) },
     );
-    appended(first?, rest?)
+    appended(first, rest)
 }
 
-// The rows, and then the others.
-fn appended(rows: Items, others: Items) -> Result<Items, RowFault>
-    ensures { IfOk result (λ all. all ≡ rows ++ others) }
+// The rows, and then the others, where both were read.
+fn appended(
+    first: Result<Items, RowFault>,
+    rest: Result<Items, RowFault>,
+) -> Result<Items, RowFault>
+    ensures { IfOk result (λ all.
+        IsOkAnd first (λ rows. IsOkAnd rest (λ others. all ≡ rows ++ others))) }
+{
+    match first {
+        Ok(rows) => with_others(rows, rest),
+        Err(fault) => {
+            drop(rest);
+            Err(fault)
+        }
+    }
+}
+
+fn with_others(rows: Items, rest: Result<Items, RowFault>) -> Result<Items, RowFault>
+    ensures { IfOk result (λ all. IsOkAnd rest (λ others. all ≡ rows ++ others)) }
 {
     let mut all = rows.into_vec();
-    let mut others = others.into_vec();
+    let mut others = rest?.into_vec();
     all.append(&mut others)?;
     Ok(Pile::from_vec(all))
 }

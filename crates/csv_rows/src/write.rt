@@ -1,6 +1,6 @@
 // Writing rows.
 
-ghost use Rattle.std.specs.Prelude.{◌≡◌, ◌++◌, ◌∷◌, [], length, map, Some, IfOk, IsSome, IsTrue, OnOk};
+ghost use Rattle.std.specs.Prelude.{◌≡◌, ◌++◌, ◌∷◌, [], length, map, Some, IfOk, IfSome, IsSome, IsTrue, OnOk};
 ghost use Rattle.std.specs.Io.KnownBytes.{Appends};
 ghost use Rattle.std.specs.List.{All};
 ghost use Rattle.csv.specs.Records.{fields_of, partial_of};
@@ -58,18 +58,38 @@ fn write_table(alloc: Global, columns: &[Column], values: &[&Value]) -> Result<V
     let mut writer = WriterBuilder::new()
         .has_headers(false)
         .from_writer(Vec::new(alloc));
+    write_rows(alloc, &mut writer, columns, values)?;
+    match writer.into_inner() {
+        Ok(text) => Ok(text),
+        Err(refused) => {
+            drop(refused);
+            Err(AllocError)
+        }
+    }
+}
+
+/// Writes a header and a row for each value, in this order, where nothing is written yet.
+fn write_rows(
+    alloc: Global,
+    writer: &mut Writer<Vec<u8>>,
+    columns: &[Column],
+    values: &[&Value],
+) -> Result<(), AllocError>
+    requires fresh { IsFresh writer.old }
+    requires empty { IfSome (text_written (λ v. Some v.items) writer.old) (λ text. text ≡ []) }
+    ensures text { OnOk result (IfSome (text_written (λ v. Some v.items) writer.new)
+        (λ text. text ≡ table_text columns.now (map (λ value. value.now) values.now))) }
+    ensures fresh { OnOk result (IsFresh writer.new) }
+{
     let mut row = ByteRecord::new(alloc);
     put_names(&mut row, columns)?;
-    write_row(&mut writer, &row)?;
+    write_row(writer, &row)?;
     'rows: for value in values {
         row.clear();
         put_row(&mut row, value)?;
-        write_row(&mut writer, &row)?;
+        write_row(writer, &row)?;
     }
-    match writer.into_inner() {
-        Ok(text) => Ok(text),
-        Err(_) => Err(AllocError),
-    }
+    Ok(())
 }
 
 /// Writes a record. With rows of one length, csv refuses only for memory.
@@ -81,7 +101,10 @@ fn write_row<W: Write + Drop>(writer: &mut Writer<W>, row: &ByteRecord) -> Resul
 {
     match writer.write_byte_record(row) {
         Ok(()) => Ok(()),
-        Err(_) => Err(AllocError),
+        Err(refused) => {
+            drop(refused);
+            Err(AllocError)
+        }
     }
 }
 

@@ -6,6 +6,7 @@ use Rattle.std.proofs.lemmas.List.Elements.{All-contains}
 use Rattle.flume_value.specs.Bag.{bag_of}
 use Rattle.flume_value.specs.declared.value.Value.{Value}
 use Rattle.flume_types.specs.Tables.{table_of}
+use Rattle.flume_types.specs.declared.types.Ty.{Ty}
 use Rattle.flume_types.specs.declared.types.Ty.TheVariants as ty
 use Rattle.bag_groups.specs.Combining.{combined_each}
 use Rattle.bag_groups.specs.Groups.{grouped}
@@ -18,8 +19,9 @@ use Rattle.flume_collection.specs.Collection.{by_key, together}
 use Rattle.flume_collection.specs.declared.trap.Trap.{Trap}
 use Rattle.script_program.specs.declared.made.Made.{Made}
 use Rattle.script_program.specs.declared.made.Made.TheVariants as made
+use Rattle.script_program.specs.Needed.{operands}
 use Rattle.script_program.specs.Script.{Function, Script}
-use Rattle.script_laws.specs.WellFormed.{members_at}
+use Rattle.script_laws.specs.WellFormed.{function_at, members_at}
 use Rattle.direct_meaning.proofs.CallLemmas.{calls_answered}
 use Rattle.direct_meaning.specs.Calls.{answer_of}
 use Rattle.direct_meaning.proofs.MakeLemmas.{well_typed}
@@ -31,7 +33,7 @@ use Rattle.direct_meaning.specs.inner.Kept.{has_traps, is_trapped, kept_in, memb
 use Rattle.direct_meaning.specs.inner.Slots.{IsDoneBy, traps_on}
 use Rattle.direct_meaning.specs.inner.Stands.{Stands}
 use Rattle.direct_meaning.proofs.HereLemmas.{Here, fits_so, goes_quietly, goes_so, reads_so}
-use Rattle.direct_meaning.proofs.ReadLemmas.{AnyRead, CalledRead, GroupsRead, TableRead}
+use Rattle.direct_meaning.proofs.ReadLemmas.{AnyRead, CalledRead, GroupsRead, HasCallee, TableRead}
 
 module _ {script : Script} {inputs left : List (List Value)} {number : ℕ}
     {kept : List (Option Kept)} {traps : List Trap} where
@@ -50,6 +52,33 @@ module _ {script : Script} {inputs left : List (List Value)} {number : ℕ}
       (ap (λ (l : List (List Value)). made_as script number m l here.stands.table) first ∙ made_so)
       result (record { members = members; trapped = trapped }) refl)
 
+  -- ---- what is read
+
+  abbrev pub has_callee : {m : Made} → Here script inputs left number kept traps m → (called : ℕ)
+      (function : Function) → function_at script.functions called ≡ Some function
+      → HasCallee script called
+  has_callee here called function at = record {
+    function = function;
+    at = at;
+    typed = well_typed script here.well.functions called function at;
+  }
+
+  abbrev pub any_read : (m : Made) (here : Here script inputs left number kept traps m)
+      (source : ℕ) → Contains (operands m) source → (type : Ty)
+      → members_at here.stands.before source ≡ Some type → AnyRead kept here.stands.table source
+  any_read m here source among type reads =
+      record { type = type; source = reads_so m here source among type reads }
+
+  abbrev pub table_read : (m : Made) (here : Here script inputs left number kept traps m)
+      (source : ℕ) → Contains (operands m) source → (key value : Ty)
+      → members_at here.stands.before source ≡ Some (table_of key value)
+      → TableRead kept here.stands.table source
+  table_read m here source among key value reads = record {
+    key = key;
+    value = value;
+    source = reads_so m here source among (table_of key value) reads;
+  }
+
   -- ---- calls
 
   pub do_read : (source called output : ℕ)
@@ -59,9 +88,7 @@ module _ {script : Script} {inputs left : List (List Value)} {number : ℕ}
       let m = made.Do source called output in
       let it = fits_so m here in
       record {
-        function = it.function;
-        at = it.calls;
-        typed = well_typed script here.well.functions called it.function it.calls;
+        callee = has_callee here called it.function it.calls;
         source = reads_so m here source (at_head source []) it.function.signature.takes it.takes;
       }
 
@@ -103,12 +130,7 @@ module _ {script : Script} {inputs left : List (List Value)} {number : ℕ}
       → TableRead kept here.stands.table source
   group_read source here =
       let it = fits_so (made.Group source) here in
-      record {
-        key = it.key;
-        value = it.value;
-        source = reads_so (made.Group source) here source (at_head source [])
-            (table_of it.key it.value) it.reads;
-      }
+      table_read (made.Group source) here source (at_head source []) it.key it.value it.reads
 
   pub group_goes : (source : ℕ)
       → (here : Here script inputs left number kept traps (made.Group source))
@@ -198,10 +220,7 @@ module _ {script : Script} {inputs left : List (List Value)} {number : ℕ}
       → AnyRead kept here.stands.table source
   count_read source here =
       let it = fits_so (made.Count source) here in
-      record {
-        type = it.member;
-        source = reads_so (made.Count source) here source (at_head source []) it.member it.reads;
-      }
+      any_read (made.Count source) here source (at_head source []) it.member it.reads
 
   pub count_goes : (source : ℕ)
       → (here : Here script inputs left number kept traps (made.Count source))
@@ -227,23 +246,14 @@ module _ {script : Script} {inputs left : List (List Value)} {number : ℕ}
     pub left_read : TableRead kept here.stands.table one
     left_read =
         let it = fits_so (made.Join one other) here in
-        record {
-          key = it.key;
-          value = it.left_value;
-          source = reads_so (made.Join one other) here one (at_head one (other ∷ []))
-              (table_of it.key it.left_value) it.reads_left;
-        }
+        table_read (made.Join one other) here one (at_head one (other ∷ [])) it.key it.left_value
+        it.reads_left
 
     pub right_read : TableRead kept here.stands.table other
     right_read =
         let it = fits_so (made.Join one other) here in
-        record {
-          key = it.key;
-          value = it.right_value;
-          source = reads_so (made.Join one other) here other
-              (at_tail one (other ∷ []) other (at_head other []))
-              (table_of it.key it.right_value) it.reads_right;
-        }
+        table_read (made.Join one other) here other
+        (at_tail one (other ∷ []) other (at_head other [])) it.key it.right_value it.reads_right
 
     pub join_goes : (held more : Kept) → slice_get kept one ≡ Some (Some held)
         → slice_get kept other ≡ Some (Some more) → (result : Kept)
@@ -272,13 +282,8 @@ module _ {script : Script} {inputs left : List (List Value)} {number : ℕ}
       → (here : Here script inputs left number kept traps (made.Top many source))
       → AnyRead kept here.stands.table source
   top_read many source here =
-      let it = fits_so (made.Top many source) here in
-      record {
-        type = here.node.entry.1.type;
-        source = reads_so (made.Top many source) here source (at_head source [])
-            here.node.entry.1.type
-            it.reads;
-      }
+      any_read (made.Top many source) here source (at_head source []) here.node.entry.1.type
+      (fits_so (made.Top many source) here).reads
 
   pub top_goes : (many source : ℕ)
       → (here : Here script inputs left number kept traps (made.Top many source))

@@ -10,15 +10,15 @@ use Rattle.flume_value.specs.declared.fault.Kind.{Kind}
 use Rattle.flume_value.specs.declared.value.Value.{Value}
 use Rattle.flume_types.specs.Typing.{AllHave, Has}
 use Rattle.flume_types.specs.declared.types.Ty.{Ty}
-use Rattle.dofn_eval.specs.Answer.{AreOf, HasAnswer}
-use Rattle.dofn_eval.specs.Function.{Accepts, Function as Fun}
+use Rattle.dofn_eval.specs.Answer.{HaveOutputTypes, HasAnswer}
+use Rattle.dofn_eval.specs.Function.{CanBeCalledOn, Function as Fun}
 use Rattle.dofn_eval.specs.Outcome.{Outcome, Gives, Traps, Stuck}
 use Rattle.dofn_eval.specs.Run.{means as slots_mean}
 use Rattle.body_check.proofs.FunctionLemmas.{answered as has_answer}
 use Rattle.body_check.specs.Call.{means}
 use Rattle.flume_collection.specs.Calls.{Called, emissions, or_none, trap_of}
 use Rattle.flume_collection.specs.declared.trap.Trap.{Trap}
-use Rattle.script_program.specs.Program.{Does}
+use Rattle.script_program.specs.Program.{DoesAsWritten}
 use Rattle.script_program.specs.Script.{Function}
 use Rattle.script_laws.specs.WellFormed.{IsWellTyped}
 use Rattle.direct_meaning.proofs.PlaceLemmas.{zip_at}
@@ -47,7 +47,7 @@ answers_in : (gives : List Ty) (x : Value) (outcome : Outcome (List (List Value)
 answers_in gives x (Gives lists) has = record {
   called = Ok lists;
   is = refl;
-  has = let same : Ok lists ≡ has.0 = cc in subst (AreOf gives) (sym same) has.2;
+  has = let same : Ok lists ≡ has.0 = cc in subst (HaveOutputTypes gives) (sym same) has.2;
 }
 answers_in gives x (Traps kind) has = record { called = Err (kind, x); is = refl; has = tt }
 answers_in gives x Stuck has = let none = has.1 in cc
@@ -64,7 +64,7 @@ answers function typed x has =
     function.body x typed has)
 
 -- the same by slots
-pub same_answer : (fun : Fun) (function : Function) → Does fun function → (x : Value)
+pub same_answer : (fun : Fun) (function : Function) → DoesAsWritten fun function → (x : Value)
     → answer_of function x ≡ slots_answer fun x
 unfolding answer_of slots_answer
 same_answer fun function does x =
@@ -83,8 +83,8 @@ pub traps_answer : (fun : Fun) (x : Value) (kind : Kind)
 unfolding slots_answer
 traps_answer fun x kind is = ap (answered x) is
 
-pub accepts : (fun : Fun) (function : Function) → Does fun function → (x : Value)
-    → Has function.signature.takes x → Accepts fun x
+pub accepts : (fun : Fun) (function : Function) → DoesAsWritten fun function → (x : Value)
+    → Has function.signature.takes x → CanBeCalledOn fun x
 accepts fun function does x has =
     (function.signature.takes, function.signature.gives, does.typed, has)
 
@@ -208,7 +208,8 @@ done_same origin output one other same source result before after members found 
 }
 
 -- what is done by slots is done by names
-pub done_by_slots : (origin output : ℕ) (fun : Fun) (function : Function) → Does fun function
+pub done_by_slots : (origin output : ℕ) (fun : Fun) (function : Function)
+    → DoesAsWritten fun function
     → (source result : Kept) (before after : List Trap)
     → result.members
     ≡ bag_of (flat_map (λ x. emitted_by output (slots_answer fun x)) source.members)

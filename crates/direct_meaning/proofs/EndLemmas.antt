@@ -18,7 +18,7 @@ use Rattle.direct_meaning.proofs.SizeLemmas.{sizes_same}
 use Rattle.direct_meaning.proofs.StandLemmas.{passes, source_at}
 use Rattle.direct_meaning.proofs.TableLemmas.{as_many, found}
 use Rattle.direct_meaning.specs.Direct.{collections, meaning, traps_of}
-use Rattle.direct_meaning.specs.Evaluated.{IsDirect, IsWritten, bag_at, bag_made}
+use Rattle.direct_meaning.specs.Evaluated.{IsDirect, AreWritten, bag_at, bag_made}
 use Rattle.direct_meaning.specs.Inputs.{AreInputs, AreLists, sourced}
 use Rattle.direct_meaning.specs.Made.{AreMade}
 use Rattle.script_program.specs.Needed.{is_needed}
@@ -147,7 +147,7 @@ module _ (script : Script) (well : IsWellFormed script) (inputs : List (List Val
 
   written : (bags : List (Option (List Value))) → bags ≡ map bag_kept kept → (output : Output)
       → HasColumns script.nodes output → is_needed script output.reads ≡ true
-      → IsWritten script ended.table bags output
+      → AreWritten script ended.table bags output
   written bags told output has needed =
       let node = mapped (λ (entry : List ℕ × Node). entry.1.type)
       (slice_get script.nodes output.reads) has.type has.reads in
@@ -167,7 +167,7 @@ module _ (script : Script) (well : IsWellFormed script) (inputs : List (List Val
   each_written : (bags : List (Option (List Value))) → bags ≡ map bag_kept kept
       → (outputs : Named Output) → Each (λ entry. HasColumns script.nodes entry.1) outputs
       → Each (λ entry. is_needed script entry.1.reads ≡ true) outputs
-      → Each (λ entry. IsWritten script ended.table bags entry.1) outputs
+      → Each (λ entry. AreWritten script ended.table bags entry.1) outputs
   each_written bags told [] have needed = tt
   each_written bags told (entry ∷ outputs) have needed = (
     written bags told entry.1 have.0 needed.0,
@@ -182,7 +182,7 @@ module _ (script : Script) (well : IsWellFormed script) (inputs : List (List Val
     means = ended.means;
     bags = bags ∙ bags_same kept ended.table ended.keeps;
     written = All-from_recursion
-        (λ (entry : List ℕ × Output). IsWritten script ended.table it.bags.items entry.1)
+        (λ (entry : List ℕ × Output). AreWritten script ended.table it.bags.items entry.1)
         script.outputs
         (each_written it.bags.items bags script.outputs
         (each_from (λ (entry : List ℕ × Output). HasColumns script.nodes entry.1) script.outputs

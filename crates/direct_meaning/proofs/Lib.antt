@@ -23,6 +23,7 @@ pub mod OnlyLemmas
 pub mod OnceLemmas
 pub mod ResultLemmas
 pub mod CallLemmas
+pub mod DoneLemmas
 pub mod SizeLemmas
 pub mod EndLemmas
 pub mod RowOrder

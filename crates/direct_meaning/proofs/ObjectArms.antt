@@ -18,17 +18,17 @@ use Rattle.combine_table.specs.declared.comb.Comb.{Comb}
 use Rattle.flume_collection.proofs.Members.{at_head, at_tail, head_or_tail, not_in_none}
 use Rattle.flume_collection.specs.Collection.{Collection}
 use Rattle.flume_collection.specs.declared.trap.Trap.{Trap}
-use Rattle.script_laws.specs.of_script_rules.Operations.{combined_type}
 use Rattle.script_program.specs.declared.made.Made.{Made}
 use Rattle.script_program.specs.declared.made.Made.TheVariants as made
 use Rattle.script_program.specs.Script.{Function, Script}
-use Rattle.script_laws.specs.WellFormed.{IsArgument, IsRecord, IsWellTyped, function_at, members_at}
+use Rattle.script_laws.specs.WellFormed.{IsArgument, IsRecord, function_at, members_at}
+use Rattle.direct_meaning.proofs.ArmLemmas.{any_read, has_callee}
 use Rattle.direct_meaning.proofs.HereLemmas.{Here, fits_so, goes_so, reads_so}
 use Rattle.direct_meaning.proofs.KeepLemmas.{Stood, all_stand, among_made, value_same}
-use Rattle.direct_meaning.proofs.MakeLemmas.{well_typed}
 use Rattle.direct_meaning.proofs.ObjectKeeps.{Comes, done_comes, operated_comes, whole_kept, whole_own}
 use Rattle.direct_meaning.proofs.ObjectMakes.{calls_beside, takes_pair}
 use Rattle.direct_meaning.proofs.ObjectTypes.{all_suit, argument_has, value_has, values_have}
+use Rattle.direct_meaning.proofs.ReadLemmas.{AnyRead, HasCallee}
 use Rattle.direct_meaning.proofs.StandLemmas.{Source, held_typed, keeps}
 use Rattle.direct_meaning.proofs.TableLemmas.{zip_made}
 use Rattle.direct_meaning.proofs.TypeLemmas.{taken}
@@ -47,20 +47,11 @@ one_value o x y first second = let both : Some x ≡ Some y = sym first ∙ seco
 
 -- ---- what is read
 
--- members that suit a combiner
-pub record WholeRead (kept : List (Option Kept)) (table : List (Option Collection)) (source : ℕ)
-    (by : Comb) : Type 0 where
-  pub member : Ty
-  pub type : Ty
-  pub suits : combined_type by member ≡ Some type
-  pub from : Source kept table source member
-
 -- objects whose values a function of a script takes
 pub record ObjectsRead (script : Script) (kept : List (Option Kept))
     (table : List (Option Collection)) (objects : List ℕ) (called : ℕ) : Type 0 where
-  pub function : Function
-  pub at : function_at script.functions called ≡ Some function
-  pub typed : IsWellTyped function
+  pub callee : HasCallee script called
+  pub open callee use *
   pub types : List Ty
   pub takes : IsArgument types function.signature.takes
   pub stood : Stood kept table objects
@@ -69,9 +60,8 @@ pub record ObjectsRead (script : Script) (kept : List (Option Kept))
 -- members, and an object, whose record a function of a script takes
 pub record BesideRead (script : Script) (kept : List (Option Kept))
     (table : List (Option Collection)) (source called object : ℕ) (type : Ty) : Type 0 where
-  pub function : Function
-  pub at : function_at script.functions called ≡ Some function
-  pub typed : IsWellTyped function
+  pub callee : HasCallee script called
+  pub open callee use *
   pub gives : function.signature.gives ≡ type ∷ []
   pub member : Ty
   pub value : Ty
@@ -102,26 +92,21 @@ module _ {script : Script} {inputs left : List (List Value)} {number : ℕ}
 
   -- ---- all members combined
 
-  pub whole_read : (source : ℕ) (by : Comb)
+  abbrev pub whole_read : (source : ℕ) (by : Comb)
       → (here : Here script inputs left number kept traps (made.CombineAll source by))
-      → WholeRead kept here.stands.table source by
+      → AnyRead kept here.stands.table source
   whole_read source by here =
       let it = fits_so (made.CombineAll source by) here in
-      record {
-        member = it.member;
-        type = here.node.entry.1.type;
-        suits = it.suits;
-        from = reads_so (made.CombineAll source by) here source (at_head source []) it.member
-            it.reads;
-      }
+      any_read (made.CombineAll source by) here source (at_head source []) it.member it.reads
 
   pub whole_suits : (source : ℕ) (by : Comb)
       → (here : Here script inputs left number kept traps (made.CombineAll source by))
       → (held : Kept) → slice_get kept source ≡ Some (Some held) → All (Suits by) held.members
   whole_suits source by here held held_at =
-      let it = whole_read source by here in
-      all_suit by it.member held.members (taken by it.member it.type it.suits).0
-      (held_typed kept here.stands.table source it.member it.from held held_at)
+      let it = fits_so (made.CombineAll source by) here in
+      all_suit by it.member held.members (taken by it.member here.node.entry.1.type it.suits).0
+      (held_typed kept here.stands.table source it.member (whole_read source by here).source held
+      held_at)
 
   pub whole_goes : (source : ℕ) (by : Comb)
       → (here : Here script inputs left number kept traps (made.CombineAll source by))
@@ -134,14 +119,14 @@ module _ {script : Script} {inputs left : List (List Value)} {number : ℕ}
       → Stands script inputs (number + 1) left (kept ++ Some result ∷ []) after
   whole_goes source by here held held_at result after members trapped found =
       let it = whole_read source by here in
-      let c = it.from.from.collection in
-      let same = keeps kept here.stands.table source it.member it.from held held_at in
+      let c = it.source.from.collection in
+      let same = keeps kept here.stands.table source it.type it.source held held_at in
       let whole : combined by (bag_of held.members) ≡ combined by c.bag
       = ap (λ (l : List Value). combined by (bag_of l)) same.members
-      ∙ ap (combined by) (bag_of-settled c.bag it.from.from.is.ascending) in
+      ∙ ap (combined by) (bag_of-settled c.bag it.source.from.is.ascending) in
       let made_by = λ (r : Result Value Kind). object_as (whole_value number r) in
       comes_so (made.CombineAll source by) here (Some (combined_whole number by c))
-      (ap (option_map (combined_whole number by)) it.from.from.made) result after
+      (ap (option_map (combined_whole number by)) it.source.from.made) result after
       (record {
         collection = combined_whole number by c;
         made_so = refl;
@@ -152,7 +137,7 @@ module _ {script : Script} {inputs left : List (List Value)} {number : ℕ}
         found = found
             ∙ (λ i. traps ++ unless_behind (same.trapped i) (made_by (whole i)).traps);
         has = whole_own here.stands.table number c.traps (combined by c.bag)
-            (among_made here.stands.table source c it.from.from.made);
+            (among_made here.stands.table source c it.source.from.made);
       })
 
   -- ---- operate
@@ -174,9 +159,7 @@ module _ {script : Script} {inputs left : List (List Value)} {number : ℕ}
       let from = (reads_so m here n is t reads).from in
       record { collection = from.collection; made = from.made; is = from.is }) in
       record {
-        function = it.function;
-        at = it.calls;
-        typed = well_typed script here.well.functions called it.function it.calls;
+        callee = has_callee here called it.function it.calls;
         types = it.types;
         takes = it.takes;
         stood = stood;
@@ -230,9 +213,7 @@ module _ {script : Script} {inputs left : List (List Value)} {number : ℕ}
         let m = made.DoWith source called object in
         let it = fits_so m here in
         record {
-          function = it.function;
-          at = it.calls;
-          typed = well_typed script here.well.functions called it.function it.calls;
+          callee = has_callee here called it.function it.calls;
           gives = it.gives;
           member = it.member;
           value = it.value;

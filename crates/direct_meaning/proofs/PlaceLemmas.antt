@@ -2,7 +2,7 @@
 use Rattle.std.proofs.Common.{◌≡◌, ℕ, zero, suc, ◌<◌, List, [], ◌∷◌, ◌++◌, length, map, Option}
 use Rattle.std.proofs.Common.{Some, None, slice_get, refl, subst, arith, ⊎_elim}
 use Rattle.std.specs.List.{AllZip, Contains}
-use Rattle.std.specs.Option.{option_map}
+use Rattle.std.specs.Option.{option_and_then, option_map}
 use Rattle.flume_collection.proofs.Members.{at_head, at_tail, head_or_tail, not_in_none}
 pub use Rattle.script_laws.proofs.MemberLemmas.{at_end, within, zip_at, zip_length}
 
@@ -19,6 +19,11 @@ pub mapped : {A B : Type 0} (f : A → B) (o : Option A) (y : B) → option_map 
     → (x : A) × (o ≡ Some x) × (f x ≡ y)
 mapped f None y is = cc
 mapped f (Some x) y is = (x, refl, cc)
+
+pub found_then : {A B : Type 0} (f : A → Option B) (o : Option A) (y : B)
+    → option_and_then f o ≡ Some y → (x : A) × (o ≡ Some x) × (f x ≡ Some y)
+found_then f None y is = cc
+found_then f (Some x) y is = (x, refl, is)
 
 pub mapped_has : {A B : Type 0} (f : A → B) (xs : List A) (x : A) → Contains xs x
     → Contains (map f xs) (f x)

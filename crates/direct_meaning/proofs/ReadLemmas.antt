@@ -21,6 +21,12 @@ use Rattle.direct_meaning.proofs.StandLemmas.{Source, held_ascending, held_typed
 use Rattle.direct_meaning.proofs.TypeLemmas.{taken}
 use Rattle.direct_meaning.specs.declared.kept.Kept.{Kept}
 
+-- a function of a script, by its number
+pub record HasCallee (script : Script) (called : ℕ) : Type 0 where
+  pub function : Function
+  pub at : function_at script.functions called ≡ Some function
+  pub typed : IsWellTyped function
+
 module _ (kept : List (Option Kept)) (table : List (Option Collection)) (number : ℕ) where
   -- a collection of members of some type
   pub record AnyRead : Type 0 where
@@ -43,9 +49,8 @@ module _ (kept : List (Option Kept)) (table : List (Option Collection)) (number 
 
   -- members that a function of a script takes
   pub record CalledRead (script : Script) (called output : ℕ) : Type 0 where
-    pub function : Function
-    pub at : function_at script.functions called ≡ Some function
-    pub typed : IsWellTyped function
+    pub callee : HasCallee script called
+    pub open callee use *
     pub source : Source kept table number function.signature.takes
 
   module _ (held : Kept) (at : slice_get kept number ≡ Some (Some held)) where

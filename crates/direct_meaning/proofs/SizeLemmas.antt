@@ -3,8 +3,10 @@ use Rattle.std.proofs.Common.{◌≡◌, ℕ, zero, suc, ◌+◌, ◌-◌, ◌^�
 use Rattle.std.specs.List.{AllZip}
 use Rattle.std.specs.Option.{option_map}
 use Rattle.script_laws.specs.of_written_types.Named.{Named}
+use Rattle.script_program.proofs.SourceSteps.{head_of}
 use Rattle.script_program.specs.Script.{Node}
 use Rattle.flume_collection.specs.Collection.{Collection}
+use Rattle.direct_meaning.proofs.PlaceLemmas.{mapped}
 use Rattle.direct_meaning.specs.Direct.{sizes_from}
 use Rattle.direct_meaning.specs.declared.kept.Kept.{Kept}
 use Rattle.direct_meaning.specs.inner.Kept.{KeepsAny, size_line, sizes_kept}
@@ -21,14 +23,11 @@ size_ahead : (nodes : Named Node) (table : List (Option Kept)) (n : ℕ) (name :
     → slice_get table n ≡ Some kept
     → sizes_kept (drop n nodes) (drop n table)
     ≡ size_line name kept ++ sizes_kept (drop (suc n) nodes) (drop (suc n) table)
-size_ahead [] table n name kept named at = cc
-size_ahead (entry ∷ nodes) [] n name kept named at = cc
-size_ahead (entry ∷ nodes) (made ∷ table) zero name kept named at =
-    let same : entry.0 ≡ name = cc in
-    let is : made ≡ kept = cc in
-    λ i. size_line (same i) (is i) ++ sizes_kept nodes table
-size_ahead (entry ∷ nodes) (made ∷ table) (suc n) name kept named at =
-    size_ahead nodes table n name kept named at
+size_ahead nodes table n name kept named at =
+    let (entry, found, same) =
+    mapped (λ (entry : List ℕ × Node). entry.0) (slice_get nodes n) name named in
+    (λ i. sizes_kept (head_of nodes n entry found i) (head_of table n kept at i))
+    ∙ (λ i. size_line (same i) kept ++ sizes_kept (drop (suc n) nodes) (drop (suc n) table))
 
 pub size_more : (nodes : Named Node) (table : List (Option Kept)) (n : ℕ) (name : List ℕ)
     (kept : Option Kept) (sizes more : List (List ℕ × ℕ))

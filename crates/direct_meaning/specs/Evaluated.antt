@@ -21,7 +21,7 @@ abbrev pub bag_made : Option Collection → Option (List Value)
 bag_made made = option_map (λ c. c.bag) made
 
 -- The members that an output writes are those of the collection that it reads, of the node's type.
-pub record IsWritten (script : Script) (made : List (Option Collection))
+pub record AreWritten (script : Script) (made : List (Option Collection))
     (bags : List (Option (List Value))) (output : Output) : Type 0 where
   pub collection : Collection
   pub reads : made_at made output.reads ≡ Some collection
@@ -36,6 +36,6 @@ pub record IsDirect (script : Script) (inputs : List (List Value)) (it : Direct)
   pub made : List (Option Collection)
   pub means : meaning script inputs ≡ Some made
   pub bags : it.bags.items ≡ map bag_made made
-  pub written : All (λ entry. IsWritten script made it.bags.items entry.1) script.outputs
+  pub written : All (λ entry. AreWritten script made it.bags.items entry.1) script.outputs
   pub sizes : it.sizes.items ≡ sizes_of script made
   pub traps : it.traps.items ≡ traps_of made

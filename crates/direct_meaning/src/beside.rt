@@ -6,7 +6,7 @@ ghost use Rattle.flume_types.specs.Typing.{Has};
 ghost use Rattle.flume_value.specs.Bag.{bag_of};
 ghost use Rattle.flume_value.specs.declared.value.Value.{Value as Value_};
 ghost use Rattle.bag_groups.specs.Pairs.{IsPair, pair as pair_of, value_of as second_of};
-ghost use Rattle.dofn_eval.specs.Function.{Accepts};
+ghost use Rattle.dofn_eval.specs.Function.{CanBeCalledOn};
 ghost use Rattle.script_program.specs.Script.{Function as Function_};
 ghost use Rattle.script_laws.specs.WellFormed.{function_at};
 ghost use Rattle.direct_meaning.specs.Calls.{answer_of};
@@ -66,7 +66,7 @@ fn called_beside(
     source: &Kept,
     traps: &mut Vec<Trap>,
 ) -> Result<Kept, AllocError>
-    requires { All (λ x. Accepts fun.now (pair_of x value.now)) source.now.members }
+    requires { All (λ x. CanBeCalledOn fun.now (pair_of x value.now)) source.now.members }
     ensures members { IfOk result (λ kept. kept.members ≡ bag_of (flat_map
         (λ x. emitted_by 0 (answer_beside (slots_answer fun.now) value.now x))
         source.now.members)) }
@@ -94,7 +94,7 @@ fn call_all_beside(
     elements: &[Value],
     traps: &mut Vec<Trap>,
 ) -> Result<Vec<Value>, AllocError>
-    requires { All (λ x. Accepts fun.now (pair_of x value.now)) elements.now }
+    requires { All (λ x. CanBeCalledOn fun.now (pair_of x value.now)) elements.now }
     ensures values { IfOk result (λ values. values.items ≡ flat_map
         (λ x. emitted_by 0 (answer_beside (slots_answer fun.now) value.now x)) elements.now) }
     ensures traps { OnOk result (traps.new.items ≡ traps.old.items ++ flat_map
@@ -136,7 +136,7 @@ fn call_beside(
     values: &mut Vec<Value>,
     traps: &mut Vec<Trap>,
 ) -> Result<(), AllocError>
-    requires { Accepts fun.now argument.now }
+    requires { CanBeCalledOn fun.now argument.now }
     ensures values { OnOk result (values.new.items ≡ values.old.items
         ++ emitted_by 0 (option_map (naming element.now) (slots_answer fun.now argument.now))) }
     ensures traps { OnOk result (traps.new.items ≡ traps.old.items ++ trapped_by origin

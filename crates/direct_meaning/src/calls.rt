@@ -2,7 +2,7 @@
 ghost use Rattle.std.specs.Prelude.{◌≡◌, ◌-◌, ◌<◌, ◌^◌, ◌||◌, ◌++◌, All, IfOk, OnOk, Some, length, slice_get};
 ghost use Rattle.std.specs.List.{flat_map};
 ghost use Rattle.flume_value.specs.Bag.{bag_of};
-ghost use Rattle.dofn_eval.specs.Function.{Accepts};
+ghost use Rattle.dofn_eval.specs.Function.{CanBeCalledOn};
 ghost use Rattle.flume_types.specs.Typing.{AllHave};
 ghost use Rattle.script_program.specs.Script.{Function as Function_};
 ghost use Rattle.script_laws.specs.WellFormed.{function_at};
@@ -57,7 +57,7 @@ fn called(
     source: &Kept,
     traps: &mut Vec<Trap>,
 ) -> Result<Kept, AllocError>
-    requires { All (Accepts fun.now) source.now.members }
+    requires { All (CanBeCalledOn fun.now) source.now.members }
     ensures members { IfOk result (λ kept. kept.members ≡ bag_of (flat_map
         (λ element. emitted_by output (slots_answer fun.now element)) source.now.members)) }
     ensures traps { OnOk result (traps.new.items ≡ traps.old.items ++ flat_map
@@ -83,7 +83,7 @@ fn call_all(
     elements: &[Value],
     traps: &mut Vec<Trap>,
 ) -> Result<Vec<Value>, AllocError>
-    requires { All (Accepts fun.now) elements.now }
+    requires { All (CanBeCalledOn fun.now) elements.now }
     ensures values { IfOk result (λ values. values.items
         ≡ flat_map (λ element. emitted_by output (slots_answer fun.now element)) elements.now) }
     ensures traps { OnOk result (traps.new.items ≡ traps.old.items
@@ -106,7 +106,7 @@ fn call_one(
     values: &mut Vec<Value>,
     traps: &mut Vec<Trap>,
 ) -> Result<(), AllocError>
-    requires { Accepts fun.now element.now }
+    requires { CanBeCalledOn fun.now element.now }
     ensures values { OnOk result (values.new.items
         ≡ values.old.items ++ emitted_by output (slots_answer fun.now element.now)) }
     ensures traps { OnOk result (traps.new.items

@@ -4,7 +4,7 @@ ghost use Rattle.std.specs.Option.{option_map};
 ghost use Rattle.flume_types.specs.Typing.{Has};
 ghost use Rattle.flume_value.specs.declared.value.Value.{Value as Value_};
 ghost use Rattle.flume_value.specs.declared.value.Value.TheVariants as variant;
-ghost use Rattle.dofn_eval.specs.Function.{Accepts};
+ghost use Rattle.dofn_eval.specs.Function.{CanBeCalledOn};
 ghost use Rattle.script_program.specs.Script.{Function as Function_};
 ghost use Rattle.script_laws.specs.WellFormed.{function_at};
 ghost use Rattle.direct_meaning.specs.Calls.{answer_of};
@@ -80,7 +80,7 @@ fn answered_on(
     fun: &Fun,
     values: &[&Value],
 ) -> Result<Result<Value, Trap>, AllocError>
-    requires { Accepts fun.now (argument_of (map (λ value. value.now) values.now)) }
+    requires { CanBeCalledOn fun.now (argument_of (map (λ value. value.now) values.now)) }
     ensures { IfOk result (λ single. option_map
         (once origin (argument_of (map (λ value. value.now) values.now)))
         (slots_answer fun.now (argument_of (map (λ value. value.now) values.now)))
@@ -112,7 +112,7 @@ fn answered_once(
     fun: &Fun,
     argument: &Value,
 ) -> Result<Result<Value, Trap>, AllocError>
-    requires { Accepts fun.now argument.now }
+    requires { CanBeCalledOn fun.now argument.now }
     ensures { IfOk result (λ single.
         option_map (once origin argument.now) (slots_answer fun.now argument.now)
         ≡ Some single) }

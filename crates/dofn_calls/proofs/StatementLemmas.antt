@@ -1,5 +1,5 @@
 -- What is used of statements where they are run.
-use Rattle.std.proofs.Common.{◌≡◌, ◌<◌, ℕ, max, List, arith, ap, ◌∙◌, subst}
+use Rattle.std.proofs.Common.{◌≡◌, ◌<◌, ℕ, max, List, arith, sym, ap, ◌∙◌, subst}
 use denote.Param.Weighed.{most}
 use Rattle.flume_value.specs.declared.value.Value.{Value}
 use Rattle.dofn_eval.specs.declared.expr.Expr.{Expr}
@@ -34,22 +34,26 @@ falls_Case s e a b is = omega (arith, sized-Case e a b, ap (λ x. size-Stmt x) i
 
 -- ---- and safe, where the statement is
 
-pub safe_If : (s : Stmt) (c : Expr) (a b : List Stmt) (env : List Value) (out : Emissions) → s
-    ≡ stmt.If c a b → IsSafe (run_one s (state env out))
-    → IsSafe (chosen (value_of c env) (run a env out) (run b env out))
-safe_If s c a b env out is h =
-    safe_then _ _ (subst IsSafe (ap (λ x. run_one x (state env out)) is
-    ∙ run_one-If c a b (state env out)) h)
+pub safe_If : (s : Stmt) (c : Expr) (a b : List Stmt) (env here : List Value) (out : Emissions)
+    → s ≡ stmt.If c a b → here ≡ env → IsSafe (run_one s (state env out))
+    → IsSafe (chosen (value_of c here) (run a here out) (run b here out))
+safe_If s c a b env here out is same h =
+    subst (λ (vs : List Value). IsSafe (chosen (value_of c vs) (run a vs out) (run b vs out)))
+    (sym same) (safe_then _ _ (subst IsSafe (ap (λ x. run_one x (state env out)) is
+    ∙ run_one-If c a b (state env out)) h))
 
-pub safe_For : (s : Stmt) (e : Expr) (a : List Stmt) (env : List Value) (out : Emissions) → s
-    ≡ stmt.For e a → IsSafe (run_one s (state env out))
-    → IsSafe (for_each (run a) (value_of e env) env out)
-safe_For s e a env out is h = safe_then _ _
-    (subst IsSafe (ap (λ x. run_one x (state env out)) is ∙ run_one-For e a (state env out)) h)
+pub safe_For : (s : Stmt) (e : Expr) (a : List Stmt) (env here : List Value) (out : Emissions)
+    → s ≡ stmt.For e a → here ≡ env → IsSafe (run_one s (state env out))
+    → IsSafe (for_each (run a) (value_of e here) here out)
+safe_For s e a env here out is same h =
+    subst (λ (vs : List Value). IsSafe (for_each (run a) (value_of e vs) vs out)) (sym same)
+    (safe_then _ _ (subst IsSafe (ap (λ x. run_one x (state env out)) is
+    ∙ run_one-For e a (state env out)) h))
 
-pub safe_Case : (s : Stmt) (e : Expr) (a b : List Stmt) (env : List Value) (out : Emissions) → s
-    ≡ stmt.Case e a b → IsSafe (run_one s (state env out))
-    → IsSafe (by_side (run a) (run b) (value_of e env) env out)
-safe_Case s e a b env out is h =
-    safe_then _ _ (subst IsSafe (ap (λ x. run_one x (state env out)) is
-    ∙ run_one-Case e a b (state env out)) h)
+pub safe_Case : (s : Stmt) (e : Expr) (a b : List Stmt) (env here : List Value) (out : Emissions)
+    → s ≡ stmt.Case e a b → here ≡ env → IsSafe (run_one s (state env out))
+    → IsSafe (by_side (run a) (run b) (value_of e here) here out)
+safe_Case s e a b env here out is same h =
+    subst (λ (vs : List Value). IsSafe (by_side (run a) (run b) (value_of e vs) vs out)) (sym same)
+    (safe_then _ _ (subst IsSafe (ap (λ x. run_one x (state env out)) is
+    ∙ run_one-Case e a b (state env out)) h))

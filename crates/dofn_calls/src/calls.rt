@@ -5,7 +5,7 @@ ghost use Rattle.flume_types.specs.Typing.{Has};
 ghost use Rattle.dofn_eval.specs.Outcome.{Gives, IsFaultIn};
 ghost use Rattle.dofn_eval.specs.Run.{means};
 ghost use Rattle.dofn_eval.specs.Answer.{OutputsHave};
-ghost use Rattle.dofn_eval.specs.Function.{FunTyped, Accepts};
+ghost use Rattle.dofn_eval.specs.Function.{FunTyped, CanBeCalledOn};
 
 use crate::lists::Lists;
 use crate::scope::Scope;
@@ -17,7 +17,7 @@ use std::alloc::Global;
 /// The emissions of a call to each output, in order, or the trap that ends it. A call that traps
 /// emits nothing.
 pub fn call(alloc: Global, f: &Fun, x: &Value) -> Result<Lists, CallFault>
-    requires { Accepts f.now x.now }
+    requires { CanBeCalledOn f.now x.now }
     ensures ok { IfOk result (λ lists. means f.now.outputs f.now.body x.now ≡ Gives lists) }
     ensures trap { IfErr result (λ fault. IsFaultIn (means f.now.outputs f.now.body x.now) fault) }
     // At whatever types the function is well typed.

@@ -15,6 +15,21 @@ use dofn_eval::{Binary, Expr};
 use flume_value::{CallFault, Pile, Value};
 use std::alloc::Global;
 
+/// What is made of two values.
+#[derive(Clone, Copy)]
+pub enum Pairing {
+    Operation(Binary),
+    /// The member of the first, a list, at the second.
+    Member,
+}
+
+/// What a test chooses.
+#[derive(Clone, Copy)]
+pub enum Branch<'a> {
+    Truth(bool),
+    Part(&'a Expr),
+}
+
 /// What the expression gives.
 #[cycle(eval)]
 pub fn eval<'a>(alloc: Global, e: &'a Expr, scope: &'a Scope<'a>) -> Result<Operand<'a>, CallFault>
@@ -40,97 +55,80 @@ pub fn eval<'a>(alloc: Global, e: &'a Expr, scope: &'a Scope<'a>) -> Result<Oper
             let x = eval(alloc, a.get(), scope)?;
             Ok(Operand::Owned(apply_one(alloc, *op, x)?))
         }
-        Expr::Binary(op, a, b) => eval_two(alloc, *op, a.get(), b.get(), scope),
-        Expr::And(a, b) => eval_and(alloc, a.get(), b.get(), scope),
-        Expr::Or(a, b) => eval_or(alloc, a.get(), b.get(), scope),
-        Expr::Index(a, b) => eval_index(alloc, a.get(), b.get(), scope),
-        Expr::Pick(c, a, b) => eval_pick(alloc, c.get(), a.get(), b.get(), scope),
+        Expr::Binary(op, a, b) => eval_two(alloc, Pairing::Operation(*op), a.get(), b.get(), scope),
+        Expr::Index(a, b) => eval_two(alloc, Pairing::Member, a.get(), b.get(), scope),
+        Expr::And(a, b) => {
+            let on_true = Branch::Part(b.get());
+            eval_chosen(alloc, a.get(), on_true, Branch::Truth(false), scope)
+        }
+        Expr::Or(a, b) => {
+            let on_false = Branch::Part(b.get());
+            eval_chosen(alloc, a.get(), Branch::Truth(true), on_false, scope)
+        }
+        Expr::Pick(c, a, b) => {
+            let on_true = Branch::Part(a.get());
+            let on_false = Branch::Part(b.get());
+            eval_chosen(alloc, c.get(), on_true, on_false, scope)
+        }
     }
 }
 
 #[cycle(eval)]
 fn eval_two<'a>(
     alloc: Global,
-    op: Binary,
+    pairing: Pairing,
     a: &'a Expr,
     b: &'a Expr,
     scope: &'a Scope<'a>,
 ) -> Result<Operand<'a>, CallFault>
-    requires { IsSafe (inner.two scope.now op a.now b.now) }
-    ensures { Evaluates content result (inner.two scope.now op a.now b.now) }
+    requires { IsSafe (inner.two scope.now pairing a.now b.now) }
+    ensures { Evaluates content result (inner.two scope.now pairing a.now b.now) }
 {
     let x = eval(alloc, a, scope)?;
-    let y = eval(alloc, b, scope)?;
-    Ok(Operand::Owned(apply_two(alloc, op, x, y)?))
-}
-
-#[cycle(eval)]
-fn eval_index<'a>(
-    alloc: Global,
-    a: &'a Expr,
-    b: &'a Expr,
-    scope: &'a Scope<'a>,
-) -> Result<Operand<'a>, CallFault>
-    requires { IsSafe (inner.index scope.now a.now b.now) }
-    ensures { Evaluates content result (inner.index scope.now a.now b.now) }
-{
-    let x = eval(alloc, a, scope)?;
-    let y = eval(alloc, b, scope)?;
-    member(x, y)
-}
-
-#[cycle(eval)]
-fn eval_and<'a>(
-    alloc: Global,
-    a: &'a Expr,
-    b: &'a Expr,
-    scope: &'a Scope<'a>,
-) -> Result<Operand<'a>, CallFault>
-    requires { IsSafe (inner.both scope.now a.now b.now) }
-    ensures { Evaluates content result (inner.both scope.now a.now b.now) }
-{
-    let x = eval(alloc, a, scope)?;
-    if is_true(x) {
-        eval(alloc, b, scope)
-    } else {
-        Ok(Operand::Owned(Value::Bool(false)))
+    match eval(alloc, b, scope) {
+        Ok(y) => match pairing {
+            Pairing::Operation(op) => Ok(Operand::Owned(apply_two(alloc, op, x, y)?)),
+            Pairing::Member => member(x, y),
+        },
+        Err(fault) => {
+            drop(x);
+            Err(fault)
+        }
     }
 }
 
 #[cycle(eval)]
-fn eval_or<'a>(
+fn eval_chosen<'a>(
     alloc: Global,
-    a: &'a Expr,
-    b: &'a Expr,
+    test: &'a Expr,
+    on_true: Branch<'a>,
+    on_false: Branch<'a>,
     scope: &'a Scope<'a>,
 ) -> Result<Operand<'a>, CallFault>
-    requires { IsSafe (inner.either scope.now a.now b.now) }
-    ensures { Evaluates content result (inner.either scope.now a.now b.now) }
+    requires { IsSafe (inner.one_of scope.now test.now on_true on_false) }
+    ensures { Evaluates content result
+        (inner.one_of scope.now test.now on_true.entry on_false.entry) }
 {
-    let x = eval(alloc, a, scope)?;
+    let x = eval(alloc, test, scope)?;
     if is_true(x) {
-        Ok(Operand::Owned(Value::Bool(true)))
+        eval_branch(alloc, on_true, scope)
     } else {
-        eval(alloc, b, scope)
+        eval_branch(alloc, on_false, scope)
     }
 }
 
 #[cycle(eval)]
-fn eval_pick<'a>(
+fn eval_branch<'a>(
     alloc: Global,
-    c: &'a Expr,
-    a: &'a Expr,
-    b: &'a Expr,
+    branch: Branch<'a>,
     scope: &'a Scope<'a>,
 ) -> Result<Operand<'a>, CallFault>
-    requires { IsSafe (inner.pick scope.now c.now a.now b.now) }
-    ensures { Evaluates content result (inner.pick scope.now c.now a.now b.now) }
+    requires { IsSafe (inner.branch scope.now branch) }
+    ensures { Evaluates content result (inner.branch scope.now branch.entry) }
 {
-    let x = eval(alloc, c, scope)?;
-    if is_true(x) {
-        eval(alloc, a, scope)
-    } else {
-        eval(alloc, b, scope)
+    match branch {
+        Branch::Truth(b) => Ok(Operand::Owned(Value::Bool(b))),
+        Branch::Part(e) => eval(alloc, e, scope),
     }
 }
 

@@ -106,14 +106,6 @@ impl Lists {
         self.first.as_slice()
     }
 
-    /// What was emitted to the first output, in order. It takes no memory.
-    pub fn into_first(self) -> Items
-        ensures { Some result ≡ slice_get self 0 }
-    {
-        let Lists { first, others: _ } = self;
-        first
-    }
-
     /// What was emitted to the first output, and to each of the others. It takes no memory.
     pub fn into_parts(self) -> (Items, Vec<Items>)
         ensures { result.0 ∷ result.1.items ≡ self }

@@ -59,7 +59,9 @@ pub fn member<'a>(x: Operand<'a>, at: Operand<'a>) -> Result<Operand<'a>, CallFa
     requires { IsSafe (member_in (content x) (content at)) }
     ensures { Evaluates content result (member_in (content x.entry) (content at.entry)) }
 {
-    member_at(x, at.get())
+    let member = member_at(x, at.get());
+    drop(at);
+    member
 }
 
 fn member_at<'a>(x: Operand<'a>, at: &Value) -> Result<Operand<'a>, CallFault>
@@ -141,7 +143,9 @@ pub fn is_true<'a>(x: Operand<'a>) -> bool
     requires { IsSafe (with_part (bool_of (content x)) Gives) }
     ensures { bool_of (content x.entry) ≡ Some result }
 {
-    test(x.get())
+    let holds = test(x.get());
+    drop(x);
+    holds
 }
 
 fn test(x: &Value) -> bool
@@ -199,7 +203,11 @@ fn of_own(alloc: Global, op: Unary, x: Value) -> Result<Value, CallFault>
     match op {
         Unary::Left => left(alloc, x),
         Unary::Right => right(alloc, x),
-        _ => of_seen(alloc, op, &x),
+        _ => {
+            let given = of_seen(alloc, op, &x);
+            drop(x);
+            given
+        }
     }
 }
 
@@ -236,20 +244,35 @@ fn integer<'a>(x: Operand<'a>) -> i64
     requires { IsSafe (with_part (int_of (content x)) Gives) }
     ensures { int_of (content x.entry) ≡ Some result }
 {
-    number(x.get())
+    let n = number(x.get());
+    drop(x);
+    n
 }
 
 fn order<'a>(x: Operand<'a>, y: Operand<'a>) -> Ordering
     ensures { result ≡ value_cmp (content x.entry) (content y.entry) }
 {
-    compare(x.get(), y.get())
+    let order = compare(x.get(), y.get());
+    drop(x);
+    drop(y);
+    order
 }
 
 fn join<'a>(alloc: Global, x: Operand<'a>, y: Operand<'a>) -> Result<Value, CallFault>
     requires { IsSafe (of_two Binary.Concat (content x) (content y)) }
     ensures { Returns result (of_two Binary.Concat (content x.entry) (content y.entry)) }
 {
-    put_behind(alloc, x.into_owned(alloc)?, y.get())
+    match x.into_owned(alloc) {
+        Ok(own) => {
+            let both = put_behind(alloc, own, y.get());
+            drop(y);
+            both
+        }
+        Err(fault) => {
+            drop(y);
+            Err(fault.into())
+        }
+    }
 }
 
 fn count(x: &Value) -> Result<Value, CallFault>

@@ -148,7 +148,11 @@ fn run_for<'a>(
     let x = eval(alloc, e, scope)?;
     match passes_to(body) {
         Some(output) => pass_on(alloc, output, x, out),
-        None => run_each(alloc, members(x.get()), &*body, &*scope, out),
+        None => {
+            let ran = run_each(alloc, members(x.get()), &*body, &*scope, out);
+            drop(x);
+            ran
+        }
     }
 }
 
@@ -185,7 +189,9 @@ fn run_case<'a>(
         (inner.run_case scope.now e.now a.now b.now out.old) }
 {
     let x = eval(alloc, e, scope)?;
-    run_side(alloc, x.get(), &*a, &*b, &*scope, out)
+    let ran = run_side(alloc, x.get(), &*a, &*b, &*scope, out);
+    drop(x);
+    ran
 }
 
 #[cycle(run)]

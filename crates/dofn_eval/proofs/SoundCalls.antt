@@ -8,7 +8,7 @@ use Rattle.dofn_eval.specs.declared.stmt.Stmt.{Stmt}
 use Rattle.dofn_eval.specs.Outcome.{Outcome, Gives, Traps, Stuck, IsSafe}
 use Rattle.dofn_eval.specs.Answer.{OutputsHave, HasAnswer}
 use Rattle.dofn_eval.specs.Run.{Emissions, means}
-use Rattle.dofn_eval.specs.Function.{Function, FunTyped, Accepts}
+use Rattle.dofn_eval.specs.Function.{Function, FunTyped, CanBeCalledOn}
 use Rattle.dofn_eval.specs.Typed.{BlockTyped}
 use Rattle.dofn_eval.proofs.SoundOutcomes.{Sound, safe_from_sound}
 use Rattle.dofn_eval.proofs.SoundBlocks.{none_yet, sound_block}
@@ -25,7 +25,7 @@ sound_fun takes gives f x d k =
     subst (λ n. Sound (OutputsHave gives) (means n f.body x)) d.1
     (sound_call takes gives f.body x d.0 k)
 
-pub safe_call : (f : Function) (x : Value) → Accepts f x → IsSafe (means f.outputs f.body x)
+pub safe_call : (f : Function) (x : Value) → CanBeCalledOn f x → IsSafe (means f.outputs f.body x)
 safe_call f x a = safe_from_sound (OutputsHave a.1) _ (sound_fun a.0 a.1 f x a.2 a.3)
 
 pub typed_call : (takes : Ty) (gives : List Ty) (f : Function) (x : Value) (lists : Emissions)

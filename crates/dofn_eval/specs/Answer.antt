@@ -22,11 +22,11 @@ abbrev pub OutputsHave : List Ty → Emissions → Type 0
 OutputsHave types lists = AllZip AllHave types lists
 
 -- what is emitted has the outputs' types
-abbrev pub AreOf : List Ty → Answer → Type 0
-AreOf types (Ok lists) = OutputsHave types lists
-AreOf types (Err kind) = Unit {0}
+abbrev pub HaveOutputTypes : List Ty → Answer → Type 0
+HaveOutputTypes types (Ok lists) = OutputsHave types lists
+HaveOutputTypes types (Err kind) = Unit {0}
 
 -- there is an answer, and what it emits has the outputs' types
 abbrev pub HasAnswer : List Ty → Outcome Emissions → Type 0
 HasAnswer types outcome =
-    (answer : Answer) × (answered outcome ≡ Some answer) × AreOf types answer
+    (answer : Answer) × (answered outcome ≡ Some answer) × HaveOutputTypes types answer

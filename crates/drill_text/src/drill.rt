@@ -61,8 +61,8 @@ fn is_among(entries: &[Entry], entry: &Entry) -> bool
 fn is_same(entry: &Entry, other: &Entry) -> bool
     ensures { result ≡ names other.now entry.now }
 {
-    entry.stage() == other.stage()
-        && entry.phase() == other.phase()
-        && entry.task() == other.task()
-        && entry.attempt() == other.attempt()
+    entry.stage == other.stage
+        && entry.phase == other.phase
+        && entry.task == other.task
+        && entry.attempt == other.attempt
 }

@@ -30,7 +30,7 @@ use Rattle.exec_graph.specs.declared.graph.Act.{Act}
 use Rattle.exec_graph.specs.declared.graph.Act.TheVariants.{SideInput, Operate, Singleton}
 use Rattle.exec_graph.specs.World.{World}
 use Rattle.exec_graph.specs.Objects.{argument, beside, act_result, naming, none_of, one_answer, one_emitted, singleton_value, only, operated, operated_on, or_of_nothing, side_input, side_input_on, unless_behind, value_in, values_in, whole_combined, with_first}
-use Rattle.exec_graph.specs.Typing.{ActTyped, Answers, IsArgument, IsRecord, IsWhole, IsWorldTyped, Signatures}
+use Rattle.exec_graph.specs.Typing.{ActTyped, EmitsTyped, IsArgument, IsRecord, IsWhole, IsWorldTyped, Signatures}
 
 -- ---- the equations
 pub barrier_side_input : (w : World) (o f : ℕ) (c object : Collection)
@@ -115,7 +115,7 @@ first_typed u [] a = absurd a
 first_typed u (vs ∷ more) a = each_from (Has u) vs a.0
 
 -- the first list of an answer of one output
-answer_first : (u : Ty) (c : Called) → Answers (u ∷ []) c → Each (Has u) (emissions 0 c)
+answer_first : (u : Ty) (c : Called) → EmitsTyped (u ∷ []) c → Each (Has u) (emissions 0 c)
 answer_first u (Ok outputs) a = first_typed u outputs a
 answer_first u (Err trap) a = tt
 
@@ -131,8 +131,8 @@ each_flat P Q f h (x ∷ xs) a = Each-append Q (f x) (flat_map f xs) (h x a.0)
 
 module _ (s : Signatures) (w : World) (world : IsWorldTyped s w) (f : ℕ) (u : Ty)
     (gives : s.gives f ≡ u ∷ []) where
-  call_has : (x : Value) → Has (s.takes f) x → Answers (u ∷ []) (w.called f x)
-  call_has x h = subst (λ ts. Answers ts (w.called f x)) gives (world.called f x h)
+  call_has : (x : Value) → Has (s.takes f) x → EmitsTyped (u ∷ []) (w.called f x)
+  call_has x h = subst (λ ts. EmitsTyped ts (w.called f x)) gives (world.called f x h)
 
   beside_has : (t object : Ty) → IsRecord (t ∷ (object ∷ [])) (s.takes f) → (v : Value)
       → Has object v → (x : Value) → Has t x
@@ -157,7 +157,7 @@ module _ (s : Signatures) (w : World) (world : IsWorldTyped s w) (f : ℕ) (u : 
   emitted_has o x vs None h e = tt
   emitted_has o x vs (Some v) h e = (only_has (Has u) vs v h e, tt)
 
-  answered_has : (o : ℕ) (x : Value) (c : Called) → Answers (u ∷ []) c
+  answered_has : (o : ℕ) (x : Value) (c : Called) → EmitsTyped (u ∷ []) c
       → Each (Has u) (one_answer o x c).bag
   answered_has o x (Ok outputs) a =
       let vs = or_none (slice_get outputs 0) in

@@ -9,6 +9,7 @@ pub mod Typed
 pub mod Spotting
 pub mod Coding
 pub mod Barriers
+pub mod ActLemmas
 pub mod Wholes
 pub mod Rooted
 pub mod OutCounts

@@ -3,7 +3,7 @@ use Rattle.std.proofs.Common.{◌≡◌, ℕ, ◌+◌, ◌<◌, ◌≤◌, Bool,
 use Rattle.std.proofs.lemmas.Bool.{eqb-true, eq-eqb, false≢true}
 use Rattle.std.proofs.lemmas.Bool.Decides.{nat_tests}
 use Rattle.std.specs.List.{AllByRecursion}
-use Rattle.exec_graph.specs.Meaning.{total, step_own, step_traps, own, traps, Agrees, KeepsMeaning, SameMeaning, through, place, IsKept, FitsForest, Holds, Meets, node_at, reads, is_out, has_out, gives, gives_at, IsThere, AllDiffer, OutsDiffer, HasOuts, IsRankedBy, IsSound, first, out_of, or_nothing, value, value_at, solve, collection}
+use Rattle.exec_graph.specs.Meaning.{total, step_own, step_traps, own, traps, Agrees, KeepsMeaning, SameMeaning, through, place, IsGivenToKept, FitsForest, Holds, Meets, node_at, reads, is_out, has_out, gives, gives_at, IsThere, AllDiffer, OutsDiffer, HasOuts, IsRankedBy, IsSound, first, out_of, or_nothing, value, value_at, solve, collection}
 use Rattle.flume_collection.specs.Collection.{Collection, together, by_key}
 use Rattle.exec_graph.specs.World.{World}
 use Rattle.exec_graph.specs.Objects.{act_result}
@@ -81,7 +81,7 @@ rest_out w v l kids rest j d a h =
     rw (e, n) refl
 
 kept_from : (m : Place → Collection) (n : ℕ) (v : Collection) (o : Option ℕ) (u : Collection)
-    → ((j : ℕ) → is_out o j ≡ true → m (place n j) ≡ u) → IsKept m n o u
+    → ((j : ℕ) → is_out o j ≡ true → m (place n j) ≡ u) → IsGivenToKept m n o u
 kept_from m n v None u h = tt
 kept_from m n v (Some j) u h = h j (eq-eqb j j refl)
 
@@ -114,12 +114,12 @@ fits_from w m n v (Grow l kids rest) d h = (
 
 -- a forest at one value has one value at each output
 pub kept_value : (m : Place → Collection) (n j : ℕ) (o : Option ℕ) (u : Collection)
-    → is_out o j ≡ true → IsKept m n o u → m (place n j) ≡ u
+    → is_out o j ≡ true → IsGivenToKept m n o u → m (place n j) ≡ u
 kept_value m n j None u h k = absurd (false≢true h)
 kept_value m n j (Some i) u h k = ap (λ (e : ℕ). m (place n e)) (sym (eqb-true i j h)) ∙ k
 
 kept_same : (m k : Place → Collection) (n j : ℕ) (o : Option ℕ) (u : Collection) → is_out o j ≡ true
-    → IsKept m n o u → IsKept k n o u → k (place n j) ≡ m (place n j)
+    → IsGivenToKept m n o u → IsGivenToKept k n o u → k (place n j) ≡ m (place n j)
 kept_same m k n j None u h a b = absurd (false≢true h)
 kept_same m k n j (Some i) u h a b = ap (λ (e : ℕ). k (place n e)) (sym (eqb-true i j h)) ∙ b
     ∙ sym a ∙ ap (λ (e : ℕ). m (place n e)) (eqb-true i j h)

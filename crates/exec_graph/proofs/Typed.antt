@@ -31,7 +31,7 @@ use Rattle.exec_graph.specs.World.{World}
 use Rattle.exec_graph.specs.Calls.{called, emitted, given, of_combine, of_group}
 use Rattle.exec_graph.specs.Forests.{Label, Forest, Bare, Grow}
 use Rattle.exec_graph.specs.Meaning.{collection, through, place, is_out, has_out, FitsForest, Holds, Meets, IsThere, IsRankedBy, IsSound, gives, reads}
-use Rattle.exec_graph.specs.Typing.{Signatures, StepTyped, OutTyped, ForestTyped, NodeTyped, IsTypedBy, IsWorldTyped, IsCombined, IsGrouped, Answers}
+use Rattle.exec_graph.specs.Typing.{Signatures, StepTyped, OutTyped, ForestTyped, NodeTyped, IsTypedBy, IsWorldTyped, IsCombined, IsGrouped, EmitsTyped}
 use Rattle.exec_graph.proofs.Entries.{all_found}
 use Rattle.exec_graph.proofs.Barriers.{AllGood, barrier_typed}
 use Rattle.exec_graph.proofs.Bools.{or_cases}
@@ -58,7 +58,7 @@ output_typed (t ∷ ts) (vs ∷ more) zero u a e =
     subst (λ r. Each (Has r) vs) same (each_from (Has t) vs a.0)
 output_typed (t ∷ ts) (vs ∷ more) (suc n) u a e = output_typed ts more n u a.1 e
 
-answer_typed : (gives : List Ty) (c : Called) (n : ℕ) (u : Ty) → Answers gives c
+answer_typed : (gives : List Ty) (c : Called) (n : ℕ) (u : Ty) → EmitsTyped gives c
     → slice_get gives n ≡ Some u → Each (Has u) (emissions n c)
 answer_typed gives (Ok outputs) n u a e = output_typed gives outputs n u a e
 answer_typed gives (Err trap) n u a e = tt

@@ -1,21 +1,18 @@
 -- In a well-formed graph an object is one value without a trap, or no value and a trap.
-use Rattle.std.proofs.Common.{◌≡◌, ℕ, zero, suc, ◌<◌, Bool, true, List, [], ◌∷◌, ◌++◌, map, Option, Some, None, Result, Ok, Err, inl, inr, ◌⊎◌, refl, sym, ap, ◌∙◌, subst, arith}
+use Rattle.std.proofs.Common.{◌≡◌, ℕ, zero, suc, ◌<◌, Bool, true, List, [], ◌∷◌, ◌++◌, map, Option, Some, None, inl, inr, ◌⊎◌, refl, sym, ap, ◌∙◌, subst, arith}
 use Rattle.std.specs.Prelude.{option_map}
-use Rattle.std.specs.List.{AllByRecursion as Each, flat_map, list_all, slice_get}
+use Rattle.std.specs.List.{AllByRecursion as Each, flat_map, list_all}
 use Rattle.std.specs.Option.{option_and_then}
 use Rattle.std.proofs.lemmas.Bool.{eqb-true, false≢true}
 use Rattle.flume_value.specs.declared.value.Value.{Value}
-use Rattle.flume_value.specs.declared.fault.Kind.{Kind}
 use Rattle.flume_value.specs.Bag.{bag_of}
 use Rattle.flume_value.proofs.BoolLemmas.{both_true}
 use Rattle.flume_value.proofs.EachLemmas.{Each-both}
 use Rattle.flume_collection.specs.of_bag_groups.Pairs.{value_of}
 use Rattle.combine_table.specs.declared.comb.Comb.{Comb}
-use Rattle.combine_table.specs.Combinations.{combined}
 use Rattle.flume_collection.specs.declared.trap.Trap.{Trap}
 use Rattle.flume_collection.specs.Traps.{trap_le, trap_set}
 use Rattle.flume_collection.specs.Collection.{Collection}
-use Rattle.flume_collection.specs.Calls.{Called, or_none}
 use Rattle.flume_collection.proofs.Members.{no_members}
 use Rattle.flume_collection.proofs.Orders.{trap_order}
 use Rattle.exec_graph.specs.declared.graph.Act.{Act}
@@ -27,8 +24,9 @@ use Rattle.exec_graph.specs.declared.graph.Entry.{Entry}
 use Rattle.exec_graph.specs.declared.graph.Graph.{Graph}
 use Rattle.exec_graph.specs.World.{World}
 use Rattle.exec_graph.specs.Meaning.{collection, place, Holds, Meets, IsThere, IsRankedBy, IsSound, gives, reads}
-use Rattle.exec_graph.specs.Objects.{IsObject, argument, gives_object, value_object, trap_object, act_result, none_of, one_answer, one_emitted, singleton_value, only, operated, operated_on, or_of_nothing, takes_such, unless_behind, value_in, values_in, whole_combined, with_first}
+use Rattle.exec_graph.specs.Objects.{IsObject, argument, gives_object, value_object, trap_object, act_result, none_of, singleton_value, only, operated, operated_on, or_of_nothing, takes_such, unless_behind, value_in, values_in, with_first}
 use Rattle.exec_graph.specs.Wellformed.{HasOneRow, HaveOneRow, IsGraphOk, has_objects, is_object, is_object_at}
+use Rattle.exec_graph.proofs.ActLemmas.{answer_holds, nothing_holds}
 use Rattle.exec_graph.proofs.Entries.{all_found}
 use Rattle.exec_graph.proofs.Solving.{collection_meets, ranked_at, there_found}
 use Rattle.exec_graph.proofs.Soundness.{IsSound-ok}
@@ -116,31 +114,16 @@ all_valued [] a = inl ([], refl)
 all_valued (c ∷ cs) a = object_valued c cs a.0 (all_valued cs a.1)
 
 -- ---- what is made
-emitted_object : (o : ℕ) (x : Value) (a : Option Value) → IsObject (one_emitted o x a)
-emitted_object o x None = trap_is_object _
-emitted_object o x (Some v) = value_is_object v
-
-answer_object : (o : ℕ) (x : Value) (c : Called) → IsObject (one_answer o x c)
-answer_object o x (Ok outputs) = emitted_object o x (only (or_none (slice_get outputs 0)))
-answer_object o x (Err trap) = trap_is_object _
-
 operated_object : (w : World) (o f : ℕ) (cs : List Collection) → Each IsObject cs
     → IsObject (operated w o f cs)
 operated_object w o f cs a = by (all_valued cs a)
   where
     by : Valued cs → IsObject (operated_on w o f (values_in cs) cs)
     by (inl h) = subst (λ v. IsObject (operated_on w o f v cs)) (sym h.1)
-        (answer_object o (argument h.0) (w.called f (argument h.0)))
+        (answer_holds IsObject value_is_object trap_is_object o (argument h.0)
+        (w.called f (argument h.0)))
     by (inr h) = subst (λ v. IsObject (operated_on w o f v cs)) (sym h.0)
         (empty_object (flat_map (λ (c : Collection). c.traps) cs) h.1.0 h.1.1.0 h.1.1.1)
-
-combined_object : (o : ℕ) (r : Result Value Kind) → IsObject (whole_combined o r)
-combined_object o (Ok v) = value_is_object v
-combined_object o (Err k) = trap_is_object _
-
-nothing_object : (o : ℕ) (k : Comb) (a : Option Value) → IsObject (or_of_nothing o k a)
-nothing_object o k None = combined_object o (combined k [])
-nothing_object o k (Some v) = value_is_object v
 
 one_object : (o : ℕ) (k : Comb) (c : Collection) → IsObject (singleton_value o k c)
 one_object o k c = by c.traps refl
@@ -149,7 +132,9 @@ one_object o k c = by c.traps refl
     some = or_of_nothing o k (option_and_then value_of (only c.bag))
 
     by : (ts : List Trap) → c.traps ≡ ts → IsObject (unless_behind ts (none_of (c ∷ [])) some)
-    by [] e = nothing_object o k (option_and_then value_of (only c.bag))
+    by [] e =
+        nothing_holds IsObject value_is_object trap_is_object o k
+        (option_and_then value_of (only c.bag))
     by (t ∷ ts) e = empty_object (c.traps ++ []) t (ts ++ [])
         (ap (λ (us : List Trap). us ++ []) e)
 

@@ -29,15 +29,15 @@ abbrev pub place : ℕ → ℕ → Place
 place n j = record { node = n; out = j }
 
 -- where a step keeps an output, m says of it what the step gives
-abbrev pub IsKept : (Place → Collection) → ℕ → Option ℕ → Collection → Type 0
-IsKept m n None u = Unit {0}
-IsKept m n (Some j) u = m (place n j) ≡ u
+abbrev pub IsGivenToKept : (Place → Collection) → ℕ → Option ℕ → Collection → Type 0
+IsGivenToKept m n None u = Unit {0}
+IsGivenToKept m n (Some j) u = m (place n j) ≡ u
 
 -- m says of all kept outputs of a forest over v what their steps give
 abbrev pub FitsForest : World → (Place → Collection) → ℕ → Collection → Forest → Type 0
 FitsForest w m n v Bare = Unit {0}
 FitsForest w m n v (Grow l kids rest) =
-    IsKept m n l.out (through w l v)
+    IsGivenToKept m n l.out (through w l v)
     × FitsForest w m n (through w l v) kids × FitsForest w m n v rest
 
 -- m says of the outputs of node n what the node gives

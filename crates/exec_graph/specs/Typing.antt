@@ -149,11 +149,11 @@ KeepsTypes g h = (s : Signatures) → IsTyped s g → IsTyped s h
 -- ---- worlds
 
 -- a call gives emissions of its outputs' types, or it traps
-abbrev pub Answers : List Ty → Called → Type 0
-Answers gives (Ok outputs) = AllZip AllHave gives outputs
-Answers gives (Err trap) = Unit {0}
+abbrev pub EmitsTyped : List Ty → Called → Type 0
+EmitsTyped gives (Ok outputs) = AllZip AllHave gives outputs
+EmitsTyped gives (Err trap) = Unit {0}
 
 -- rows have their input's type, and functions answer by their signatures
 pub record IsWorldTyped (s : Signatures) (w : World) : Type 0 where
   pub rows : (r : ℕ) → AllHave (s.inputs r) (w.rows r)
-  pub called : (f : ℕ) (x : Value) → Has (s.takes f) x → Answers (s.gives f) (w.called f x)
+  pub called : (f : ℕ) (x : Value) → Has (s.takes f) x → EmitsTyped (s.gives f) (w.called f x)

@@ -118,11 +118,8 @@ HaveOneRow w es = AllByRecursion (λ e. HasOneRow w e.node) es
 
 -- a Pdo counts once for each step
 abbrev pub size : Node → ℕ
-size (Source r) = 1
-size (Flatten ins) = 1
 size (Pdo c f) = steps f
-size (Gbk c o l k) = 1
-size (Barrier ins o l a) = 1
+size _ = 1
 
 abbrev pub total_size : List Entry → ℕ
 total_size [] = 0

@@ -70,15 +70,15 @@ pub record GroupTyped (s : Signatures) (types : PlanPlace → Ty) (outs : Place 
   pub grouped : IsGrouped pairs groups
   pub reduced : ChannelTyped s (types_from types k g.first) 0 groups g.does
 
-abbrev pub OutTyped : Signatures → (PlanPlace → Ty) → (Place → Ty) → ℕ → OutChannel → Type 0
-OutTyped s types outs k (Group g) = GroupTyped s types outs k g
-OutTyped s types outs k (Pass i n) = types (at.Result k n) ≡ take_type outs i
+abbrev pub OutChannelTyped : Signatures → (PlanPlace → Ty) → (Place → Ty) → ℕ → OutChannel → Type 0
+OutChannelTyped s types outs k (Group g) = GroupTyped s types outs k g
+OutChannelTyped s types outs k (Pass i n) = types (at.Result k n) ≡ take_type outs i
 
 pub record MscrTyped (s : Signatures) (types : PlanPlace → Ty) (k : ℕ) (m : Channels) : Type 0 where
   -- the types of the outputs of input channels, by channel and output
   pub outs : Place → Ty
   pub inputs : InsTyped s types outs 0 m.inputs
-  pub outputs : AllByRecursion (OutTyped s types outs k) m.outputs
+  pub outputs : AllByRecursion (OutChannelTyped s types outs k) m.outputs
 
 -- the types of what stage k reads and gives fit the stage
 abbrev pub StageTyped : Signatures → (PlanPlace → Ty) → ℕ → Stage → Type 0

@@ -15,9 +15,11 @@
 #![tactic(auto)]
 
 mod laws;
+mod outs;
 mod plan;
 
 pub use combine_table::flume_value;
 pub use exec_graph;
 pub use laws::meaning_law;
+pub use outs::outs_of;
 pub use plan::{Grouping, InChannel, Mscr, OutChannel, Plan, PlanPlace, Stage, Take};

@@ -38,8 +38,7 @@ module _ (line : ℕ) where
 
   pub type_of-step : (e : Expr) (s : Sight)
       → type_of line e s ≡ layer_type line (type_of line) (out-Expr e) s
-  type_of-step e s =
-      ap (λ f. f s) (fold_out-Expr (Sight → Checked Ty) (layer_type line (λ m. m)) e)
+  type_of-step e s = (λ i. fold_out-Expr _ (layer_type line (λ m. m)) e i s)
       ∙ type_mapped (type_of line) (out-Expr e) s
 
 module _ (line : ℕ) (known : Named Ty) where
@@ -54,7 +53,5 @@ module _ (line : ℕ) (known : Named Ty) where
 
   pub given_in-step : (e : Expr) (env : Environment)
       → given_in line known e env ≡ layer_given line known (given_in line known) (out-Expr e) env
-  given_in-step e env =
-      ap (λ f. f env)
-      (fold_out-Expr (Environment → Outcome Thing) (layer_given line known (λ m. m)) e)
+  given_in-step e env = (λ i. fold_out-Expr _ (layer_given line known (λ m. m)) e i env)
       ∙ expr_mapped (given_in line known) (out-Expr e) env

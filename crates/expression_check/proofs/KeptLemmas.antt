@@ -10,7 +10,7 @@ use Rattle.expression_types.proofs.of_written_types.NamedLemmas.{below-push, pus
 use Rattle.expression_check.specs.declared.typed.Operand.{Operand}
 use Rattle.expression_types.specs.Held.{AreTypes}
 use Rattle.expression_types.specs.Sight.{Sight}
-use Rattle.expression_check.specs.Slots.{Typed, operand, pair_slots, all_slots, pick, pick_slots, slots_of}
+use Rattle.expression_check.specs.Slots.{SlotsAndType, operand, pair_slots, all_slots, pick, pick_slots, slots_of}
 
 pub operand-kept : (old new : List Ty) → Extends old new → (made : Operand)
     → made.ty < length old → operand new made ≡ operand old made
@@ -35,7 +35,7 @@ within-push = below-push (λ id. id)
 -- ---- parts, from the left
 
 pub next-part : (line : ℕ) (parts : List Expr) (i : ℕ) (part : Expr) (s : Sight)
-    (slots : List Slots) (types : List Ty) (x : Typed) → i < length parts
+    (slots : List Slots) (types : List Ty) (x : SlotsAndType) → i < length parts
     → part ≡ get_or parts i part → slots_of line part s ≡ Ok x
     → all_slots (slots_of line) (drop (i + 1) parts) s (slots ++ x.0 ∷ []) (types ++ x.1 ∷ [])
     ≡ all_slots (slots_of line) (drop i parts) s slots types
@@ -45,7 +45,8 @@ next-part line parts i part s slots types x in_ is one =
     ∙ ap (λ r. r >>= λ x. all_slots (slots_of line) (drop (i + 1) parts) s (slots ++ x.0 ∷ [])
     (types ++ x.1 ∷ [])) one)
 
-pub picked-is : (line : ℕ) (c a b : Expr) (s t : Sight) (x y : Typed) (both : Typed × Typed)
+pub picked-is : (line : ℕ) (c a b : Expr) (s t : Sight) (x y : SlotsAndType)
+    (both : SlotsAndType × SlotsAndType)
     → slots_of line c s ≡ Ok x → t ≡ s → pair_slots (slots_of line) a b t ≡ Ok both → y ≡ x
     → pick_slots line (slots_of line) c a b s ≡ pick line y both.0 both.1
 picked-is line c a b s t x y both test same parts kept =

@@ -22,7 +22,7 @@ use Rattle.expression_types.specs.Fields.{record_fields, named_field}
 use Rattle.expression_types.specs.Types.{place_under}
 use Rattle.expression_check.specs.Given.{Thing, tagged, with_type, dotted}
 use Rattle.expression_types.specs.Places.{further, place_in}
-use Rattle.expression_check.specs.Slots.{Typed, literal, variable, field}
+use Rattle.expression_check.specs.Slots.{SlotsAndType, literal, variable, field}
 use Rattle.expression_check.specs.Right.{types, bound, IsRight}
 use Rattle.expression_types.proofs.TypeLemmas.{there_is, shallow_is, record_type_is}
 use Rattle.expression_check.proofs.OutcomeLemmas.{Giving, same_one, right_made}
@@ -138,7 +138,7 @@ under_is line name (Some fs) at e = (fs, refl, there_is line Unknown (named_fiel
 abbrev part_of : List ℕ → Value → List (Field Ty) → Outcome Thing
 part_of name v fs = with_part (named_field name 0 fs) (λ at. tagged at.1 (field_in at.0 v))
 
-pub right_field : (line : ℕ) (name : List ℕ) (names : Newest Ty) (o : Checked Typed)
+pub right_field : (line : ℕ) (name : List ℕ) (names : Newest Ty) (o : Checked SlotsAndType)
     (type : Checked Ty) (given : Giving) → IsRight names o type given
     → IsRight names (o >>= λ x. field line name x)
     (type >>= λ t. place_under line name t >>= λ at. Ok at.1)

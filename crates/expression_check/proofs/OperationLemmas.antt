@@ -21,7 +21,7 @@ use Rattle.expression_types.specs.Sight.{Newest}
 use Rattle.expression_types.specs.Operators.{one, side_of}
 use Rattle.expression_types.specs.Types.{unary_type, binary_type, index_type, pick_type, either_of}
 use Rattle.expression_check.specs.Given.{tagged, typed, valued, operated}
-use Rattle.expression_check.specs.Slots.{Typed, operation, unary, binary, index, sided, pick}
+use Rattle.expression_check.specs.Slots.{SlotsAndType, operation, unary, binary, index, sided, pick}
 use Rattle.expression_check.specs.Right.{types, IsRight}
 use Rattle.expression_types.proofs.TypeLemmas.{there_is, shallow_is, unary_typed, bools_are, two_typed, index_is, pick_is, side_typed}
 use Rattle.expression_check.proofs.OutcomeLemmas.{Giving, tagged_both, tagged_chosen, same_one, right_made}
@@ -29,7 +29,7 @@ use Rattle.expression_check.proofs.OutcomeLemmas.{Giving, tagged_both, tagged_ch
 -- ---- operations
 
 module _ (line : ℕ) where
-  pub right_unary : (op : Unary) (names : Newest Ty) (o : Checked Typed) (type : Checked Ty)
+  pub right_unary : (op : Unary) (names : Newest Ty) (o : Checked SlotsAndType) (type : Checked Ty)
       (given : Giving) → IsRight names o type given
       → IsRight names (o >>= λ x. unary line op x)
       (type >>= λ t. or_fault line Mistyped (unary_type op t))
@@ -45,7 +45,7 @@ module _ (line : ℕ) where
             (λ v. ap (λ w. typed w (of_one (one op) v)) is) (value_of-Unary (one op) x.0),
       ))
 
-  pub right_side : (s : Side) (other : Ty) (names : Newest Ty) (o : Checked Typed)
+  pub right_side : (s : Side) (other : Ty) (names : Newest Ty) (o : Checked SlotsAndType)
       (type : Checked Ty)
       (given : Giving) → IsRight names o type given
       → IsRight names (o >>= λ x. sided line s other x)
@@ -97,11 +97,12 @@ operated_same (Two op) a b t u w e vs =
     tagged_both t u w (value_of a vs) (value_of b vs) _ (of_two op)
     (λ v x. ap (λ o. typed o (of_two op v x)) e) ∙ ap (tagged w) (sym (value_of-Binary op a b vs))
 
-abbrev paired : Checked Typed → Checked Typed → Checked (Typed × Typed)
+abbrev paired : Checked SlotsAndType → Checked SlotsAndType → Checked (SlotsAndType × SlotsAndType)
 paired o p = o >>= λ x. p >>= λ y. Ok (x, y)
 
 module _ (line : ℕ) where
-  pub right_binary : (op : Operator) (names : Newest Ty) (o p : Checked Typed) (s r : Checked Ty)
+  pub right_binary : (op : Operator) (names : Newest Ty) (o p : Checked SlotsAndType)
+      (s r : Checked Ty)
       (g h : Giving) → IsRight names o s g → IsRight names p r h
       → IsRight names (paired o p >>= λ both. binary line op both.0 both.1)
       (s >>= λ t. r >>= λ u. or_fault line Mistyped (binary_type op t u))
@@ -118,7 +119,8 @@ module _ (line : ℕ) where
         λ vs. (λ i. operated op (a.2 vs i) (b.2 vs i)) ∙ operated_same op x.0 y.0 x.1 y.1 w is vs,
       ))
 
-  pub right_index : (names : Newest Ty) (o p : Checked Typed) (s r : Checked Ty) (g h : Giving)
+  pub right_index : (names : Newest Ty) (o p : Checked SlotsAndType) (s r : Checked Ty)
+      (g h : Giving)
       → IsRight names o s g → IsRight names p r h
       → IsRight names (paired o p >>= λ both. index line both.0 both.1)
       (s >>= λ t. r >>= λ u. or_fault line Mistyped (index_type t u))
@@ -141,7 +143,8 @@ module _ (line : ℕ) where
             ∙ ap (tagged w) (sym (value_of-Index x.0 y.0 vs)),
       ))
 
-  pub right_pick : (names : Newest Ty) (n o p : Checked Typed) (q s r : Checked Ty) (f g h : Giving)
+  pub right_pick : (names : Newest Ty) (n o p : Checked SlotsAndType) (q s r : Checked Ty)
+      (f g h : Giving)
       → IsRight names n q f → IsRight names o s g → IsRight names p r h
       → IsRight names (n >>= λ c. paired o p >>= λ both. pick line c both.0 both.1)
       (q >>= λ t. s >>= λ u. r >>= λ w. or_fault line Mistyped (pick_type t u w))

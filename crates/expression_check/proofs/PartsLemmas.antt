@@ -23,7 +23,7 @@ use Rattle.expression_types.specs.Sight.{Newest}
 use Rattle.expression_types.specs.Fields.{are_different, fields_of}
 use Rattle.expression_types.specs.Types.{is_same, record_type, list_type}
 use Rattle.expression_check.specs.Given.{Thing, Environment, tagged, recorded, listed}
-use Rattle.expression_check.specs.Slots.{Typed, fields, members}
+use Rattle.expression_check.specs.Slots.{SlotsAndType, fields, members}
 use Rattle.expression_check.specs.Right.{types, bound, IsRight}
 use Rattle.expression_types.proofs.TypeLemmas.{shallow_is}
 use Rattle.expression_check.proofs.OutcomeLemmas.{Giving, right_made}
@@ -57,7 +57,8 @@ no_parts names ks ts = (
 abbrev in_front : Checked Ty → Checked (List Ty) → Checked (List Ty)
 in_front type all = type >>= λ t. all >>= λ us. Ok (t ∷ us)
 
-module _ (names : Newest Ty) (ks : List Slots) (ts : List Ty) (x : Typed) (rest : AllGiving) where
+module _ (names : Newest Ty) (ks : List Slots) (ts : List Ty) (x : SlotsAndType)
+    (rest : AllGiving) where
   part_goes : (more : List Slots) (us : List Ty) (vs : List Value) (before : List Ty)
       (made : List Value)
       → ((b : List Ty) (m : List Value) → rest (bound names vs) b m
@@ -91,7 +92,7 @@ module _ (names : Newest Ty) (ks : List Slots) (ts : List Ty) (x : Typed) (rest 
         ∙ part_goes more us vs before made (gv vs) (value_of x.0 vs),
   )
 
-pub parts_more : (names : Newest Ty) (ks : List Slots) (ts : List Ty) (o : Checked Typed)
+pub parts_more : (names : Newest Ty) (ks : List Slots) (ts : List Ty) (o : Checked SlotsAndType)
     (type : Checked Ty) (given : Giving)
     (found : List Slots → List Ty → Checked (List Slots × List Ty)) (all : Checked (List Ty))
     (rest : AllGiving) → IsRight names o type given

@@ -14,10 +14,10 @@ use Rattle.expression_types.specs.Operators.{operator, concat, side_of}
 use Rattle.expression_types.specs.Types.{either_of}
 use Rattle.expression_check.specs.Types.{all_types, layer_type, type_of}
 use Rattle.expression_check.specs.Given.{tagged, with_type, all_given, layer_given, given_in}
-use Rattle.expression_check.specs.Slots.{Typed, all_slots, sided, layer_slots, slots_of}
+use Rattle.expression_check.specs.Slots.{SlotsAndType, all_slots, sided, layer_slots, slots_of}
 use Rattle.expression_check.specs.Right.{IsRight, IsRightExpr}
 use Rattle.expression_check.proofs.FormLemmas.{type_of-step, given_in-step}
-use Rattle.expression_check.proofs.SlotLemmas.{slots_of-step}
+use Rattle.expression_check.proofs.SlotLemmas.{slots_at}
 use Rattle.expression_check.proofs.OutcomeLemmas.{Giving}
 use Rattle.expression_check.proofs.OperationLemmas.{right_unary, right_side, right_binary, right_index, right_pick}
 use Rattle.expression_check.proofs.NameLemmas.{right_name, right_field, number_by, text_right, bool_right, empty_by}
@@ -43,7 +43,7 @@ module _ (line : ℕ) where
       (all_types (type_of line) (map plain es) s) (all_given (given_in line s.known) (map plain es))
       (p.1 s) (right_all es s)
 
-  written_by : (o : Checked Ty) (side : Side) (names : Newest Ty) (found : Checked Typed)
+  written_by : (o : Checked Ty) (side : Side) (names : Newest Ty) (found : Checked SlotsAndType)
       (type : Checked Ty) (given : Giving) → IsRight names found type given
       → IsRight names (o >>= λ other. found >>= λ x. sided line side other x)
       (o >>= λ other. type >>= λ t. shallow line (either_of side other t))
@@ -95,14 +95,14 @@ module _ (line : ℕ) where
       IsRight s.names (layer_slots line (slots_of line) z s) (layer_type line (type_of line) z s)
       (λ env. layer_given line s.known (given_in line s.known) z env)
 
-  abbrev AsFound : Newest Ty → Checked Typed × Checked Ty × Giving → Type 0
+  abbrev AsFound : Newest Ty → Checked SlotsAndType × Checked Ty × Giving → Type 0
   AsFound names q = IsRight names q.0 q.1 q.2
 
   from_form : (e : Expr) (s : Sight) → AtForm s (out-Expr e) → IsRightExpr line e s
   from_form e s h =
       subst (AsFound s.names)
       (λ i. (
-        sym (slots_of-step line e s) i,
+        sym (slots_at line e (out-Expr e) s refl) i,
         sym (type_of-step line e s) i,
         λ env. sym (given_in-step line s.known e env) i,
       )) h

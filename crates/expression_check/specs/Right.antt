@@ -10,7 +10,7 @@ use Rattle.expression_types.specs.of_written_types.Answer.{Checked}
 use Rattle.expression_types.specs.Sight.{Newest, Sight}
 use Rattle.expression_check.specs.Types.{type_of}
 use Rattle.expression_check.specs.Given.{Thing, Environment, tagged, given_in}
-use Rattle.expression_check.specs.Slots.{Typed, slots_of}
+use Rattle.expression_check.specs.Slots.{SlotsAndType, slots_of}
 
 -- the types of names
 abbrev pub types : Newest Ty → List Ty
@@ -24,7 +24,7 @@ bound ((name, type) ∷ names) [] = []
 bound ((name, type) ∷ names) (v ∷ vs) = (name, (type, v)) ∷ bound names vs
 
 -- the slots have the type, and give what is given; where there is a fault it is that of the type
-abbrev pub IsRight : Newest Ty → Checked Typed → Checked Ty → (Environment → Outcome Thing) →
+abbrev pub IsRight : Newest Ty → Checked SlotsAndType → Checked Ty → (Environment → Outcome Thing) →
     Type 0
 IsRight names (Err e) type given = type ≡ Err e
 IsRight names (Ok x) type given =

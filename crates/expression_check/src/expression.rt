@@ -10,7 +10,7 @@ use crate::forms::{
 };
 use crate::typed::{AllTyped, Operand, Pair, Typed};
 use dofn_eval::Binary;
-use expression_types::{Operator, Scope, operator_of};
+use expression_types::{Half, Operator, Scope, operator_of};
 use flume_grammar::{Expr, ScriptFault, Side, Type, Unary};
 use flume_value::{Pile, Str};
 use std::alloc::Global;
@@ -172,7 +172,7 @@ fn one_side(
 {
     let other = scope.written(alloc, line, written)?;
     let x = operand_of(alloc, line, part, scope)?;
-    sided(line, s, other, x, scope)
+    sided(line, Half { side: s, other }, x, scope)
 }
 
 #[cycle(resolve)]
@@ -192,7 +192,7 @@ fn picked(
 {
     let test = operand_of(alloc, line, c, scope)?;
     let both = pair(alloc, line, a, b, scope)?;
-    pick(line, test, both.first, both.second, scope.types())
+    pick(line, test, both, scope.types())
 }
 
 // A part as an operand.

@@ -13,14 +13,14 @@ use crate::typed::{AllTyped, Operand, Pair, Typed};
 use dofn_eval::Expr as Slots;
 use expression_types::written_types::refused;
 use expression_types::{
-    Operator, Scope, Sides, binary_type, index_type, list_of, list_type, one, pick_type,
+    Half, Operator, Scope, Sides, binary_type, index_type, list_of, list_type, one, pick_type,
     place_under, record_type, side_of, side_type, unary_type,
 };
-use flume_grammar::{ScriptFault, ScriptKind, Side, Type, Unary};
+use flume_grammar::{ScriptFault, ScriptKind, Type, Unary};
 use flume_value::{Held, Pile, Str, Value};
 use int_text::int_of_text;
 use std::alloc::Global;
-use type_table::{Shape, TypeId, Types};
+use type_table::{Shape, Types};
 
 pub fn number(line: u32, digits: &Str, scope: &mut Scope) -> Result<Typed, ScriptFault>
     ensures gives { Gives (spec.typed scope.new.types) result
@@ -209,46 +209,40 @@ pub fn list(line: u32, all: AllTyped, scope: &mut Scope) -> Result<Typed, Script
     })
 }
 
-pub fn sided(
-    line: u32,
-    side: Side,
-    other: TypeId,
-    x: Operand,
-    scope: &mut Scope,
-) -> Result<Typed, ScriptFault>
-    requires other_in { other < length scope.old.types }
+pub fn sided(line: u32, half: Half, x: Operand, scope: &mut Scope) -> Result<Typed, ScriptFault>
+    requires other_in { half.other < length scope.old.types }
     requires x_in { x.ty < length scope.old.types }
-    ensures gives { Gives (spec.typed scope.new.types) result
-        (spec.sided line side (type_at scope.old.types other) (spec.operand scope.old.types x)) }
+    ensures gives { Gives (spec.typed scope.new.types) result (spec.sided line half.side
+        (type_at scope.old.types half.other) (spec.operand scope.old.types x)) }
     ensures within { IfOk result (λ made. made.ty < length scope.new.types) }
     ensures extends { Extends scope.old.types scope.new.types }
     ensures sight { scope.new.sight ≡ scope.old.sight }
 {
-    let ty = side_type(line, side, other, x.ty, scope)?;
+    let side = half.side;
+    let ty = side_type(line, half, x.ty, scope)?;
     Ok(Typed {
         expr: Slots::Unary(side_of(side), x.expr),
         ty,
     })
 }
 
-pub fn pick(
-    line: u32,
-    test: Operand,
-    x: Operand,
-    y: Operand,
-    types: &Types,
-) -> Result<Typed, ScriptFault>
+pub fn pick(line: u32, test: Operand, both: Pair, types: &Types) -> Result<Typed, ScriptFault>
     requires test_in { test.ty < length types.now }
-    requires first { x.ty < length types.now }
-    requires second { y.ty < length types.now }
+    requires first { both.first.ty < length types.now }
+    requires second { both.second.ty < length types.now }
     ensures gives { Gives (spec.typed types.now) result
-        (spec.pick line (spec.operand types.now test) (spec.operand types.now x)
-        (spec.operand types.now y)) }
+        (spec.pick line (spec.operand types.now test) (spec.operand types.now both.first)
+        (spec.operand types.now both.second)) }
     ensures within { IfOk result (λ made. made.ty < length types.now) }
 {
-    let ty = pick_type(line, test.ty, x.ty, y.ty, types)?;
+    let Pair { first, second } = both;
+    let sides = Sides {
+        left: first.ty,
+        right: second.ty,
+    };
+    let ty = pick_type(line, test.ty, sides, types)?;
     Ok(Typed {
-        expr: Slots::Pick(test.expr, x.expr, y.expr),
+        expr: Slots::Pick(test.expr, first.expr, second.expr),
         ty,
     })
 }

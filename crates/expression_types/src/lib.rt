@@ -20,5 +20,5 @@ pub use operator::{Operator, one, operator_of, side_of};
 pub use parts::{Sides, member_of, place_under, sides_of};
 pub use record::{list_type, record_type};
 pub use scope::{Found, Scope};
-pub use types::{binary_type, index_type, list_of, pick_type, side_type, unary_type};
+pub use types::{Half, binary_type, index_type, list_of, pick_type, side_type, unary_type};
 pub use written_types;

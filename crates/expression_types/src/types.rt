@@ -53,11 +53,10 @@ fn where_true(line: u32, test: bool, shape: Shape, scope: &mut Scope) -> Result<
     ensures extends { Extends scope.old.types scope.new.types }
     ensures sight { scope.new.sight ≡ scope.old.sight }
 {
-    if test {
-        Ok(scope.intern(shape)?)
-    } else {
-        Err(refused(line, ScriptKind::Mistyped))
+    if !test {
+        return Err(refused(line, ScriptKind::Mistyped));
     }
+    Ok(scope.intern(shape)?)
 }
 
 fn words_type(line: u32, id: TypeId, scope: &mut Scope) -> Result<TypeId, ScriptFault>
@@ -90,7 +89,17 @@ pub fn binary_type(
     match op {
         Operator::And => of_bools(line, sides, scope),
         Operator::Or => of_bools(line, sides, scope),
-        Operator::Two(op) => two_type(line, op, sides, scope),
+        Operator::Two(op) => match op {
+            Binary::Arithmetic(_) => {
+                let test = is_int(scope.types(), sides.left) && is_int(scope.types(), sides.right);
+                where_true(line, test, Shape::Int, scope)
+            }
+            Binary::Comparison(_) => {
+                let test = scope.types().same(sides.left, sides.right);
+                where_true(line, test, Shape::Bool, scope)
+            }
+            Binary::Concat => joined(line, sides, scope.types()),
+        },
     }
 }
 
@@ -104,27 +113,6 @@ fn of_bools(line: u32, sides: Sides, scope: &mut Scope) -> Result<TypeId, Script
 {
     let test = is_bool(scope.types(), sides.left) && is_bool(scope.types(), sides.right);
     where_true(line, test, Shape::Bool, scope)
-}
-
-fn two_type(line: u32, op: Binary, sides: Sides, scope: &mut Scope) -> Result<TypeId, ScriptFault>
-    requires { AreSides (length scope.old.types) sides }
-    ensures gives { Gives (type_at scope.new.types) result (or_fault line Mistyped (spec.two_type
-        op (type_at scope.old.types sides.left) (type_at scope.old.types sides.right))) }
-    ensures within { IfOk result (λ id. id < length scope.new.types) }
-    ensures extends { Extends scope.old.types scope.new.types }
-    ensures sight { scope.new.sight ≡ scope.old.sight }
-{
-    match op {
-        Binary::Arithmetic(_) => {
-            let test = is_int(scope.types(), sides.left) && is_int(scope.types(), sides.right);
-            where_true(line, test, Shape::Int, scope)
-        }
-        Binary::Comparison(_) => {
-            let test = scope.types().same(sides.left, sides.right);
-            where_true(line, test, Shape::Bool, scope)
-        }
-        Binary::Concat => joined(line, sides, scope.types()),
-    }
 }
 
 fn joined(line: u32, sides: Sides, types: &Types) -> Result<TypeId, ScriptFault>
@@ -171,22 +159,15 @@ pub fn index_type(
 }
 
 /// The type of what a test picks of two values.
-pub fn pick_type(
-    line: u32,
-    test: TypeId,
-    left: TypeId,
-    right: TypeId,
-    types: &Types,
-) -> Result<TypeId, ScriptFault>
+pub fn pick_type(line: u32, test: TypeId, both: Sides, types: &Types) -> Result<TypeId, ScriptFault>
     requires test_in { test < length types.now }
-    requires left_in { left < length types.now }
-    requires right_in { right < length types.now }
+    requires both_in { AreSides (length types.now) both }
     ensures gives { Gives (type_at types.now) result (or_fault line Mistyped (spec.pick_type
-        (type_at types.now test) (type_at types.now left) (type_at types.now right))) }
-    ensures same { IfOk result (λ picked. picked ≡ left) }
+        (type_at types.now test) (type_at types.now both.left) (type_at types.now both.right))) }
+    ensures same { IfOk result (λ picked. picked ≡ both.left) }
 {
-    let both = is_bool(types, test) && types.same(left, right);
-    itself(line, both, left)
+    let same = is_bool(types, test) && types.same(both.left, both.right);
+    itself(line, same, both.left)
 }
 
 /// The type of `empty` at a member's type.
@@ -201,25 +182,27 @@ pub fn list_of(line: u32, member: TypeId, scope: &mut Scope) -> Result<TypeId, S
     made(line, Shape::List(member), scope)
 }
 
-/// The type of a side whose other side has that type.
-pub fn side_type(
-    line: u32,
-    side: Side,
-    other: TypeId,
-    id: TypeId,
-    scope: &mut Scope,
-) -> Result<TypeId, ScriptFault>
-    requires other_in { other < length scope.old.types }
+/// A side of an either, and the type that its other side has.
+#[derive(Clone, Copy)]
+pub struct Half {
+    pub side: Side,
+    pub other: TypeId,
+}
+
+/// The type of the either of a half, where its own side has this type.
+pub fn side_type(line: u32, of: Half, id: TypeId, scope: &mut Scope) -> Result<TypeId, ScriptFault>
+    requires other_in { of.other < length scope.old.types }
     requires id_in { id < length scope.old.types }
-    ensures gives { Gives (type_at scope.new.types) result (shallow_type line
-        (spec.either_of side (type_at scope.old.types other) (type_at scope.old.types id))) }
+    ensures gives { Gives (type_at scope.new.types) result
+        (shallow_type line (spec.either_of of.side (type_at scope.old.types of.other)
+        (type_at scope.old.types id))) }
     ensures within { IfOk result (λ id. id < length scope.new.types) }
     ensures extends { Extends scope.old.types scope.new.types }
     ensures sight { scope.new.sight ≡ scope.old.sight }
 {
-    match side {
-        Side::Left => made(line, Shape::Either(id, other), scope),
-        Side::Right => made(line, Shape::Either(other, id), scope),
+    match of.side {
+        Side::Left => made(line, Shape::Either(id, of.other), scope),
+        Side::Right => made(line, Shape::Either(of.other, id), scope),
     }
 }
 

@@ -17,7 +17,7 @@ use Rattle.exec_graph.proofs.Entries.{all_found, all_map}
 use Rattle.exec_graph.proofs.Solving.{each_found}
 use Rattle.exec_graph.proofs.Soundness.{differ_ascends}
 use Rattle.sink_laws.specs.of_graph_laws.Joining.{reread, reread_entry}
-use Rattle.sink_laws.specs.Chain.{after_call, forest_of, ins_of, next_nest, CanCall, CanNest}
+use Rattle.sink_laws.specs.Chain.{after_call, forest_of, ins_of, next_nest, CanSinkPdo, CanNest}
 use Rattle.sink_laws.specs.Merging.{dropped, spliced, CanMerge}
 use Rattle.sink_laws.specs.Sinking.{copied, copies, flattens, outputs_of, rerouted, sunk_once, CanSink}
 use Rattle.sink_laws.specs.declared.pair.Pair.{Pair}
@@ -196,7 +196,7 @@ no_nest_by g p base x ins es ok l e none near room apart (inr new) b =
     among_each (λ (c : Place). (g.next ≤ c.node) × (c.node < base)) (place x.other 0) ins near
     new.copies in apart in_copies.0 in_copies.1
 
-no_nest : (g : Graph) (c x : Pair) → IsGraphOk g → CanCall g c → next_nest g.nodes ≡ None
+no_nest : (g : Graph) (c x : Pair) → IsGraphOk g → CanSinkPdo g c → next_nest g.nodes ≡ None
     → any_node (gathers c.other) g.nodes ≡ false → CanNest (after_call g c) x → ⊥
 no_nest g c x ok can e none nest =
     let f : Forest = forest_of (node_at g.nodes c.other) in
@@ -217,7 +217,7 @@ no_nest g c x ok can e none nest =
     (all_found (IsKnownEntry g c.other base) h.nodes x.other
     (Flatten (ins_of (node_at h.nodes x.other))) nest.inner known)
 
-pub none_after : (g : Graph) (c : Pair) → IsGraphOk g → IsGraphOk (after_call g c) → CanCall g c
+pub none_after : (g : Graph) (c : Pair) → IsGraphOk g → IsGraphOk (after_call g c) → CanSinkPdo g c
     → next_nest g.nodes ≡ None → any_node (gathers c.other) g.nodes ≡ false
     → next_nest (after_call g c).nodes ≡ None
 none_after g c ok after can e none = by (next_nest (after_call g c).nodes) refl

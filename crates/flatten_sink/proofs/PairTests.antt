@@ -9,8 +9,8 @@ use Rattle.exec_graph.specs.declared.graph.Graph.{Graph}
 use Rattle.exec_graph.specs.declared.graph.Node.{Node}
 use Rattle.exec_graph.specs.declared.graph.Node.TheVariants.{Flatten, Pdo}
 use Rattle.exec_graph.proofs.Soundness.{SameMeaning-kept}
-use Rattle.sink_laws.specs.Chain.{after_call, after_nest, forest_of, has_room, ins_of, CanCall, CanNest}
-use Rattle.sink_laws.specs.Kept.{IsKept}
+use Rattle.sink_laws.specs.Chain.{after_call, after_nest, forest_of, has_room, ins_of, CanSinkPdo, CanNest}
+use Rattle.sink_laws.specs.Kept.{KeepsTypesAndSteps}
 use Rattle.sink_laws.specs.Merging.{spliced}
 use Rattle.sink_laws.specs.declared.pair.Pair.{Pair}
 use Rattle.sink_laws.proofs.Choosing.{IsKept-call, IsKept-nest}
@@ -48,7 +48,7 @@ nest_passes g p h =
       room = leb-true (length joined) most_nodes fits;
     }
 
-call_passes : (g : Graph) (p : Pair) → can_call g.nodes p ≡ true → CanCall g p
+call_passes : (g : Graph) (p : Pair) → can_call g.nodes p ≡ true → CanSinkPdo g p
 call_passes g p h =
     let (flat, calls) = and_parts (is_flatten (node_at g.nodes p.flatten))
     (calls_first p.flatten (node_at g.nodes p.other)) h in
@@ -64,13 +64,15 @@ room_passes g p h = leb-true (total_size (after_call g p).nodes) most_nodes h
 -- ---- what the graph after it keeps
 
 pub kept_merged : (g h : Graph) (p : Pair) → IsGraphOk g → can_nest g.nodes p ≡ true
-    → h ≡ after_nest g p → IsKept g h
-kept_merged g h p ok t e = subst (IsKept g) (sym e) (IsKept-nest g p ok (nest_passes g p t))
+    → h ≡ after_nest g p → KeepsTypesAndSteps g h
+kept_merged g h p ok t e =
+    subst (KeepsTypesAndSteps g) (sym e) (IsKept-nest g p ok (nest_passes g p t))
 
 pub kept_sunk : (g h : Graph) (p : Pair) → IsGraphOk g → can_call g.nodes p ≡ true
-    → has_room g p ≡ true → h ≡ after_call g p → IsKept g h
+    → has_room g p ≡ true → h ≡ after_call g p → KeepsTypesAndSteps g h
 kept_sunk g h p ok t r e =
-    subst (IsKept g) (sym e) (IsKept-call g p ok (call_passes g p t) (room_passes g p r))
+    subst (KeepsTypesAndSteps g) (sym e)
+    (IsKept-call g p ok (call_passes g p t) (room_passes g p r))
 
-pub same_kept : (g h : Graph) → IsGraphOk g → IsKept g h → SameMeaning g h
+pub same_kept : (g h : Graph) → IsGraphOk g → KeepsTypesAndSteps g h → SameMeaning g h
 same_kept g h ok k = SameMeaning-kept g h ok k.good.ok k.good.keeps

@@ -16,7 +16,7 @@ use Rattle.exec_graph.proofs.Entries.{entry, all_found}
 use Rattle.exec_graph.proofs.Solving.{ranked_at}
 use Rattle.exec_graph.proofs.Soundness.{differ_ascends}
 use Rattle.sink_laws.specs.of_graph_laws.Joining.{set_node, without, reread_entry}
-use Rattle.sink_laws.specs.Chain.{ins_of, forest_of, after_call, has_room, CanCall}
+use Rattle.sink_laws.specs.Chain.{ins_of, forest_of, after_call, has_room, CanSinkPdo}
 use Rattle.sink_laws.specs.Merging.{dropped}
 use Rattle.sink_laws.specs.Sinking.{copies, copied, flattens, outputs_of, first_flatten, instead, rerouted, sunk_once, CanSink}
 use Rattle.sink_laws.specs.declared.pair.Pair.{Pair}
@@ -226,7 +226,7 @@ tidied_size : (h : Graph) (n : ℕ) (ins : List Place) (b : Bool)
 tidied_size h n ins true at = omega arith
 tidied_size h n ins false at = size-without h.nodes n (Flatten ins) at
 
-after_size : (g : Graph) (c : Pair) → IsGraphOk g → CanCall g c
+after_size : (g : Graph) (c : Pair) → IsGraphOk g → CanSinkPdo g c
     → total_size (after_call g c).nodes + cond (read_elsewhere g c.flatten c.other) 0 1
     + steps (forest_of (node_at g.nodes c.other))
     ≡ total_size g.nodes + length (ins_of (node_at g.nodes c.flatten))
@@ -275,9 +275,9 @@ size_below : (es : List Entry) (n : ℕ) (y : Node) → node_at es n ≡ Some y
     → size y ≤ total_size es
 size_below es n y h = let e = size-without es n y h in omega arith
 
-pub few_steps : (g : Graph) (c : Pair) (es : List Entry) (st : ℕ) → IsGraphOk g → CanCall g c
+pub few_steps : {g : Graph} {es : List Entry} {st : ℕ} (c : Pair) → IsGraphOk g → CanSinkPdo g c
     → es ≡ g.nodes → st ≡ size_or_none (node_at es c.other) → st ≤ most_nodes
-few_steps g c es st ok can e s =
+few_steps {g} {es} {st} c ok can e s =
     let f : Forest = forest_of (node_at g.nodes c.other) in
     let a : st ≡ steps f = s ∙ ap (λ (l : List Entry). size_or_none (node_at l c.other)) e
     ∙ ap size_or_none can.pdo in
@@ -286,9 +286,9 @@ few_steps g c es st ok can e s =
     let d : total_size g.nodes ≤ most_nodes = ok.few in
     omega arith
 
-pub few_inputs : (g : Graph) (c : Pair) (es : List Entry) (ins : List Place) → IsGraphOk g
-    → CanCall g c → es ≡ g.nodes → ins ≡ ins_of (node_at es c.flatten) → length ins ≤ most_nodes
-few_inputs g c es ins ok can e i =
+pub few_inputs : {g : Graph} {es : List Entry} {ins : List Place} (c : Pair) → IsGraphOk g
+    → CanSinkPdo g c → es ≡ g.nodes → ins ≡ ins_of (node_at es c.flatten) → length ins ≤ most_nodes
+few_inputs {g} {es} {ins} c ok can e i =
     let at : (0 < length (ins_of (node_at g.nodes c.flatten)))
     × (length (ins_of (node_at g.nodes c.flatten)) ≤ most_nodes) =
     all_found (λ e. IsNodeOk g e.number e.node) g.nodes c.flatten
@@ -302,8 +302,8 @@ left after gone s sum limit n e l h = omega arith
 
 -- What the code has counted: the size of the graph, the steps and the outputs of the Pdo, the
 -- inputs of the Flatten, and whether that is read elsewhere.
-module _ (g : Graph) (c : Pair) (es : List Entry) (all st outs limit : ℕ) (ins : List Place)
-    (read : Bool) (ok : IsGraphOk g) (can : CanCall g c) (e : es ≡ g.nodes)
+module _ {g : Graph} {es : List Entry} {all st outs limit : ℕ} {ins : List Place} {read : Bool}
+    (c : Pair) (ok : IsGraphOk g) (can : CanSinkPdo g c) (e : es ≡ g.nodes)
     (a : all ≡ total_size es) (s : st ≡ size_or_none (node_at es c.other))
     (i : ins ≡ ins_of (node_at es c.flatten))
     (o : outs ≡ outputs_of (forest_of (node_at es c.other)))
@@ -352,7 +352,7 @@ some_is g c None h = sym h
 some_is g c (Some a) h = sym h.room
 
 -- Whether the Flatten is still read.
-pub read_is : (g h : Graph) (c : Pair) (b : Bool) → IsGraphOk g → CanCall g c
+pub read_is : (g h : Graph) (c : Pair) (b : Bool) → IsGraphOk g → CanSinkPdo g c
     → h ≡ sunk_once g c.other (forest_of (node_at g.nodes c.other))
     (ins_of (node_at g.nodes c.flatten)) → b ≡ read_elsewhere g c.flatten c.other
     → b ≡ is_read h (place c.flatten 0)

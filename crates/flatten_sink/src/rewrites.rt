@@ -3,7 +3,7 @@ ghost use Rattle.std.specs.Prelude.{◌≡◌, IfOk, IfSome};
 ghost use Rattle.exec_graph.specs.Meaning.{SameMeaning, node_at};
 ghost use Rattle.exec_graph.specs.Wellformed.{Ascends, IsGraphOk};
 ghost use Rattle.sink_laws.specs.Chain as chain;
-ghost use Rattle.sink_laws.specs.Kept.{IsKept};
+ghost use Rattle.sink_laws.specs.Kept.{KeepsTypesAndSteps};
 ghost use Rattle.flatten_sink.specs.Pairs.{IsMergedAt, IsSunkAt};
 ghost use Rattle.flatten_sink.specs.inner.Pairs as pairs;
 
@@ -22,7 +22,7 @@ use std::alloc::{AllocError, Global};
 pub fn merge_pair(alloc: Global, graph: Graph, pair: Pair) -> Result<Option<Graph>, AllocError>
     requires { IsGraphOk graph }
     ensures merged { IfOk result (λ o. IsMergedAt graph pair o) }
-    ensures kept { IfOk result (λ o. IfSome o (λ h. IsKept graph h)) }
+    ensures kept { IfOk result (λ o. IfSome o (λ h. KeepsTypesAndSteps graph h)) }
     ensures same { IfOk result (λ o. IfSome o (λ h. SameMeaning graph h)) }
 {
     if !can_nest(graph.nodes.as_slice(), pair) {
@@ -37,7 +37,7 @@ pub fn merge_pair(alloc: Global, graph: Graph, pair: Pair) -> Result<Option<Grap
 pub fn sink_pair(alloc: Global, graph: Graph, pair: Pair) -> Result<Option<Graph>, AllocError>
     requires { IsGraphOk graph }
     ensures sunk { IfOk result (λ o. IsSunkAt graph pair o) }
-    ensures kept { IfOk result (λ o. IfSome o (λ h. IsKept graph h)) }
+    ensures kept { IfOk result (λ o. IfSome o (λ h. KeepsTypesAndSteps graph h)) }
     ensures same { IfOk result (λ o. IfSome o (λ h. SameMeaning graph h)) }
 {
     if !can_call(graph.nodes.as_slice(), pair) {

@@ -23,12 +23,13 @@ fn words<X: Env + AllocGlobal>(rt: &X) -> io::Result<Vec<String>> {
 fn main(rt: HostRuntime) -> ExitCode {
     // Where standard input and output are closed, these stand in their places, and can't be written
     // to: so no file that is opened later is taken for the screen.
-    let _places = [fs::open(&rt, "/dev/null"), fs::open(&rt, "/dev/null")];
+    let places = [fs::open(&rt, "/dev/null"), fs::open(&rt, "/dev/null")];
     let alloc = rt.alloc();
     let mut screen = OutputScreen::new(io::writer(&rt));
     let Ok(words) = words(&rt) else {
         let _ = say(&mut screen, b"want of memory\n");
-        return ExitCode::from(Status::WantOfMemory.code());
+        drop(places);
+        return exit_code(Status::WantOfMemory);
     };
     let mut source = FileSource::new(&rt);
     let mut shelf = FileShelf::new(&rt);
@@ -44,5 +45,13 @@ fn main(rt: HostRuntime) -> ExitCode {
         &mut screen,
         &mut cache,
     );
-    ExitCode::from(status.code())
+    drop(places);
+    exit_code(status)
+}
+
+// The exit status that says how a call ended.
+fn exit_code(status: Status) -> ExitCode {
+    let code = status.code();
+    drop(status);
+    ExitCode::from(code)
 }

@@ -6,11 +6,11 @@ ghost use Rattle.flume_grammar.specs.inner.Reads.{Reads, ReadsSuch, FitsSoFar};
 ghost use Rattle.flume_grammar.specs.inner.Expressions as spec;
 ghost use Rattle.flume_expressions.specs.inner.Pieces as pieces;
 
-use crate::ends::ended;
 use crate::expression::{part, whole};
 use crate::operator::ANY;
 use flume_grammar::parts::SoFar;
 use flume_grammar::{Expr, Side, Stop, Type, Unary};
+use flume_reading::following::ended;
 use flume_reading::reading::sign;
 use flume_reading::{Cursor, whole_type};
 use flume_tokens::Sign;

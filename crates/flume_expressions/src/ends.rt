@@ -1,27 +1,16 @@
 // The ends of an expression's parts: the sign that follows what was read.
 ghost use Rattle.std.specs.Prelude.{◌≡◌, ◌<◌, ◌+◌, ◌^◌};
-ghost use Rattle.flume_grammar.specs.inner.Reads.{Reads, ReadsSuch};
+ghost use Rattle.flume_grammar.specs.inner.Reads.{ReadsSuch};
 ghost use Rattle.flume_expressions.specs.inner.Pieces as pieces;
 
 use crate::expression::whole;
 use flume_grammar::parts::{Parts, SoFar};
 use flume_grammar::{Expr, Stop};
 use flume_reading::Cursor;
-use flume_reading::reading::{comma, sign, word};
+use flume_reading::following::ended;
+use flume_reading::reading::comma;
 use flume_tokens::Sign;
-use flume_value::{Pile, Str};
-use std::alloc::Global;
-
-/// What was read, where this sign ends it.
-///
-/// Where a tree would have to be dropped at once, in place of its box, its drop is proved here for
-/// any type, and not once more at each call.
-pub fn ended<T: Drop>(tokens: &mut Cursor, end: Sign, read: T) -> Result<T, Stop>
-    ensures { ReadsSuch (λ x. x ≡ read) (pieces.ended end read) tokens.old tokens.new result }
-{
-    sign(tokens, end)?;
-    Ok(read)
-}
+use flume_value::Pile;
 
 /// What was read, where a comma follows: there are so many parts, and may be one more.
 pub fn after_comma<T: Drop>(
@@ -35,14 +24,6 @@ pub fn after_comma<T: Drop>(
 {
     comma(tokens, parts, limit)?;
     Ok(read)
-}
-
-/// A field's name, and the colon after it.
-pub fn field_name(alloc: Global, tokens: &mut Cursor) -> Result<Str, Stop>
-    ensures { Reads pieces.field_name tokens.old tokens.new result }
-{
-    let name = word(alloc, tokens)?;
-    ended(tokens, Sign::Colon, name)
 }
 
 /// An expression of that depth, where its parenthesis closes.

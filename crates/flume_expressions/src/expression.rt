@@ -13,7 +13,7 @@ use flume_grammar::parts::{SoFar, Suffix};
 use flume_grammar::{Binary, Expr, ScriptKind, Stop};
 use flume_reading::Cursor;
 use flume_reading::reading::{at, word};
-use flume_tokens::{Sign, TokenKind};
+use flume_tokens::{Sign, Token, TokenKind};
 use flume_value::Held;
 use std::alloc::Global;
 
@@ -48,7 +48,10 @@ fn too_deep(tokens: &mut Cursor) -> Stop
     ensures { one spec.deep_at tokens.old ≡ Err result }
 {
     match tokens.token() {
-        Ok(token) => at(token.line, ScriptKind::TooDeep),
+        Ok(Token { kind, line }) => {
+            drop(kind);
+            at(line, ScriptKind::TooDeep)
+        }
         Err(stop) => stop,
     }
 }
@@ -56,7 +59,7 @@ fn too_deep(tokens: &mut Cursor) -> Stop
 fn pass(tokens: &mut Cursor) -> Result<(), Stop>
     ensures { Reads (one spec.passing) tokens.old tokens.new result }
 {
-    let _ = tokens.token()?;
+    drop(tokens.token()?);
     Ok(())
 }
 

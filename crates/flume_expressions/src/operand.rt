@@ -8,7 +8,7 @@ ghost use Rattle.flume_grammar.specs.inner.Types.{at_comma};
 ghost use Rattle.flume_grammar.specs.inner.Expressions as spec;
 
 use crate::calls::{call, concat, empty, pick, sided};
-use crate::ends::{after_comma, closed, field_name, listed, recorded};
+use crate::ends::{after_comma, closed, listed, recorded};
 use crate::expression::{continued, expression, part, whole};
 use crate::operator::{ANY, NEGATION, NOT};
 use crate::start::operand_start;
@@ -17,6 +17,7 @@ use flume_grammar::parts::{Parts, SoFar};
 use flume_grammar::start::Start;
 use flume_grammar::{Expr, Stop, Unary};
 use flume_reading::Cursor;
+use flume_reading::following::field_name;
 use flume_reading::reading::sign;
 use flume_tokens::Sign;
 use flume_value::{Pile, Str};
@@ -76,14 +77,38 @@ fn after_start(alloc: Global, tokens: &mut Cursor, limit: u32, start: Start) -> 
 {
     match start {
         Start::Leaf(expr) => Ok(whole(expr, 1)),
-        Start::Empty => empty(alloc, tokens),
-        Start::Record => record(alloc, tokens, limit),
-        Start::List => list(alloc, tokens, limit),
-        Start::Prefix(unary) => prefix(alloc, tokens, limit, unary),
-        Start::Call(unary) => call(alloc, tokens, limit, unary),
-        Start::Side(side) => sided(alloc, tokens, limit, side),
-        Start::Concat => concat(alloc, tokens, limit),
-        Start::Pick => pick(alloc, tokens, limit),
+        Start::Empty => {
+            drop(start);
+            empty(alloc, tokens)
+        }
+        Start::Record => {
+            drop(start);
+            record(alloc, tokens, limit)
+        }
+        Start::List => {
+            drop(start);
+            list(alloc, tokens, limit)
+        }
+        Start::Prefix(unary) => {
+            drop(start);
+            prefix(alloc, tokens, limit, unary)
+        }
+        Start::Call(unary) => {
+            drop(start);
+            call(alloc, tokens, limit, unary)
+        }
+        Start::Side(side) => {
+            drop(start);
+            sided(alloc, tokens, limit, side)
+        }
+        Start::Concat => {
+            drop(start);
+            concat(alloc, tokens, limit)
+        }
+        Start::Pick => {
+            drop(start);
+            pick(alloc, tokens, limit)
+        }
     }
 }
 

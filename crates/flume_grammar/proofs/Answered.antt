@@ -11,7 +11,7 @@ use Rattle.flume_grammar.specs.declared.fault.ScriptFault.TheVariants.{Refused}
 use Rattle.flume_grammar.specs.declared.tree.Ast.{Ast}
 use Rattle.flume_grammar.specs.declared.tree.Statement.{Statement}
 use Rattle.flume_grammar.specs.Answer.{Accepts, Refuses, IsFaultOf, kind_of}
-use Rattle.flume_grammar.specs.Fault.{IsWhole, IsFault}
+use Rattle.flume_grammar.specs.Fault.{IsWholeScript, IsFault}
 use Rattle.flume_grammar.specs.Grammar.{IsScript}
 use Rattle.flume_grammar.specs.Limits.{the_limits}
 use Rattle.flume_grammar.proofs.Fair.{fair}
@@ -45,7 +45,7 @@ abbrev refused : ℕ → ScriptKind → ScriptFault
 refused n k = Refused n k
 
 told : (bytes : List ℕ) (list : TokenList) → tokens_of bytes ≡ Ok list
-    → IsWhole the_limits list.items
+    → IsWholeScript the_limits list.items
     ⊎ ((line : ℕ) × (kind : ScriptKind) × IsFault the_limits list line kind)
     → Answer bytes
 told bytes list e (inl (ss, h)) = inl (ast ss, (list, e, h))

@@ -18,7 +18,7 @@ use Rattle.flume_grammar.specs.inner.Reading.{sign_at, keyword_at, word_at, numb
 use Rattle.flume_grammar.specs.Terminals.{word_of, key, mark, number}
 use Rattle.flume_grammar.specs.Parts.{Tree, none, with_part}
 use Rattle.flume_grammar.specs.inner.Types.{deep_start, type_start, pair_type, field_type, next_field_type, at_comma, type_within, whole_type}
-use Rattle.flume_grammar.specs.Grammar.{IsNumbered, absent, present, IsWholeType, IsType, int, bool, text_, named, list, either, table, record_, AreFieldTypes, first, next}
+use Rattle.flume_grammar.specs.Grammar.{IsOptionalNumber, absent, present, IsWholeType, IsType, int, bool, text_, named, list, either, table, record_, AreFieldTypes, first, next}
 use Rattle.flume_grammar.proofs.SoundLoops.{field_of}
 use Rattle.flume_grammar.proofs.Loops.{Reaches, reaches_start, reaches_next, reaches_end}
 use Rattle.flume_grammar.specs.Limits.{Limits}
@@ -72,7 +72,8 @@ module _ {X : Type 0} (inner : List Token → Out (X × ℕ)) (p : Parts X) (w :
 
 -- the number behind a keyword is read, before what is not this keyword
 pub complete_numbered : (k : Keyword) {ts us : List Token} {o : Option (List ℕ)}
-    → IsNumbered k ts us o → is_at_keyword k (next_kind us) ≡ false → numbered k ts ≡ Ok (o, us)
+    → IsOptionalNumber k ts us o → is_at_keyword k (next_kind us) ≡ false
+    → numbered k ts ≡ Ok (o, us)
 complete_numbered k (absent {ts}) e = ap (λ t. if t then bind (one (keyword_at k) ts)
     (λ _ us. bind (one number_at us) (λ n vs. give (Some n) vs)) else give None ts) e
 complete_numbered k (present {digits} {n} {m} {ts}) e =
@@ -85,7 +86,7 @@ complete_numbered k (present {digits} {n} {m} {ts}) e =
 -- ---- what is read takes a token
 
 pub shorter_numbered : {k : Keyword} {ts us : List Token} {o : Option (List ℕ)}
-    → IsNumbered k ts us o → length us ≤ length ts
+    → IsOptionalNumber k ts us o → length us ≤ length ts
 shorter_numbered absent = omega arith
 shorter_numbered present = omega arith
 

@@ -252,33 +252,27 @@ module _ (limits : Limits) (fair : IsFair limits) where
       (went (s.after_begin limits a.got a.rest) (λ y ws. give (form.Let xs y) ws) o vs _ a.after
       refl)
 
+  -- the repeat of this head and body
+  abbrev repeat_of : List ℕ × List (List ℕ) × List (List ℕ) → List TurnLet × List (List ℕ) → Repeat
+  repeat_of head body = record {
+    turns = head.0;
+    from = head.1;
+    entering = head.2;
+    lets = body.0;
+    gives = body.1;
+  }
+
   pub complete_repeat : {us vs : List Token} {r : Repeat} (names : List (List ℕ))
       → IsRepeat limits us vs r
       → bind (one s.let_start us) (λ z ws. s.after_let limits names z ws)
       ≡ Ok (form.Repeat names r, vs)
   complete_repeat names (g.repeat_ {digits} {xs} {ys} {zs} {ls} {n} {m} {k} {i} {j} {o} {p} {ts}
       {us} {vs} {ws} {ps} a b c d) =
-      let own : Repeat = record {
-        turns = digits;
-        from = xs;
-        entering = ys;
-        lets = ls;
-        gives = zs;
-      } in
       went (s.repeat_at limits (number digits m ∷ key keyword.From k ∷ ts))
-      (λ r qs. give (form.Repeat names r) qs) own ps _
+      (λ r qs. give (form.Repeat names r) qs) (repeat_of (digits, xs, ys) (ls, zs)) ps _
       (went (s.repeat_head (number digits m ∷ key keyword.From k ∷ ts))
-      (λ h qs. bind (s.repeat_body limits qs) (λ y os. give (record {
-        turns = h.0;
-        from = h.1;
-        entering = h.2;
-        lets = y.0;
-        gives = y.1;
-      }) os)) (digits, xs, ys) (mark sign.OpenBrace j ∷ vs) _ (complete_head m k a b)
-      (went (s.repeat_body limits (mark sign.OpenBrace j ∷ vs)) (λ y os. give (record {
-        turns = digits;
-        from = xs;
-        entering = ys;
-        lets = y.0;
-        gives = y.1;
-      }) os) (ls, zs) ps _ (complete_inside j c d) refl)) refl
+      (λ h qs. bind (s.repeat_body limits qs) (λ y os. give (repeat_of h y) os)) (digits, xs, ys)
+      (mark sign.OpenBrace j ∷ vs) _ (complete_head m k a b)
+      (went (s.repeat_body limits (mark sign.OpenBrace j ∷ vs))
+      (λ y os. give (repeat_of (digits, xs, ys) y) os) (ls, zs) ps _ (complete_inside j c d) refl))
+      refl

@@ -14,7 +14,7 @@ use Rattle.flume_grammar.specs.inner.Bodies.{whole_block}
 use Rattle.flume_grammar.specs.inner.Statements as s
 use Rattle.flume_grammar.specs.Grammar as g
 use Rattle.flume_grammar.specs.Terminals.{key, mark, name, text}
-use Rattle.flume_grammar.specs.Grammar.{IsNumbered, AreMoreTypes, IsBlock, IsStatement, AreStatements, IsScript}
+use Rattle.flume_grammar.specs.Grammar.{IsOptionalNumber, AreMoreTypes, IsBlock, IsStatement, AreStatements, IsScript}
 use Rattle.flume_grammar.proofs.Loops.{Reaches, reaches_start, reaches_next, reaches_end}
 use Rattle.flume_grammar.proofs.Complete.{went, same_comma, shorter_numbered, shorter_type, complete_whole}
 use Rattle.flume_grammar.specs.Limits.{Limits}
@@ -27,7 +27,7 @@ module _ (limits : Limits) (fair : IsFair limits) where
 
   -- what stands before a function's body
   before_block : {us vs ws : List Token} {c : Option (List ℕ)} {ss : List Body} {a : ℕ}
-      → IsNumbered keyword.Scale us vs c → IsBlock limits vs ws ss a
+      → IsOptionalNumber keyword.Scale us vs c → IsBlock limits vs ws ss a
       → (is_at_sign sign.Comma (next us) ≡ false) × (numbered keyword.Scale us ≡ Ok (c, vs))
   before_block g.absent (g.braces x) = (refl, refl)
   before_block g.present x = (refl, refl)

@@ -48,7 +48,8 @@ rest_names : {ts us : List Token} {xs : List (List ℕ)} → g.AreNames ts us xs
 rest_names g.one h = h.1
 rest_names (g.more x) h = (rest_names x h).1.1
 
-rest_numbered : {k : Keyword} {ts us : List Token} {o : Option (List ℕ)} → g.IsNumbered k ts us o
+rest_numbered : {k : Keyword} {ts us : List Token} {o : Option (List ℕ)}
+    → g.IsOptionalNumber k ts us o
     → Texts ts → Texts us
 rest_numbered g.absent h = h
 rest_numbered g.present h = h.1.1

@@ -18,10 +18,10 @@ use Rattle.flume_grammar.proofs.Fair.{IsFair}
 use Rattle.flume_grammar.specs.inner.Statements.{script_at}
 use Rattle.flume_grammar.specs.Grammar.{IsScript}
 use Rattle.flume_grammar.specs.inner.Answer.{tree_of}
-use Rattle.flume_grammar.specs.Fault.{IsBeginning, IsWhole, IsWhy, IsFault, token, end}
+use Rattle.flume_grammar.specs.Fault.{IsBeginning, IsWholeScript, IsWhy, IsFault, token, end}
 use Rattle.flume_grammar.proofs.CompleteScript.{complete_script}
 use Rattle.flume_grammar.proofs.SoundScript.{sound_script}
-use Rattle.flume_grammar.proofs.Open.{Stops}
+use Rattle.flume_grammar.proofs.Open.{up_to, Stops}
 use Rattle.flume_grammar.proofs.OpenScript.{nothing, complete_statements}
 use Rattle.flume_grammar.proofs.Pair.{RaiseAt}
 use Rattle.flume_grammar.proofs.PairTokens.{Growth}
@@ -34,7 +34,7 @@ module _ (limits : Limits) (fair : IsFair limits) where
   r = script_at limits
 
   apart : (ts us : List Token) (n : ℕ) (k : ScriptKind) → r ts ≡ Err (stop.Fault (Some n) k)
-      → ts ≡ us → IsWhole limits us → ⊥
+      → ts ≡ us → IsWholeScript limits us → ⊥
   apart ts us n k e i (ss, h) = let a = sym e ∙ ap r i ∙ complete_script limits fair us ss h in cc
 
   -- the kind is that of the limits that are higher, where these go on
@@ -70,7 +70,7 @@ module _ (limits : Limits) (fair : IsFair limits) where
   kind_same before here k kind s y = absurd y
 
   here_of : (ts : List Token) (n : ℕ) (k : ScriptKind) (s : Stops (nothing limits fair) r ts n k)
-      → StopsHere limits fair s.before s.here k
+      → StopsHere limits fair s.place.before s.place.here k
   here_of ts n k s = record {
     always = λ others. s.always others
         ∙ ap (λ z. Err (stop.Fault (Some z) k)) (sym s.line);
@@ -83,10 +83,11 @@ module _ (limits : Limits) (fair : IsFair limits) where
 
   -- no script goes on from where the parser stops
   none_on : (ts : List Token) (n : ℕ) (k : ScriptKind) (s : Stops (nothing limits fair) r ts n k)
-      (us others : List Token) → us ≡ s.before ++ s.here ∷ others → IsBeginning limits us → ⊥
+      (us others : List Token) → us ≡ up_to s.place others → IsBeginning limits us → ⊥
   none_on ts n k s us others e (more, ss, h) =
-      apart (s.before ++ s.here ∷ (others ++ more)) (us ++ more) n k (s.always (others ++ more))
-      (sym (ap (λ z. z ++ more) e ∙ append_assoc s.before (s.here ∷ others) more)) (ss, h)
+      apart (up_to s.place (others ++ more)) (us ++ more) n k (s.always (others ++ more))
+      (sym (ap (λ z. z ++ more) e ∙ append_assoc s.place.before (s.place.here ∷ others) more))
+      (ss, h)
 
   pub fault_of : (list : TokenList) (line : ℕ) (kind : ScriptKind)
       → tree_of list.last_line (r list.items) ≡ Err (Refused line kind)
@@ -94,7 +95,7 @@ module _ (limits : Limits) (fair : IsFair limits) where
   fault_of list line kind q = by (r list.items) refl q
     where
       later : (k : ScriptKind) → r list.items ≡ Err (stop.Fault None k) → (more : Limits)
-          → IsBelow limits more → IsWhole more list.items → ⊥
+          → IsBelow limits more → IsWholeScript more list.items → ⊥
       later k e more b (ss, h) =
           on (raise_statements Limit limits more fair (fair_above limits fair more b)
           (above limits fair more b) list.items)
@@ -102,7 +103,7 @@ module _ (limits : Limits) (fair : IsFair limits) where
           on : RaiseAt Limit r (script_at more) list.items → ⊥
           on (inl x) = let a = sym e ∙ x.0
               ∙ complete_script more (fair_above limits fair more b) list.items ss h in cc
-          on (inr x) = let a = sym e ∙ ap r x.split ∙ x.always x.behind in cc
+          on (inr x) = let a = sym e ∙ ap r x.place.split ∙ x.always x.place.behind in cc
 
       by : (o : Out (List Statement)) → r list.items ≡ o
           → tree_of list.last_line o ≡ Err (Refused line kind) → IsFault limits list line kind
@@ -112,10 +113,11 @@ module _ (limits : Limits) (fair : IsFair limits) where
           let s = stopped list.items n k e in
           let w : n ≡ line = cc in
           let v : k ≡ kind = cc in
-          token s.before s.here s.behind s.split (s.line ∙ w) (begins limits fair s.before s.ends)
-          (λ b. none_on list.items n k s (s.before ++ s.here ∷ []) [] refl b)
-          (subst (λ z. IsWhy z limits (s.before ++ s.here ∷ [])) v
-          (why limits fair s.before s.here k (here_of list.items n k s)))
+          let y = s.place in
+          token y.before y.here y.behind y.split (s.line ∙ w) (begins limits fair y.before s.ends)
+          (λ b. none_on list.items n k s (up_to s.place []) [] refl b)
+          (subst (λ z. IsWhy z limits (up_to s.place [])) v
+          (why limits fair s.place.before s.place.here k (here_of list.items n k s)))
       by (Err (stop.Fault None k)) e x =
           let w : list.last_line ≡ line = cc in
           let v : k ≡ kind = cc in
@@ -169,21 +171,23 @@ module _ (limits : Limits) (fair : IsFair limits) where
       at_token : (n : ℕ) (k : ScriptKind) (s : Stops (nothing limits fair) r list.items n k)
           → IsFault limits list line kind → (n ≡ line) × (k ≡ kind)
       at_token n k s (token b h bh split l beg none y) =
-          on (places s.before b s.here h s.behind bh (sym s.split ∙ split))
+          on (places s.place.before b s.place.here h s.place.behind bh (sym s.place.split ∙ split))
         where
-          on : ((s.before ≡ b) × (s.here ≡ h)) ⊎ (((x : List Token) × (s.before ≡ b ++ h ∷ x)) ⊎
-              ((x : List Token) × (b ≡ s.before ++ s.here ∷ x))) → (n ≡ line) × (k ≡ kind)
+          on : ((s.place.before ≡ b) × (s.place.here ≡ h))
+              ⊎ (((x : List Token) × (s.place.before ≡ b ++ h ∷ x))
+              ⊎ ((x : List Token) × (b ≡ up_to s.place x))) → (n ≡ line) × (k ≡ kind)
           on (inl (i, j)) = (
             sym s.line ∙ ap (λ (t : Token). t.line) j
                 ∙ l,
-            kind_same s.before s.here k kind (here_of list.items n k s)
+            kind_same s.place.before s.place.here k kind (here_of list.items n k s)
                 (subst (λ z. IsWhy kind limits z) (sym (ap₂ (λ z t. z ++ t ∷ []) i j)) y),
           )
           on (inr (inl (x, e))) =
-              absurd (none (cut s.before [] b h x e (begins limits fair s.before s.ends)))
+              absurd
+              (none (cut s.place.before [] b h x e (begins limits fair s.place.before s.ends)))
           on (inr (inr (x, e))) = absurd (none_on list.items n k s b x e beg)
       at_token n k s (end l j beg none y) =
-          absurd (none_on list.items n k s list.items s.behind s.split beg)
+          absurd (none_on list.items n k s list.items s.place.behind s.place.split beg)
 
       at_end : (k : ScriptKind) → IsBeginning limits list.items → k ≡ Syntax
           → IsFault limits list line kind → (list.last_line ≡ line) × (k ≡ kind)
@@ -212,17 +216,17 @@ module _ (limits : Limits) (fair : IsFair limits) where
       → IsFault limits list m k → (n ≡ m) × (j ≡ k)
   one_fault list n m j k f g = told n m j k (sym (parser_of list n j f) ∙ parser_of list m k g)
 
-  pub no_fault : (list : TokenList) (n : ℕ) (k : ScriptKind) → IsWhole limits list.items
+  pub no_fault : (list : TokenList) (n : ℕ) (k : ScriptKind) → IsWholeScript limits list.items
       → IsFault limits list n k → ⊥
   no_fault list n k (ss, h) f = let a = sym (parser_of list n k f)
       ∙ ap (tree_of list.last_line) (complete_script limits fair list.items ss h) in cc
 
-  pub either_ : (list : TokenList) → IsWhole limits list.items ⊎ ((n : ℕ) × (k : ScriptKind)
+  pub either_ : (list : TokenList) → IsWholeScript limits list.items ⊎ ((n : ℕ) × (k : ScriptKind)
       × IsFault limits list n k)
   either_ list = by (r list.items) refl
     where
       by : (o : Out (List Statement)) → r list.items ≡ o
-          → IsWhole limits list.items ⊎ ((n : ℕ) × (k : ScriptKind) × IsFault limits list n k)
+          → IsWholeScript limits list.items ⊎ ((n : ℕ) × (k : ScriptKind) × IsFault limits list n k)
       by (Ok (ss, us)) e =
           inl (
             ss,

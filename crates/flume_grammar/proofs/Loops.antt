@@ -1,9 +1,13 @@
 -- How far a loop over `many` has come.
-use Rattle.std.proofs.Common.{◌≡◌, ℕ, zero, suc, ◌≤◌, ◌<◌, length, List, [], ◌∷◌, Bool, true, false, Ok, Err, if◌then◌else◌, refl, sym, ap, ◌∙◌, arith}
+use Rattle.std.proofs.Common.{◌≡◌, ◌≢◌, ℕ, zero, suc, ◌≤◌, ◌<◌, length, List, [], ◌∷◌, Bool, true, false, Result, Ok, Err, if◌then◌else◌, refl, sym, ap, ◌∙◌, subst, arith}
 use Rattle.std.proofs.lemmas.Bool.{both_ways}
+use Rattle.std.proofs.lemmas.Result.{err_from_is_err_and}
+use Rattle.std.specs.Result.{IsErrAnd}
 use Rattle.flume_tokens.specs.declared.token.Token.{Token}
 use Rattle.flume_grammar.specs.declared.fault.Stop.{Stop}
+use Rattle.flume_grammar.specs.declared.fault.Stop.TheVariants.{Memory}
 use Rattle.flume_grammar.specs.inner.Out.{Out, bind, many, all_of}
+use Rattle.flume_grammar.specs.inner.Reads.{Read, Passed}
 
 -- what is left, from this state and these tokens, comes to the whole; the turns that are left are
 -- enough
@@ -48,3 +52,54 @@ module _ {A : Type 0} (more : A → List Token → Bool) (part : A → List Toke
   reaches_fault whole a (t ∷ ts) f z (zero, h, q) e p = absurd (omega arith)
   reaches_fault whole a (t ∷ ts) f z (suc k, h, q) e p = sym q ∙ turn k a (t ∷ ts) e
       ∙ ap (λ o. bind o (λ c vs. many k more part c vs)) p
+
+-- A loop that began with the first state and tokens has come to this state and those tokens: what
+-- is left to read comes to the whole, and the state is such.
+pub record Turned {A : Type 0} (more : A → List Token → Bool) (part : A → List Token → Out A)
+    (such : A → Type 0) (first : A) (ts : List Token) (a : A) (us : List Token) : Type 0 where
+  pub reaches : Reaches more part (all_of more part first ts) a us
+  pub fits : such a
+  pub shorter : length us ≤ length ts
+
+pub at_first : {A : Type 0} (more : A → List Token → Bool) (part : A → List Token → Out A)
+    (such : A → Type 0) (first a : A) (ts : List Token) → a ≡ first → such a
+    → Turned more part such first ts a ts
+at_first more part such first a ts e f = record {
+  reaches = subst (λ z. Reaches more part (all_of more part z ts) a ts) e
+      (reaches_start more part a ts);
+  fits = f;
+  shorter = omega arith;
+}
+
+module _ {A : Type 0} {more : A → List Token → Bool} {part : A → List Token → Out A}
+    {such : A → Type 0} {first a : A} {ts us : List Token} (h : Turned more part such first ts a us)
+  where
+    pub turned : {b : A} {vs : List Token} → more a us ≡ true → Read such (part a) us vs b
+        → Turned more part such first ts b vs
+    turned {b} {vs} e r = record {
+      reaches = reaches_next more part (all_of more part first ts) a b us vs h.reaches e r.value
+          r.shorter;
+      fits = r.fits;
+      shorter = let i = h.shorter in let j = r.shorter in omega (arith, i, j);
+    }
+
+    pub turned_out : more a us ≡ false → Passed such (all_of more part first) ts us a
+    turned_out e = record {
+      value = reaches_end more part (all_of more part first ts) a us h.reaches e;
+      shorter = h.shorter;
+      fits = h.fits;
+    }
+
+    -- where the next part has a fault, the whole has it
+    pub faulted : {f : Stop} → more a [] ≡ false → more a us ≡ true → part a us ≡ Err f
+        → all_of more part first ts ≡ Err f
+    faulted {f} z e p = reaches_fault more part (all_of more part first ts) a us f z h.reaches e
+        p
+
+    -- and it is answered, where the call's fault is passed on
+    pub failed : {B : Type 0} {f : Stop} → more a [] ≡ false → more a us ≡ true
+        → (f ≢ Memory → part a us ≡ Err f) → (r : Result B Stop) → IsErrAnd r (λ e. e ≡ f)
+        → (r ≡ Err f) × (f ≢ Memory → all_of more part first ts ≡ Err f)
+    failed z e p r i =
+        let q = err_from_is_err_and r i in
+        (q.1 ∙ ap Err q.2, λ other. faulted z e (p other))

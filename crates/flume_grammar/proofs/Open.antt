@@ -1,5 +1,6 @@
 -- What it is for a parser to be open: what it read so far can be read on to an end.
-use Rattle.std.proofs.Common.{◌≡◌, ℕ, ◌≤◌, ◌<◌, length, length-append, List, [], ◌∷◌, ◌++◌, ◌⊎◌, Some, None, Result, Ok, Err, ap, arith}
+use Rattle.std.proofs.Common.{◌≡◌, ℕ, ◌≤◌, ◌<◌, length, length-append, List, [], ◌∷◌, ◌++◌, ◌⊎◌, Some, None, Result, Ok, Err, refl, sym, ap, ◌∙◌, arith}
+use Rattle.std.proofs.lemmas.List.{append_assoc}
 use Rattle.flume_tokens.specs.declared.token.Token.{Token}
 use Rattle.flume_tokens.specs.declared.token.TokenKind.{TokenKind}
 use Rattle.flume_grammar.specs.declared.fault.ScriptKind.{ScriptKind}
@@ -61,31 +62,54 @@ pub record Starts {A : Type 0} (b c : Class) (p : List Token → Out A) : Type 0
 abbrev pub Ends : {A : Type 0} → Class → (List Token → Out A) → List Token → Type 0
 Ends c p ts = (ts ≡ []) ⊎ Completes c p ts
 
--- the token at which a parser stops, and what has been read before it can be ended
-pub record Stops {A : Type 0} (c : Class) (p : List Token → Out A) (ts : List Token) (n : ℕ)
-    (k : ScriptKind) : Type 0 where
+-- one of these tokens, between those before and those behind it
+pub record Place (ts : List Token) : Type 0 where
   pub before : List Token
   pub here : Token
   pub behind : List Token
   pub split : ts ≡ before ++ here ∷ behind
-  pub line : here.line ≡ n
-  pub always : (others : List Token) → p (before ++ here ∷ others) ≡ Err (Fault (Some n) k)
-  pub ends : Ends c p before
+
+-- the tokens up to that one, and then others
+abbrev pub up_to : {ts : List Token} → Place ts → List Token → List Token
+up_to x others = x.before ++ x.here ∷ others
+
+-- they begin as all do
+pub next_up_to : {ts : List Token} (x : Place ts) (us : List Token) → next (up_to x us) ≡ next ts
+next_up_to {ts} x us = by x.before x.split
+  where
+    by : (k : List Token) → ts ≡ k ++ x.here ∷ x.behind → next (k ++ x.here ∷ us) ≡ next ts
+    by [] e = ap next (sym e)
+    by (t ∷ ks) e = ap next (sym e)
+
+abbrev pub at_head : (t : Token) (ts : List Token) → Place (t ∷ ts)
+at_head t ts = record { before = []; here = t; behind = ts; split = refl }
+
+-- the same token behind further ones
+abbrev pub behind_these : {ts us : List Token} (read : List Token) → ts ≡ read ++ us → Place us
+    → Place ts
+behind_these read e x = record {
+  before = read ++ x.before;
+  here = x.here;
+  behind = x.behind;
+  split = e ∙ ap (λ v. read ++ v) x.split ∙ sym (append_assoc read x.before (x.here ∷ x.behind));
+}
+
+-- the token at which a parser stops, and what has been read before it can be ended
+pub record Stops {A : Type 0} (c : Class) (p : List Token → Out A) (ts : List Token) (n : ℕ)
+    (k : ScriptKind) : Type 0 where
+  pub place : Place ts
+  pub line : place.here.line ≡ n
+  pub always : (others : List Token)
+      → p (up_to place others) ≡ Err (Fault (Some n) k)
+  pub ends : Ends c p place.before
 
 -- the same stop, of another parser
 pub stops_as : {A B : Type 0} {c d : Class} {p : List Token → Out A} {q : List Token → Out B}
     {ts : List Token} {n : ℕ} {k : ScriptKind} (x : Stops c p ts n k)
-    → ((others : List Token) → q (x.before ++ x.here ∷ others) ≡ Err (Fault (Some n) k))
-    → Ends d q x.before → Stops d q ts n k
-stops_as x always ends = record {
-  before = x.before;
-  here = x.here;
-  behind = x.behind;
-  split = x.split;
-  line = x.line;
-  always = always;
-  ends = ends;
-}
+    → ((others : List Token)
+    → q (up_to x.place others) ≡ Err (Fault (Some n) k))
+    → Ends d q x.place.before → Stops d q ts n k
+stops_as x always ends = record { place = x.place; line = x.line; always = always; ends = ends }
 
 abbrev pub Suits : Class → List Token → List Token → Type 0
 Suits c us others = (next others ≡ next us) ⊎ Behind c others

@@ -5,7 +5,7 @@ use Rattle.flume_grammar.specs.declared.fault.ScriptKind.{ScriptKind}
 use Rattle.flume_grammar.specs.declared.fault.ScriptKind.TheVariants.{Syntax}
 use Rattle.flume_grammar.specs.declared.fault.Stop.TheVariants.{Fault}
 use Rattle.flume_grammar.specs.inner.Out.{Out, next}
-use Rattle.flume_grammar.proofs.Open.{Class, Ends, Stops, stops_as, Reads, IsOpenAt}
+use Rattle.flume_grammar.proofs.Open.{Class, Ends, up_to, next_up_to, Stops, stops_as, Reads, IsOpenAt}
 
 -- ---- the next token
 
@@ -40,16 +40,12 @@ agree {A} c p q ts h takes l = record {
               (same (t ∷ ks) vs (m.others ++ rest) e (λ z. cc)) ∙ m.always rest i;
         })
 
-    here : (k vs us : List Token) (t : Token) → ts ≡ k ++ t ∷ vs → next (k ++ t ∷ us) ≡ next ts
-    here [] vs us t e = ap next (sym e)
-    here (b ∷ ks) vs us t e = ap next (sym e)
-
     stops : (n : ℕ) (k : ScriptKind) → p ts ≡ Err (Fault (Some n) k) → Stops c p ts n k
     stops n k e =
         let s = l.stops n k (sym (h ts refl) ∙ e) in
-        stops_as s (λ others. h (s.before ++ s.here ∷ others)
-        (here s.before s.behind others s.here s.split) ∙ s.always others)
-        (ends s.before (s.here ∷ s.behind) s.split s.ends)
+        stops_as s
+        (λ others. h (up_to s.place others) (next_up_to s.place others) ∙ s.always others)
+        (ends s.place.before (s.place.here ∷ s.place.behind) s.place.split s.ends)
 
     wants : (k : ScriptKind) → p ts ≡ Err (Fault None k) → Ends c p ts × (k ≡ Syntax)
     wants k e = let w = l.wants k (sym (h ts refl) ∙ e) in (ends ts [] (sym (nil ts)) w.0, w.1)

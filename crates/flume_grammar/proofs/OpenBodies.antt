@@ -10,7 +10,7 @@ use Rattle.flume_grammar.specs.declared.fault.ScriptKind.TheVariants.{Syntax, To
 use Rattle.flume_grammar.specs.declared.start.BodyStart.{BodyStart}
 use Rattle.flume_grammar.specs.declared.start.BodyStart.TheVariants as begin
 use Rattle.flume_grammar.specs.inner.Out.{Out, give, bind, at, one, next, all_of}
-use Rattle.flume_grammar.specs.inner.Reading.{is_keyword, keyword_at, number_at, is_at_keyword, numbered}
+use Rattle.flume_grammar.specs.inner.Reading.{is_keyword, keyword_at, number_at, is_at_keyword, numbered, of_keyword}
 use Rattle.flume_grammar.specs.inner.Bodies as b
 use Rattle.flume_grammar.specs.inner.Bodies.{Block, value, block_layer, block_within, whole_block}
 use Rattle.flume_grammar.specs.inner.Expressions.{expression_within}
@@ -130,7 +130,7 @@ after_body k = quiet k × no_else k
 
 -- behind the last
 abbrev pub in_block : Class
-in_block k = quiet k × no_else k × (is_some (b.body_of k) ≡ false)
+in_block k = quiet k × no_else k × (is_some (of_keyword b.keyword_body k) ≡ false)
 
 pub owns_body : (limit : ℕ) (t : Token) (o : Option BodyStart) → Owns t (b.started limit t o)
 owns_body limit t (Some x) = owns_if t (nat_le 2 limit) _ _ (owns_ok t (x, t.line))
@@ -233,13 +233,15 @@ module _ (limits : Limits) (fair : IsFair limits) where
         → IsComplete any after_body (b.after_start limits (suc n) inner x.0 x.1)
     begun x g =
         let y = one_token (b.body_start (suc n)) g.source x g.left g.is in
-        o_after (let i = body_room (suc n) y.token (b.body_of y.token.kind) x y.gives in
+        o_after (let i = body_room (suc n) y.token (of_keyword b.keyword_body y.token.kind) x
+        y.gives in
         omega (arith, i)) x.0 x.1
 
     pub o_body : IsOpen after_body (b.body limits (suc n) inner)
     o_body ts =
         binds_at any after_body (one (b.body_start (suc n))) _ ts
-        (single (b.body_start (suc n)) (λ t. owns_body (suc n) t (b.body_of t.kind)) ts)
+        (single (b.body_start (suc n))
+        (λ t. owns_body (suc n) t (of_keyword b.keyword_body t.kind)) ts)
         (λ x us e. (begun x (record { source = ts; left = us; is = e })).open_ us)
         (λ x g. (begun x g).starts) (λ x g. (begun x g).follows)
 

@@ -54,7 +54,7 @@ narrower {A} c d p ts s l = record {
         inr (record { others = m.others; got = m.got; always = λ rest i. m.always rest (s rest i) })
 
     stops : (n : ℕ) (k : ScriptKind) → Stops d p ts n k → Stops c p ts n k
-    stops n k x = stops_as x x.always (ends x.before x.ends)
+    stops n k x = stops_as x x.always (ends x.place.before x.ends)
 
     reads : (a : A) (us : List Token) → Reads d p ts a us → Reads c p ts a us
     reads a us x = record {

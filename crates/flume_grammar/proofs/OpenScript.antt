@@ -1,9 +1,10 @@
 -- Parsers of operations, of statements and of scripts are open.
-use Rattle.std.proofs.Common.{◌≡◌, ℕ, ◌+◌, ◌<◌, length, is_some, List, [], ◌∷◌, ◌++◌, Bool, false, Option, Some, None, Ok, refl, ap, arith}
+use Rattle.std.proofs.Common.{◌≡◌, ℕ, ◌+◌, ◌<◌, length, is_some, List, [], ◌∷◌, ◌++◌, Bool, false, Option, Some, None, Result, Ok, refl, ap, arith}
 use Rattle.flume_tokens.specs.declared.token.Token.{Token}
 use Rattle.flume_tokens.specs.declared.keyword.Keyword.TheVariants as keyword
 use Rattle.flume_tokens.specs.declared.sign.Sign.TheVariants as sign
 use Rattle.flume_grammar.specs.declared.fault.ScriptKind.TheVariants.{Syntax}
+use Rattle.flume_grammar.specs.declared.fault.Stop.{Stop}
 use Rattle.flume_grammar.specs.declared.start.OperationStart.{OperationStart}
 use Rattle.flume_grammar.specs.declared.start.OperationStart.TheVariants as starting
 use Rattle.flume_grammar.specs.declared.start.LetStart.{LetStart}
@@ -118,6 +119,14 @@ listed {A} c more part sub stopped same takes h = record {
         let j = ap length (gave (xs ++ a.got ∷ []) ys a.rest us a.after).1 in
         omega (arith, i, j)
 
+-- what goes on as its first token tells
+told : {A B : Type 0} (begin : Token → Result A Stop) (on : A → List Token → Out B)
+    → ((t : Token) → Owns t (begin t)) → (t : Token) (a : A) → begin t ≡ Ok a
+    → ((x : A) → IsComplete any settled (on x))
+    → IsComplete any settled (λ ts. bind (one begin ts) on)
+told begin on own t a e h =
+    then_ any any settled (one begin) on (token any begin own t a e tt) (λ x _. h x)
+
 module _ (limits : Limits) (fair : IsFair limits) where
   -- ---- operations
 
@@ -165,10 +174,8 @@ module _ (limits : Limits) (fair : IsFair limits) where
 
   pub o_operation : IsComplete any settled (s.operation_at limits)
   o_operation =
-      then_ any any settled (one s.operation_start) _
-      (token any s.operation_start
-      (λ t. owns_option t (of_keyword s.keyword_operation t.kind)) (key keyword.Group 1) _
-      refl tt) (λ o _. o_begin o)
+      told s.operation_start _ (λ t. owns_option t (of_keyword s.keyword_operation t.kind))
+      (key keyword.Group 1) _ refl o_begin
 
   -- ---- repeats
 
@@ -184,9 +191,7 @@ module _ (limits : Limits) (fair : IsFair limits) where
       (λ o _. given settled settled _ (λ rs i. i))))
 
   pub o_turn_let : IsComplete any settled (s.turn_let limits)
-  o_turn_let =
-      then_ any any settled (one s.line_of_let) _
-      (token any s.line_of_let owns_let (key keyword.Let 1) 1 refl tt) (λ n _. o_own n)
+  o_turn_let = told s.line_of_let _ owns_let (key keyword.Let 1) 1 refl o_own
 
   pub let_turns : Turns in_turn settled s.at_let (s.next_let limits) (λ ls. Unit {0})
   let_turns =
@@ -277,9 +282,8 @@ module _ (limits : Limits) (fair : IsFair limits) where
   o_form stating.Let =
       then_ any no_comma settled s.names _ o_names (λ xs _. sign_then no_comma settled
       sign.Assign _ refl
-      (λ _. then_ any any settled (one s.let_start) _
-      (token any s.let_start (λ t. owns_option t (of_keyword s.keyword_let t.kind))
-      (key keyword.Group 1) _ refl tt) (λ z _. o_let xs z)))
+      (λ _. told s.let_start _ (λ t. owns_option t (of_keyword s.keyword_let t.kind))
+      (key keyword.Group 1) _ refl (o_let xs)))
   o_form stating.Output =
       name_then any settled _ tt (λ x. keyword_then any settled keyword.To _ tt
       (λ _. text_then any settled _ tt (λ f. given any settled _ (free settled))))
@@ -296,10 +300,9 @@ module _ (limits : Limits) (fair : IsFair limits) where
 
   pub o_statement : IsComplete any settled (s.statement_at limits)
   o_statement =
-      then_ any any settled (one s.statement_start) _
-      (token any s.statement_start
+      told s.statement_start _
       (λ t. owns_statement t (of_keyword s.keyword_statement t.kind)) (key keyword.Output 1) _
-      refl tt) (λ x _. o_named x)
+      refl o_named
 
   -- before nothing but the end
   abbrev pub nothing : Class

@@ -7,7 +7,7 @@ use Rattle.flume_grammar.specs.declared.fault.Stop.{Stop}
 use Rattle.flume_grammar.specs.declared.fault.Stop.TheVariants.{Fault, Memory}
 use Rattle.flume_grammar.specs.inner.Out.{Out, give, passed, one}
 use Rattle.flume_grammar.proofs.Sound.{gave}
-use Rattle.flume_grammar.proofs.Open.{Class, any, Sub, Stops, Suits, Reads, IsOpenAt, IsOpen, IsComplete}
+use Rattle.flume_grammar.proofs.Open.{Class, any, at_head, Sub, Stops, Suits, Reads, IsOpenAt, IsOpen, IsComplete}
 
 -- nothing is read, before this and before any of the class
 pub stands : {A : Type 0} (c : Class) (p : List Token → Out A) (a : A) (ts : List Token)
@@ -75,12 +75,11 @@ single {A} f own (t ∷ ts) = record {
         let w : s ≡ Fault (Some n) k = cc in
         let v = q ∙ ap Err w in
         let z = own t s q in
+        let y : Fault (Some t.line) z.0 ≡ Fault (Some n) k = sym z.1 ∙ w in
+        let same : t.line ≡ n = cc in
         record {
-          before = [];
-          here = t;
-          behind = ts;
-          split = refl;
-          line = let y : Fault (Some t.line) z.0 ≡ Fault (Some n) k = sym z.1 ∙ w in cc;
+          place = at_head t ts;
+          line = same;
           always = λ others. ap (λ x. passed x others) v;
           ends = inl refl;
         }

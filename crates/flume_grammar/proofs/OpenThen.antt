@@ -7,7 +7,7 @@ use Rattle.flume_grammar.specs.declared.fault.ScriptKind.TheVariants.{Syntax}
 use Rattle.flume_grammar.specs.declared.fault.Stop.TheVariants.{Fault, Memory}
 use Rattle.flume_grammar.specs.inner.Out.{Out, bind, next}
 use Rattle.flume_grammar.proofs.Sound.{bound}
-use Rattle.flume_grammar.proofs.Open.{Class, Behind, Sub, Completes, Starts, Ends, Stops, stops_as, Suits, Reads, IsOpenAt, Gives, Follows, IsComplete, no_longer}
+use Rattle.flume_grammar.proofs.Open.{Class, Behind, Sub, Completes, Starts, Ends, up_to, next_up_to, behind_these, Stops, stops_as, Suits, Reads, IsOpenAt, Gives, Follows, IsComplete, no_longer}
 
 -- ---- one parser and then another
 
@@ -95,29 +95,21 @@ module _ {A B : Type 0} (b c : Class) (p : List Token → Out A) (f : A → List
           let w : s ≡ Fault (Some n) k = cc in
           let x = l.stops n k (q ∙ ap Err w) in
           stops_as x (λ others. ap (λ o. bind o f) (x.always others))
-          (composed x.before x.ends (begin x.before))
+          (composed x.place.before x.ends (begin x.place.before))
       stops (Ok y) q n k e =
           let x = l.reads y.0 y.1 q in
           let z = (m y.0 y.1 q).stops n k e in
           record {
-            before = x.read ++ z.before;
-            here = z.here;
-            behind = z.behind;
-            split = x.split ∙ ap (λ v. x.read ++ v) z.split
-                ∙ sym (append_assoc x.read z.before (z.here ∷ z.behind));
+            place = behind_these x.read x.split z.place;
             line = z.line;
-            always = λ others. onward x.read z.before (z.here ∷ others) y.0 _
-                (x.always (z.before ++ z.here ∷ others)
-                (inl (here z.before z.behind others z.here z.split))) (z.always others);
+            always = λ others. onward x.read z.place.before (z.place.here ∷ others) y.0 _
+                (x.always (up_to z.place others) (inl (next_up_to z.place others)))
+                (z.always others);
             ends =
-                inr (ended x.read y.1 z.before y.0 x.always (start y.0 (gives y.0 y.1 q))
-                (λ t ks i. ap next z.split ∙ ap (λ v. next (v ++ z.here ∷ z.behind)) i) z.ends);
+                inr (ended x.read y.1 z.place.before y.0 x.always (start y.0 (gives y.0 y.1 q))
+                (λ t ks i. ap next z.place.split
+                ∙ ap (λ v. next (v ++ z.place.here ∷ z.place.behind)) i) z.ends);
           }
-        where
-          here : (k vs us : List Token) (t : Token) → y.1 ≡ k ++ t ∷ vs
-              → next (k ++ t ∷ us) ≡ next y.1
-          here [] vs us t e = ap next (sym e)
-          here (b ∷ ks) vs us t e = ap next (sym e)
 
       sober : (o : Out A) → p ts ≡ o → bind o f ≡ Err Memory → ⊥
       sober (Err s) q e = l.sober (q ∙ ap Err (let w : s ≡ Memory = cc in w))

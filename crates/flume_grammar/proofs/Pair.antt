@@ -5,7 +5,7 @@ use Rattle.flume_grammar.specs.declared.fault.ScriptKind.{ScriptKind}
 use Rattle.flume_grammar.specs.declared.fault.Stop.{Stop}
 use Rattle.flume_grammar.specs.declared.fault.Stop.TheVariants.{Fault, Memory}
 use Rattle.flume_grammar.specs.inner.Out.{Out, at, passed, one}
-use Rattle.flume_grammar.proofs.Open.{Class, IsOpenAt}
+use Rattle.flume_grammar.proofs.Open.{Class, Place, up_to, at_head, IsOpenAt}
 
 abbrev pub Kinds : Type 1
 Kinds = ScriptKind → Type 0
@@ -23,28 +23,22 @@ Swallows _ = ⊥
 
 pub record Passes {A : Type 0} (K : Kinds) (p q : List Token
     → Out A) (ts : List Token) : Type 0 where
-  pub before : List Token
-  pub here : Token
-  pub behind : List Token
+  pub place : Place ts
   pub kind : ScriptKind
-  pub split : ts ≡ before ++ here ∷ behind
   pub is : K kind
   pub always : (others : List Token)
-      → p (before ++ here ∷ others) ≡ Err (Fault (Some here.line) kind)
-  pub swallows : Swallows (q (before ++ here ∷ []))
+      → p (up_to place others) ≡ Err (Fault (Some place.here.line) kind)
+  pub swallows : Swallows (q (up_to place []))
 
 -- the same of two other parsers
 pub passes_as : {A B : Type 0} {K : Kinds} {p q : List Token → Out A} {r s : List Token → Out B}
     {ts : List Token} (x : Passes K p q ts)
     → ((others : List Token)
-    → r (x.before ++ x.here ∷ others) ≡ Err (Fault (Some x.here.line) x.kind))
-    → Swallows (s (x.before ++ x.here ∷ [])) → Passes K r s ts
+    → r (up_to x.place others) ≡ Err (Fault (Some x.place.here.line) x.kind))
+    → Swallows (s (up_to x.place [])) → Passes K r s ts
 passes_as x always swallows = record {
-  before = x.before;
-  here = x.here;
-  behind = x.behind;
+  place = x.place;
   kind = x.kind;
-  split = x.split;
   is = x.is;
   always = always;
   swallows = swallows;
@@ -74,7 +68,7 @@ nothing_left {A} c r l = by (r []) refl
     by (Ok x) e = let z = l.reads x.0 x.1 e in empty z.read x.1 z.split
     by (Err (Fault None k)) e = tt
     by (Err (Fault (Some n) k)) e = let s = l.stops n k e in
-        none_there s.before s.here s.behind s.split
+        none_there s.place.before s.place.here s.place.behind s.place.split
     by (Err Memory) e = l.sober e
 
 cons_same : (x y : Token) (a b : List Token) → x ≡ y → a ≡ b → x ∷ a ≡ y ∷ b
@@ -112,11 +106,8 @@ raise_token {A} K f g h (t ∷ ts) = by (h t)
     by : Limited K t (f t) (g t) → RaiseAt K (one f) (one g) (t ∷ ts)
     by (inl i) = inl (ap (λ r. passed r ts) i.0, spared (f t) i.1)
     by (inr i) = inr (record {
-      before = [];
-      here = t;
-      behind = ts;
+      place = at_head t ts;
       kind = i.0;
-      split = refl;
       is = i.1;
       always = λ others. ap (λ r. passed r others) i.2;
       swallows = subst Swallows (sym (ap (λ r. passed r []) (i.3).1)) refl;

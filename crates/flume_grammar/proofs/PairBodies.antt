@@ -10,7 +10,7 @@ use Rattle.flume_grammar.specs.declared.fault.ScriptKind.TheVariants.{Syntax, To
 use Rattle.flume_grammar.specs.declared.start.BodyStart.{BodyStart}
 use Rattle.flume_grammar.specs.declared.start.BodyStart.TheVariants as begin
 use Rattle.flume_grammar.specs.inner.Out.{Out, give, bind, one, next, all_of}
-use Rattle.flume_grammar.specs.inner.Reading.{keyword_at, number_at, is_at_keyword, numbered}
+use Rattle.flume_grammar.specs.inner.Reading.{keyword_at, number_at, is_at_keyword, numbered, of_keyword}
 use Rattle.flume_grammar.specs.inner.Bodies as b
 use Rattle.flume_grammar.specs.inner.Bodies.{Block, block_within, whole_block}
 use Rattle.flume_grammar.specs.Limits.{Limits}
@@ -201,16 +201,17 @@ module _ (K : Kinds) (limits more : Limits) (fair : IsFair limits) (fair_more : 
         (λ j. le-leb 2 (suc m) (omega (arith, j)))
 
     open_start : (j : ℕ) → IsOpen any (one (b.body_start j))
-    open_start j = single (b.body_start j) (λ t. owns_body j t (b.body_of t.kind))
+    open_start j = single (b.body_start j) (λ t. owns_body j t (of_keyword b.keyword_body t.kind))
 
     r_body : Raise K (b.body limits (suc n) inner) (b.body more (suc m) inner_more)
     r_body ts =
         raise_bind K any after_body (one (b.body_start (suc n))) (one (b.body_start (suc m))) _ _ ts
         (open_start (suc n) ts) (open_start (suc m) ts)
         (raise_token K (b.body_start (suc n)) (b.body_start (suc m))
-        (λ t. start_limited t (b.body_of t.kind)) ts)
+        (λ t. start_limited t (of_keyword b.keyword_body t.kind)) ts)
         (λ x us e. let y = one_token (b.body_start (suc n)) ts x us e in
-        (r_after (let i = body_room (suc n) y.token (b.body_of y.token.kind) x y.gives in
+        (r_after (let i = body_room (suc n) y.token (of_keyword b.keyword_body y.token.kind) x
+        y.gives in
         omega (arith, i)) x.0 x.1).raise us)
         (λ x e. (o_bodies.begun more fair_more m inner_more high x e).open_ [])
 

@@ -9,7 +9,7 @@ use Rattle.flume_grammar.specs.inner.Out.{one, next, all_of}
 use Rattle.flume_grammar.specs.inner.Expressions.{suffix_of, Inner, extend, deep_at, extended, goes_on, next_suffix, continued}
 use Rattle.flume_grammar.specs.Limits.{Limits}
 use Rattle.flume_grammar.proofs.Fair.{IsFair}
-use Rattle.flume_grammar.proofs.Open.{any, IsComplete}
+use Rattle.flume_grammar.proofs.Open.{any, at_head, IsComplete}
 use Rattle.flume_grammar.proofs.OpenParts as o_parts
 use Rattle.flume_grammar.proofs.OpenSuffixes as o_suffixes
 use Rattle.flume_grammar.proofs.Quiet.{quiet, quiet_given}
@@ -73,11 +73,8 @@ module _ (K : Kinds) (limits more : Limits) (fair : IsFair limits) (fair_more : 
         by (inl z) us = absurd (same z.0)
         by (inr z) [] = inl (refl, tt)
         by (inr z) (t ∷ us) = inr (record {
-          before = [];
-          here = t;
-          behind = us;
+          place = at_head t us;
           kind = TooDeep;
-          split = refl;
           is = z.1;
           always = λ others. refl;
           swallows =

@@ -5,7 +5,7 @@ use Rattle.flume_tokens.specs.declared.token.Token.{Token}
 use Rattle.flume_grammar.specs.declared.fault.Stop.{Stop}
 use Rattle.flume_grammar.specs.declared.fault.Stop.TheVariants.{Fault, Memory}
 use Rattle.flume_grammar.specs.inner.Out.{Out, give, bind, next, all_of}
-use Rattle.flume_grammar.proofs.Open.{Class, Sub, IsOpenAt, Gives, IsComplete}
+use Rattle.flume_grammar.proofs.Open.{Class, Sub, up_to, next_up_to, behind_these, IsOpenAt, Gives, IsComplete}
 use Rattle.flume_grammar.proofs.OpenSmallest.{given}
 use Rattle.flume_grammar.proofs.OpenThen.{then_}
 use Rattle.flume_grammar.proofs.OpenLoops.{Turns, loops, unrolled}
@@ -50,11 +50,6 @@ module _ {A B : Type 0} (K : Kinds) (b c : Class) (p q : List Token → Out A) (
           v : low ts ≡ f y.0 y.1
           v = ap (λ o. bind o f) e
 
-          here : (k vs us : List Token) (t : Token) → y.1 ≡ k ++ t ∷ vs
-              → next (k ++ t ∷ us) ≡ next y.1
-          here [] vs us t j = ap next (sym j)
-          here (d ∷ ks) vs us t j = ap next (sym j)
-
           on : RaiseAt K (f y.0) (g y.0) y.1 → RaiseAt K low high ts
           on (inl j) =
               inl (v ∙ j.0 ∙ sym (ap (λ o. bind o g) (sym i.0 ∙ e)), subst (Spared K) (sym v) j.1)
@@ -63,31 +58,27 @@ module _ {A B : Type 0} (K : Kinds) (b c : Class) (p q : List Token → Out A) (
               let w = m.reads y.0 y.1 (sym i.0 ∙ e) in
               let same = cancel w.read u.read y.1 (sym w.split ∙ u.split) in
               inr (record {
-                before = u.read ++ x.before;
-                here = x.here;
-                behind = x.behind;
+                place = behind_these u.read u.split x.place;
                 kind = x.kind;
-                split = u.split ∙ ap (λ k. u.read ++ k) x.split
-                    ∙ sym (append_assoc u.read x.before (x.here ∷ x.behind));
                 is = x.is;
-                always = λ others. onward p f u.read x.before (x.here ∷ others) y.0 _
-                    (u.always (x.before ++ x.here ∷ others)
-                    (inl (here x.before x.behind others x.here x.split))) (x.always others);
-                swallows = subst (λ k. Swallows (high (k ++ x.before ++ x.here ∷ []))) same
+                always = λ others. onward p f u.read x.place.before (x.place.here ∷ others) y.0 _
+                    (u.always (up_to x.place others) (inl (next_up_to x.place others)))
+                    (x.always others);
+                swallows = subst
+                    (λ k. Swallows (high (k ++ x.place.before ++ x.place.here ∷ []))) same
                     (subst Swallows
-                    (sym (onward q g w.read x.before (x.here ∷ []) y.0 _
-                    (w.always (x.before ++ x.here ∷ [])
-                    (inl (here x.before x.behind [] x.here x.split))) refl)) x.swallows);
+                    (sym (onward q g w.read x.place.before (x.place.here ∷ []) y.0 _
+                    (w.always (up_to x.place []) (inl (next_up_to x.place []))) refl)) x.swallows);
               })
   raise_bind ts l m (inr x) r z =
       inr (passes_as x (λ others. ap (λ o. bind o f) (x.always others))
-      (by (q (x.before ++ x.here ∷ [])) refl x.swallows))
+      (by (q (up_to x.place [])) refl x.swallows))
     where
-      by : (o : Out A) → q (x.before ++ x.here ∷ []) ≡ o → Swallows o → Swallows (bind o g)
+      by : (o : Out A) → q (up_to x.place []) ≡ o → Swallows o → Swallows (bind o g)
       by (Ok y) e i =
           subst (λ k. Swallows (g y.0 k)) (sym i)
           (nothing_left c (g y.0)
-          (z y.0 (record { source = x.before ++ x.here ∷ []; left = y.1; is = e })))
+          (z y.0 (record { source = up_to x.place []; left = y.1; is = e })))
       by (Err (Fault None k)) e i = tt
       by (Err (Fault (Some n) k)) e i = absurd i
       by (Err Memory) e i = absurd i
@@ -99,13 +90,9 @@ pub raise_agree : {A : Type 0} (K : Kinds) (p q r s : List Token → Out A) (ts 
 raise_agree K p q r s ts h i (inl x) =
     inl (h ts refl ∙ x.0 ∙ sym (i ts refl), subst (Spared K) (sym (h ts refl)) x.1)
 raise_agree K p q r s ts h i (inr x) =
-    inr (passes_as x (λ others. h (x.before ++ x.here ∷ others) (same x.before others x.split)
-    ∙ x.always others)
-    (subst Swallows (sym (i (x.before ++ x.here ∷ []) (same x.before [] x.split))) x.swallows))
-  where
-    same : (k us : List Token) → ts ≡ k ++ x.here ∷ x.behind → next (k ++ x.here ∷ us) ≡ next ts
-    same [] us e = ap next (sym e)
-    same (t ∷ ks) us e = ap next (sym e)
+    inr (passes_as x
+    (λ others. h (up_to x.place others) (next_up_to x.place others) ∙ x.always others)
+    (subst Swallows (sym (i (up_to x.place []) (next_up_to x.place []))) x.swallows))
 
 -- ---- two complete parsers
 

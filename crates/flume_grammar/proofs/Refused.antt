@@ -10,7 +10,7 @@ use Rattle.flume_grammar.specs.declared.fault.ScriptFault.TheVariants.{Refused, 
 use Rattle.flume_grammar.specs.declared.tree.Ast.{Ast}
 use Rattle.flume_grammar.specs.Limits.{the_limits}
 use Rattle.flume_grammar.specs.inner.Answer.{parse_tokens, parse_of}
-use Rattle.flume_grammar.specs.Answer.{IsFaultOf, Refuses, IsRefusal, IsRefused}
+use Rattle.flume_grammar.specs.Answer.{IsFaultOf, Refuses, IsRefusalOf, IsRefusedAs}
 use Rattle.flume_grammar.proofs.Fair.{fair}
 use Rattle.flume_grammar.proofs.FirstFault.{fault_of, parser_of}
 
@@ -25,14 +25,14 @@ is_parsed (Ok list) n k q = parser_of the_limits fair list n k q
 is_parsed (Err f) n k q = ap Err q
 
 pub refused : (bytes : List ℕ) (r : Result Ast ScriptFault)
-    → IfErr r (λ e. e ≢ Memory → parse_of bytes ≡ Err e) → IfErr r (λ e. IsRefusal bytes e)
+    → IfErr r (λ e. e ≢ Memory → parse_of bytes ≡ Err e) → IfErr r (λ e. IsRefusalOf bytes e)
 refused bytes (Ok ast) f = tt
 refused bytes (Err Memory) f = tt
 refused bytes (Err (Refused n k)) f = is_fault (tokens_of bytes) n k (f (λ e. cc))
 
 pub only_refused : (bytes : List ℕ) (r : Result Ast ScriptFault)
     → IfOk r (λ ast. parse_of bytes ≡ Ok ast) → IfErr r (λ e. e ≢ Memory → parse_of bytes ≡ Err e)
-    → (line : ℕ) (kind : ScriptKind) → Refuses bytes line kind → IsRefused r line kind
+    → (line : ℕ) (kind : ScriptKind) → Refuses bytes line kind → IsRefusedAs r line kind
 only_refused bytes (Ok ast) q f line kind h = let a = sym q
     ∙ is_parsed (tokens_of bytes) line kind h in cc
 only_refused bytes (Err Memory) q f line kind h = tt

@@ -11,7 +11,7 @@ use Rattle.flume_grammar.specs.declared.tree.Expr.{Expr}
 use Rattle.flume_grammar.specs.declared.tree.Body.{Body}
 use Rattle.flume_grammar.specs.declared.tree.Body.TheVariants as body
 use Rattle.flume_grammar.specs.inner.Out.{Out, give, bind, at, one, next, all_of}
-use Rattle.flume_grammar.specs.inner.Reading.{keyword_at, is_at_keyword, numbered}
+use Rattle.flume_grammar.specs.inner.Reading.{keyword_at, is_at_keyword, numbered, of_keyword}
 use Rattle.flume_grammar.specs.inner.Bodies as b
 use Rattle.flume_grammar.specs.inner.Bodies.{Block, value, block_layer, block_within}
 use Rattle.flume_grammar.specs.Grammar as g
@@ -190,7 +190,7 @@ module _ (limits : Limits) (fair : IsFair limits) where
     s_body ts x us q =
         let a = bound (one (b.body_start limit) ts) _ x us q in
         let t = one_token (b.body_start limit) ts a.got a.rest a.part in
-        let i = started_inv t.token (b.body_of t.token.kind) a.got t.gives in
+        let i = started_inv t.token (of_keyword b.keyword_body t.token.kind) a.got t.gives in
         let k = by_keyword b.keyword_body (λ j z. Shows j (b.after_start limits limit inner z))
         s_after t.token.kind a.got.0 i.0 in
         subst (λ z. IsRead z us x) (sym (t.is ∙ ap (λ z. z ∷ a.rest)

@@ -12,7 +12,7 @@ use Rattle.flume_grammar.specs.declared.tree.Combiner.TheVariants as combiner
 use Rattle.flume_grammar.specs.declared.tree.Operation.{Operation}
 use Rattle.flume_grammar.specs.declared.tree.Operation.TheVariants as operation
 use Rattle.flume_grammar.specs.inner.Out.{bind, give, next, one}
-use Rattle.flume_grammar.specs.inner.Reading.{keyword_at, comma_at, is_at_keyword}
+use Rattle.flume_grammar.specs.inner.Reading.{keyword_at, comma_at, name_at, is_at_keyword}
 use Rattle.flume_grammar.specs.inner.Types.{at_comma}
 use Rattle.flume_grammar.specs.inner.Statements as s
 use Rattle.flume_grammar.specs.Grammar as g
@@ -164,6 +164,34 @@ module _ (limits : Limits) (fair : IsFair limits) where
           (key keyword.Do n ∷ name c m ∷ name f k ∷ ts) ts us (operation.Do c f)
           (s.applied c f o) refl v.1 (ap (s.applied c f) v.0) g.do_
 
+  -- an operation on one collection, and a combination of one
+  s_alone : (k : Keyword) (make : List ℕ → Operation)
+      → ((n m : ℕ) (c : List ℕ) (ts : List Token)
+      → IsOperation limits (key k n ∷ name c m ∷ ts) ts (make c))
+      → (n : ℕ) (ts : List Token) (x : Operation) (us : List Token)
+      → bind (one name_at ts) (λ c vs. give (make c) vs) ≡ Ok (x, us)
+      → IsOperation limits (key k n ∷ ts) us x
+  s_alone k make h n ts x us q =
+      let a = past_name ts _ x us q in
+      let v = gave (make a.got) x a.rest us a.after in
+      moved_by (IsOperation limits) (key k n ∷ name a.got a.line ∷ a.rest) _ a.rest us
+      (make a.got) x (ap (λ z. key k n ∷ z) a.is) v.1 v.0 (h n a.line a.got a.rest)
+
+  s_by : (k : Keyword) (make : List ℕ → Combiner → Operation)
+      → ((n m j : ℕ) (c : List ℕ) (b : Combiner) (ts us : List Token) → IsCombiner ts us b
+      → IsOperation limits (key k n ∷ name c m ∷ key keyword.By j ∷ ts) us (make c b))
+      → (n : ℕ) (ts : List Token) (x : Operation) (us : List Token)
+      → bind (s.by_combiner ts) (λ y vs. give (make y.0 y.1) vs) ≡ Ok (x, us)
+      → IsOperation limits (key k n ∷ ts) us x
+  s_by k make h n ts x us q =
+      let a = bound (s.by_combiner ts) _ x us q in
+      let c = s_combined ts a.got a.rest a.part in
+      let v = gave (make a.got.0 a.got.1) x a.rest us a.after in
+      moved_by (IsOperation limits)
+      (key k n ∷ name a.got.0 c.n ∷ key keyword.By c.m ∷ c.vs) _ a.rest us
+      (make a.got.0 a.got.1) x (ap (λ z. key k n ∷ z) c.start) v.1 v.0
+      (h n c.n c.m a.got.0 a.got.1 c.vs a.rest c.by_)
+
   -- an operation, behind the keyword that it begins with
   abbrev pub Operates : Keyword → OperationStart → Type 0
   Operates k z = (n : ℕ) (ts : List Token) (x : Operation) (us : List Token)
@@ -180,30 +208,16 @@ module _ (limits : Limits) (fair : IsFair limits) where
       (s.applied a.got c.got d.got) x (ap (λ z. key keyword.Do n ∷ z) (a.is
       ∙ ap (λ z. name a.got a.line ∷ z) c.is)) v.1 v.0
       (s_beside n a.line c.line a.got c.got c.rest d.got d.rest d.part)
-  s_operates keyword.Group = λ n ts x us q.
-      let a = past_name ts _ x us q in
-      let v = gave (operation.Group a.got) x a.rest us a.after in
-      moved_by (IsOperation limits) (key keyword.Group n ∷ name a.got a.line ∷ a.rest) _ a.rest us
-      (operation.Group a.got) x (ap (λ z. key keyword.Group n ∷ z) a.is) v.1 v.0 g.group
-  s_operates keyword.Combine = λ n ts x us q.
-      let a = bound (s.by_combiner ts) _ x us q in
-      let c = s_combined ts a.got a.rest a.part in
-      let v = gave (operation.Combine a.got.0 a.got.1) x a.rest us a.after in
-      moved_by (IsOperation limits)
-      (key keyword.Combine n ∷ name a.got.0 c.n ∷ key keyword.By c.m ∷ c.vs) _ a.rest us
-      (operation.Combine a.got.0 a.got.1) x (ap (λ z. key keyword.Combine n ∷ z) c.start) v.1 v.0
-      (g.combine c.by_)
+  s_operates keyword.Group = s_alone keyword.Group operation.Group (λ n m c ts. g.group)
+  s_operates keyword.Combine =
+      s_by keyword.Combine operation.Combine (λ n m j c b ts us h. g.combine h)
   s_operates keyword.Flatten = λ n ts x us q.
       let a = bound (s.inputs limits ts) _ x us q in
       let f = s_inputs ts a.got a.rest a.part in
       let v = gave (operation.Flatten a.got) x a.rest us a.after in
       moved_by (IsOperation limits) (key keyword.Flatten n ∷ ts) _ a.rest us
       (operation.Flatten a.got) x refl v.1 v.0 (g.flatten f.0 f.1)
-  s_operates keyword.Count = λ n ts x us q.
-      let a = past_name ts _ x us q in
-      let v = gave (operation.Count a.got) x a.rest us a.after in
-      moved_by (IsOperation limits) (key keyword.Count n ∷ name a.got a.line ∷ a.rest) _ a.rest us
-      (operation.Count a.got) x (ap (λ z. key keyword.Count n ∷ z) a.is) v.1 v.0 g.count
+  s_operates keyword.Count = s_alone keyword.Count operation.Count (λ n m c ts. g.count)
   s_operates keyword.Join = λ n ts x us q.
       let a = past_name ts _ x us q in
       let c = past_sign sign.Comma a.rest _ x us a.after in
@@ -221,14 +235,8 @@ module _ (limits : Limits) (fair : IsFair limits) where
       moved_by (IsOperation limits) (key keyword.Top n ∷ number a.got a.line ∷ name c.got c.line ∷
       c.rest) _ c.rest us (operation.Top a.got c.got) x (ap (λ z. key keyword.Top n ∷ z) (a.is
       ∙ ap (λ z. number a.got a.line ∷ z) c.is)) v.1 v.0 g.top
-  s_operates keyword.Combineall = λ n ts x us q.
-      let a = bound (s.by_combiner ts) _ x us q in
-      let c = s_combined ts a.got a.rest a.part in
-      let v = gave (operation.CombineAll a.got.0 a.got.1) x a.rest us a.after in
-      moved_by (IsOperation limits)
-      (key keyword.Combineall n ∷ name a.got.0 c.n ∷ key keyword.By c.m ∷ c.vs) _ a.rest us
-      (operation.CombineAll a.got.0 a.got.1) x (ap (λ z. key keyword.Combineall n ∷ z) c.start)
-      v.1 v.0 (g.combine_all c.by_)
+  s_operates keyword.Combineall =
+      s_by keyword.Combineall operation.CombineAll (λ n m j c b ts us h. g.combine_all h)
   s_operates keyword.Operate = λ n ts x us q.
       let a = bound (s.inputs limits ts) _ x us q in
       let f = s_inputs ts a.got a.rest a.part in

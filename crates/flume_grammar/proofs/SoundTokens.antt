@@ -16,7 +16,7 @@ use Rattle.flume_grammar.specs.inner.Out.{Out, give, bind, one, next}
 use Rattle.flume_grammar.specs.inner.Reading.{is_sign, is_keyword, sign_at, keyword_at, name_of, name_at, word_at, number_of, number_at, text_of, text_at, comma_at, or_syntax, of_keyword, is_at_keyword, numbered}
 use Rattle.flume_grammar.specs.inner.Statements.{line_of_let}
 use Rattle.flume_grammar.specs.Terminals.{word_of, key, mark, name, number, text}
-use Rattle.flume_grammar.specs.Grammar.{IsNumbered, absent, present}
+use Rattle.flume_grammar.specs.Grammar.{IsOptionalNumber, absent, present}
 use Rattle.flume_grammar.proofs.Sound.{bound, gave, moved_by, one_token}
 
 -- ---- the tokens by their kinds
@@ -189,18 +189,18 @@ comma_read n limit u ts us q =
 
 -- the number behind a keyword, where that stands
 pub numbered_read : (k : Keyword) (ts : List Token) (x : Option (List ℕ)) (us : List Token)
-    → numbered k ts ≡ Ok (x, us) → IsNumbered k ts us x
+    → numbered k ts ≡ Ok (x, us) → IsOptionalNumber k ts us x
 numbered_read k ts x us q = by (is_at_keyword k (next ts)) q
   where
     by : (t : Bool)
         → (if t then bind (one (keyword_at k) ts)
         (λ _ vs. bind (one number_at vs) (λ n ws. give (Some n) ws)) else give None ts) ≡ Ok
-        (x, us) → IsNumbered k ts us x
+        (x, us) → IsOptionalNumber k ts us x
     by true p =
         let a = past_keyword k ts _ x us p in
         let c = past_number a.rest _ x us a.after in
         let v = gave (Some c.got) x c.rest us c.after in
-        moved_by (IsNumbered k) (key k a.line ∷ number c.got c.line ∷ c.rest) ts c.rest us
+        moved_by (IsOptionalNumber k) (key k a.line ∷ number c.got c.line ∷ c.rest) ts c.rest us
         (Some c.got) x (a.is ∙ ap (λ z. key k a.line ∷ z) c.is) v.1 v.0 present
     by false p = let v = gave None x ts us p in
-        moved_by (IsNumbered k) ts ts ts us None x refl v.1 v.0 absent
+        moved_by (IsOptionalNumber k) ts ts ts us None x refl v.1 v.0 absent

@@ -89,19 +89,6 @@ module _ (limits : Limits) (fair : IsFair limits) where
       subst (λ z. Started s z us) (sym p.is)
       (started_kind limit p.token.line p.token.kind s us p.gives)
 
-  record Pair (ts us : List Token) (x : Tree × Tree × ℕ) : Type 0 where
-    m : ℕ
-    k : ℕ
-    o : ℕ
-    a : ℕ
-    b : ℕ
-    vs : List Token
-    ws : List Token
-    start : ts ≡ mark sign.Less m ∷ vs
-    left : (IsType limits) vs (mark sign.Comma k ∷ ws) x.0 a
-    right : (IsType limits) ws (mark sign.Greater o ∷ us) x.1 b
-    depth : max a b + 1 ≡ x.2
-
   module _ (inner : Inner) (h : Sound inner) where
     s_list : (n : ℕ) (ts : List Token) (x : Tree × ℕ) (us : List Token)
         → list_type inner ts ≡ Ok (x, us) → IsType limits (key keyword.List n ∷ ts) us x.0 x.1
@@ -116,35 +103,6 @@ module _ (limits : Limits) (fair : IsFair limits) where
         (key keyword.List n ∷ ts) c.rest
         us (type_tree.List b.got.0, b.got.1 + 1) x (ap (λ z. key keyword.List n ∷ z) a.is) g.1
         g.0 (list y)
-
-    s_pair : (ts : List Token) (x : Tree × Tree × ℕ) (us : List Token)
-        → pair_type inner ts ≡ Ok (x, us) → Pair ts us x
-    s_pair ts x us q =
-        let a = past_sign sign.Less ts _ x us q in
-        let b = bound (inner a.rest) _ x us a.after in
-        let c = past_sign sign.Comma b.rest _ x us b.after in
-        let d = bound (inner c.rest) _ x us c.after in
-        let e = past_sign sign.Greater d.rest _ x us d.after in
-        let g = gave (b.got.0, d.got.0, max b.got.1 d.got.1 + 1) x e.rest us e.after in
-        record {
-          m = a.line;
-          k = c.line;
-          o = e.line;
-          a = b.got.1;
-          b = d.got.1;
-          vs = a.rest;
-          ws = c.rest;
-          start = a.is;
-          left = subst (λ t. (IsType limits) a.rest (mark sign.Comma c.line ∷ c.rest) t b.got.1)
-              (ap (λ y. y.0) g.0) (subst (λ z. (IsType limits) a.rest z b.got.0 b.got.1) c.is
-              (h a.rest b.got b.rest b.part));
-          right = subst (λ t. (IsType limits) c.rest (mark sign.Greater e.line ∷ us) t d.got.1)
-              (ap (λ y. y.1) g.0)
-              (subst (λ z. (IsType limits) c.rest (mark sign.Greater e.line ∷ z) d.got.0 d.got.1)
-              g.1 (subst (λ z. (IsType limits) c.rest z d.got.0 d.got.1) e.is
-              (h c.rest d.got d.rest d.part)));
-          depth = ap (λ y. y.2) g.0;
-        }
 
     -- the fields so far of a record that began with those tokens
     abbrev SoFarOf : List Token → Parts Tree → List Token → Type 0
@@ -196,18 +154,31 @@ module _ (limits : Limits) (fair : IsFair limits) where
 
     -- two types in angle brackets behind a keyword
     s_both : (k : Keyword) (f : Tree → Tree → Tree)
-        → ((n : ℕ) (vs us : List Token) (y : Tree × Tree × ℕ) (p : Pair vs us y)
-        → IsRead (key k n ∷ mark sign.Less p.m ∷ p.vs) us (f y.0 y.1, max p.a p.b + 1))
+        → ((n m j o a b : ℕ) (vs ws us : List Token) (s t : Tree)
+        → IsType limits vs (mark sign.Comma j ∷ ws) s a
+        → IsType limits ws (mark sign.Greater o ∷ us) t b
+        → IsType limits (key k n ∷ mark sign.Less m ∷ vs) us (f s t) (max a b + 1))
         → (n : ℕ) (ts vs : List Token) (x : Tree × ℕ) (us : List Token) → ts ≡ key k n ∷ vs
         → bind (pair_type inner vs) (λ y ws. give (f y.0 y.1, y.2) ws) ≡ Ok (x, us)
         → IsRead ts us x
-    s_both k f h n ts vs x us e q =
-        let a = bound (pair_type inner vs) _ x us q in
-        let p = s_pair vs a.got a.rest a.part in
-        let g = gave (f a.got.0 a.got.1, a.got.2) x a.rest us a.after in
-        moved_by IsRead (key k n ∷ mark sign.Less p.m ∷ p.vs) ts a.rest us
-        (f a.got.0 a.got.1, max p.a p.b + 1) x (e ∙ ap (λ z. key k n ∷ z) p.start) g.1
-        (ap (λ d. (f a.got.0 a.got.1, d)) p.depth ∙ g.0) (h n vs a.rest a.got p)
+    s_both k f rule n ts vs x us e q =
+        let p = bound (pair_type inner vs) _ x us q in
+        let a = past_sign sign.Less vs _ p.got p.rest p.part in
+        let b = bound (inner a.rest) _ p.got p.rest a.after in
+        let c = past_sign sign.Comma b.rest _ p.got p.rest b.after in
+        let d = bound (inner c.rest) _ p.got p.rest c.after in
+        let o = past_sign sign.Greater d.rest _ p.got p.rest d.after in
+        let y = gave (b.got.0, d.got.0, max b.got.1 d.got.1 + 1) p.got o.rest p.rest o.after in
+        let g = gave (f p.got.0 p.got.1, p.got.2) x p.rest us p.after in
+        let left = subst (λ z. (IsType limits) a.rest z b.got.0 b.got.1) c.is
+        (h a.rest b.got b.rest b.part) in
+        let right = subst (λ z. (IsType limits) c.rest z d.got.0 d.got.1) o.is
+        (h c.rest d.got d.rest d.part) in
+        moved_by IsRead (key k n ∷ mark sign.Less a.line ∷ a.rest) ts o.rest us
+        (f b.got.0 d.got.0, max b.got.1 d.got.1 + 1) x (e ∙ ap (λ z. key k n ∷ z) a.is)
+        (y.1 ∙ g.1) (ap (λ (z : Tree × Tree × ℕ). (f z.0 z.1, z.2)) y.0 ∙ g.0)
+        (rule n a.line c.line o.line b.got.1 d.got.1 a.rest c.rest o.rest b.got.0 d.got.0 left
+        right)
 
     s_after : (s : TypeStart) (ts vs : List Token) (x : Tree × ℕ) (us : List Token)
         → Started s ts vs → after_start limits inner s vs ≡ Ok (x, us)
@@ -217,10 +188,11 @@ module _ (limits : Limits) (fair : IsFair limits) where
     s_after type_start_.List ts vs x us (n, e) q = subst (λ z. (IsType limits) z us x.0 x.1) (sym e)
         (s_list n vs x us q)
     s_after type_start_.Either ts vs x us (n, e) q =
-        s_both keyword.Either type_tree.Either (λ m ws os y p. either p.left p.right) n ts vs x us e
-        q
+        s_both keyword.Either type_tree.Either (λ n m j o a b vs ws us s t l r. either l r) n ts vs
+        x us e q
     s_after type_start_.Table ts vs x us (n, e) q =
-        s_both keyword.Table type_tree.Table (λ m ws os y p. table p.left p.right) n ts vs x us e q
+        s_both keyword.Table type_tree.Table (λ n m j o a b vs ws us s t l r. table l r) n ts vs x
+        us e q
     s_after type_start_.Record ts vs x us (n, e) q =
         subst (λ z. (IsType limits) z us x.0 x.1) (sym e) (s_record n vs x us q)
 

@@ -14,7 +14,7 @@ use Rattle.flume_grammar.specs.Grammar.{IsScript}
 use Rattle.flume_grammar.specs.Fault.{IsBeginning, IsWhy}
 use Rattle.flume_grammar.proofs.CompleteScript.{complete_script}
 use Rattle.flume_grammar.proofs.Sound.{gave, bound}
-use Rattle.flume_grammar.proofs.Open.{Ends}
+use Rattle.flume_grammar.proofs.Open.{up_to, Ends}
 use Rattle.flume_grammar.proofs.OpenScript.{nothing, statement_turns}
 use Rattle.flume_grammar.proofs.Pair.{Kinds, Spared, Swallows, Passes, RaiseAt}
 use Rattle.flume_grammar.proofs.PairTokens.{Growth}
@@ -56,27 +56,28 @@ module _ (limits : Limits) (fair : IsFair limits) where
       by (raise_statements K limits more fair fair_more growth (before ++ here ∷ []))
     where
       inside : (x : Passes K p_ (script_at more) (before ++ here ∷ [])) (r : List Token)
-          → before ≡ x.before ++ x.here ∷ r → Ends (nothing limits fair) p_ before → ⊥
-      inside x r e (inl q) = none_there x.before x.here r (sym q ∙ e)
+          → before ≡ up_to x.place r → Ends (nothing limits fair) p_ before → ⊥
+      inside x r e (inl q) = none_there x.place.before x.place.here r (sym q ∙ e)
       inside x r e (inr m) =
           let a = m.always [] tt in
           let b = x.always (r ++ (m.others ++ [])) in
           let c = ap (λ z. z ++ (m.others ++ [])) e
-          ∙ append_assoc x.before (x.here ∷ r) (m.others ++ []) in
+          ∙ append_assoc x.place.before (x.place.here ∷ r) (m.others ++ []) in
           let d = sym a ∙ ap p_ c ∙ b in cc
 
       last : (x : Passes K p_ (script_at more) (before ++ here ∷ []))
-          → (x.behind ≡ []) ⊎ ((r : List Token) × (before ≡ x.before ++ x.here ∷ r))
+          → (x.place.behind ≡ []) ⊎ ((r : List Token) × (before ≡ up_to x.place r))
           → Swallows (script_at more (before ++ here ∷ []))
       last x (inl e) =
           subst (λ z. Swallows (script_at more z))
-          (sym (x.split ∙ ap (λ z. x.before ++ x.here ∷ z) e)) x.swallows
+          (sym (x.place.split ∙ ap (λ z. x.place.before ++ x.place.here ∷ z) e)) x.swallows
       last x (inr e) = absurd (inside x e.0 e.1 s.ends)
 
       by : RaiseAt K p_ (script_at more) (before ++ here ∷ [])
           → Swallows (script_at more (before ++ here ∷ []))
       by (inl x) = absurd (subst (Spared K) (s.always []) x.1 i)
-      by (inr x) = last x (last_or_inside before x.before here x.here x.behind x.split)
+      by (inr x) = let y = x.place in
+          last x (last_or_inside before y.before here y.here y.behind y.split)
 
   -- and it stops there too, if the kind is none of these
   pub agreed : (K : Kinds) (more : Limits) (fair_more : IsFair more) → Growth K limits more
@@ -97,7 +98,7 @@ module _ (limits : Limits) (fair : IsFair limits) where
       by : RaiseAt K p_ (script_at more) (before ++ here ∷ others) → ⊥
       by (inl x) = let a = sym (s.always others) ∙ x.0 ∙ q in cc
       by (inr x) =
-          i (subst K (kinds _ _ _ _ (sym (x.always x.behind) ∙ ap p_ (sym x.split)
+          i (subst K (kinds _ _ _ _ (sym (x.always x.place.behind) ∙ ap p_ (sym x.place.split)
           ∙ s.always others)) x.is)
 
   -- ---- higher limits

@@ -46,12 +46,12 @@ IsParsed (Err Memory) ast = Unit {0}
 IsParsed (Err (Refused line kind)) ast = ⊥
 
 -- a refusal is one of the bytes
-abbrev pub IsRefusal : List ℕ → ScriptFault → Type 0
-IsRefusal bytes (Refused line kind) = Refuses bytes line kind
-IsRefusal bytes Memory = Unit {0}
+abbrev pub IsRefusalOf : List ℕ → ScriptFault → Type 0
+IsRefusalOf bytes (Refused line kind) = Refuses bytes line kind
+IsRefusalOf bytes Memory = Unit {0}
 
 -- this refusal, unless memory ran out
-abbrev pub IsRefused : Result Ast ScriptFault → ℕ → ScriptKind → Type 0
-IsRefused (Ok ast) line kind = ⊥
-IsRefused (Err Memory) line kind = Unit {0}
-IsRefused (Err (Refused l k)) line kind = (l ≡ line) × (k ≡ kind)
+abbrev pub IsRefusedAs : Result Ast ScriptFault → ℕ → ScriptKind → Type 0
+IsRefusedAs (Ok ast) line kind = ⊥
+IsRefusedAs (Err Memory) line kind = Unit {0}
+IsRefusedAs (Err (Refused l k)) line kind = (l ≡ line) × (k ≡ kind)

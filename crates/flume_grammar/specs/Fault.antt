@@ -14,8 +14,8 @@ IsBeginning limits ts =
     (others : List Token) × (ss : List Statement) × IsScript limits (ts ++ others) ss
 
 -- the tokens are a script within the limits
-abbrev pub IsWhole : Limits → List Token → Type 0
-IsWhole limits ts = (ss : List Statement) × IsScript limits ts ss
+abbrev pub IsWholeScript : Limits → List Token → Type 0
+IsWholeScript limits ts = (ss : List Statement) × IsScript limits ts ss
 
 -- Why tokens are no beginning within the limits.
 abbrev pub IsWhy : ScriptKind → Limits → List Token → Type 0
@@ -42,6 +42,6 @@ pub data IsFault (limits : Limits) (list : TokenList) (line : ℕ) (kind : Scrip
   end : list.last_line ≡ line
       → kind ≡ Syntax
       → IsBeginning limits list.items
-      → (IsWhole limits list.items → ⊥)
-      → ((more : Limits) → IsBelow limits more → IsWhole more list.items → ⊥)
+      → (IsWholeScript limits list.items → ⊥)
+      → ((more : Limits) → IsBelow limits more → IsWholeScript more list.items → ⊥)
       → IsFault limits list line kind

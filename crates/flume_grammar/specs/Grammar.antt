@@ -63,10 +63,10 @@ pub data AreNames : List Token → List Token → List (List ℕ) → Type 0 whe
       → AreNames ts (mark sign.Comma m ∷ name x n ∷ us) xs → AreNames ts us (xs ++ x ∷ [])
 
 -- [ "scale" num ], [ "to" num ]: the number behind this keyword, where it stands there
-pub data IsNumbered (k : Keyword) : List Token → List Token → Option (List ℕ) → Type 0 where
-  absent : {ts : List Token} → IsNumbered k ts ts None
+pub data IsOptionalNumber (k : Keyword) : List Token → List Token → Option (List ℕ) → Type 0 where
+  absent : {ts : List Token} → IsOptionalNumber k ts ts None
   present : {digits : List ℕ} {n m : ℕ} {ts : List Token}
-      → IsNumbered k (key k n ∷ number digits m ∷ ts) ts (Some digits)
+      → IsOptionalNumber k (key k n ∷ number digits m ∷ ts) ts (Some digits)
 
 module _ (limits : Limits) where
   mutual
@@ -208,7 +208,7 @@ module _ (limits : Limits) where
           → IsBody (key keyword.Let n ∷ name x m ∷ mark sign.Assign k ∷ ts) us (body.Let n x e)
           (a + 1)
       emit : {n a : ℕ} {ts us vs : List Token} {to : Option (List ℕ)} {e : Expr}
-          → IsNumbered keyword.To ts us to → IsExpr 1 us vs e a
+          → IsOptionalNumber keyword.To ts us to → IsExpr 1 us vs e a
           → IsBody (key keyword.Emit n ∷ ts) vs (body.Emit n to e) (a + 1)
       if_ : {n a b : ℕ} {ts us vs : List Token} {e : Expr} {ss : List Body} → IsExpr 1 ts us e a
           → IsBlock us vs ss b
@@ -307,7 +307,7 @@ module _ (limits : Limits) where
         {types : List Tree} {c : Option (List ℕ)} {b : List Body}
         → IsWholeType ts (mark sign.Close o ∷ mark sign.Arrow p ∷ us) s → IsWholeType us vs t
         → AreMoreTypes vs ws types → 1 + length types ≤ limits.outputs
-        → IsNumbered keyword.Scale ws xs c
+        → IsOptionalNumber keyword.Scale ws xs c
         → IsBlock xs ys b d → d ≤ limits.depth
         → IsStatement (key keyword.Fn n ∷ name x m ∷ mark sign.Open k ∷ name y i ∷ mark sign.Colon j
         ∷ ts) ys

@@ -10,16 +10,16 @@ ghost use Rattle.flume_grammar.specs.Answer.{Accepts, Refuses};
 ghost use Rattle.flume_grammar.specs.Utf8.{IsUtf8Named};
 ghost use Rattle.flume_grammar.specs.Limits.{the_limits};
 ghost use Rattle.flume_grammar.specs.Grammar.{IsScript};
-ghost use Rattle.flume_grammar.specs.Fault.{IsWhole, IsFault};
+ghost use Rattle.flume_grammar.specs.Fault.{IsWholeScript, IsFault};
 
 /// Tokens spell one script at most, and where they spell none they have one first fault.
 pub fn script_law()
     ensures one_tree { (ts : List Token) (ss rs : List Statement)
         → IsScript the_limits ts ss → IsScript the_limits ts rs → ss ≡ rs }
-    ensures either { (list : Cut) → IsWhole the_limits list.items
+    ensures either { (list : Cut) → IsWholeScript the_limits list.items
         ⊎ ((line : ℕ) × (kind : Kind) × IsFault the_limits list line kind) }
     ensures not_both { (list : Cut) (line : ℕ) (kind : Kind)
-        → IsWhole the_limits list.items → IsFault the_limits list line kind → ⊥ }
+        → IsWholeScript the_limits list.items → IsFault the_limits list line kind → ⊥ }
     ensures one_fault { (list : Cut) (n m : ℕ) (j k : Kind)
         → IsFault the_limits list n j → IsFault the_limits list m k → (n ≡ m) × (j ≡ k) }
 {}

@@ -24,10 +24,13 @@ pub fn at(line: u32, kind: ScriptKind) -> Stop
 pub fn sign(tokens: &mut Cursor, sign: Sign) -> Result<(), Stop>
     ensures { Reads (one (spec.sign_at sign)) tokens.old tokens.new result }
 {
+    let found = tokens.is_at_sign(sign);
     let Token { kind, line } = tokens.token()?;
-    match kind {
-        TokenKind::Sign(s) if s == sign => Ok(()),
-        _ => Err(at(line, ScriptKind::Syntax)),
+    drop(kind);
+    if found {
+        Ok(())
+    } else {
+        Err(at(line, ScriptKind::Syntax))
     }
 }
 
@@ -35,10 +38,13 @@ pub fn sign(tokens: &mut Cursor, sign: Sign) -> Result<(), Stop>
 pub fn keyword(tokens: &mut Cursor, keyword: Keyword) -> Result<(), Stop>
     ensures { Reads (one (spec.keyword_at keyword)) tokens.old tokens.new result }
 {
+    let found = tokens.is_at_keyword(keyword);
     let Token { kind, line } = tokens.token()?;
-    match kind {
-        TokenKind::Keyword(k) if k == keyword => Ok(()),
-        _ => Err(at(line, ScriptKind::Syntax)),
+    drop(kind);
+    if found {
+        Ok(())
+    } else {
+        Err(at(line, ScriptKind::Syntax))
     }
 }
 
@@ -49,7 +55,10 @@ pub fn name(tokens: &mut Cursor) -> Result<Str, Stop>
     let Token { kind, line } = tokens.token()?;
     match kind {
         TokenKind::Name(own) => Ok(own),
-        _ => Err(at(line, ScriptKind::Syntax)),
+        other => {
+            drop(other);
+            Err(at(line, ScriptKind::Syntax))
+        }
     }
 }
 
@@ -61,7 +70,10 @@ pub fn word(alloc: Global, tokens: &mut Cursor) -> Result<Str, Stop>
     match kind {
         TokenKind::Name(name) => Ok(name),
         TokenKind::Keyword(keyword) => Ok(Str::from_slice(alloc, keyword.spelling())?),
-        _ => Err(at(line, ScriptKind::Syntax)),
+        other => {
+            drop(other);
+            Err(at(line, ScriptKind::Syntax))
+        }
     }
 }
 
@@ -72,7 +84,10 @@ pub fn number(tokens: &mut Cursor) -> Result<Str, Stop>
     let Token { kind, line } = tokens.token()?;
     match kind {
         TokenKind::Number(digits) => Ok(digits),
-        _ => Err(at(line, ScriptKind::Syntax)),
+        other => {
+            drop(other);
+            Err(at(line, ScriptKind::Syntax))
+        }
     }
 }
 
@@ -83,7 +98,10 @@ pub fn text(tokens: &mut Cursor) -> Result<Str, Stop>
     let Token { kind, line } = tokens.token()?;
     match kind {
         TokenKind::Text(text) => Ok(text),
-        _ => Err(at(line, ScriptKind::Syntax)),
+        other => {
+            drop(other);
+            Err(at(line, ScriptKind::Syntax))
+        }
     }
 }
 
@@ -91,10 +109,14 @@ pub fn text(tokens: &mut Cursor) -> Result<Str, Stop>
 pub fn comma(tokens: &mut Cursor, members: usize, limit: usize) -> Result<(), Stop>
     ensures { Reads (one (spec.comma_at members limit)) tokens.old tokens.new result }
 {
+    let found = tokens.is_at_sign(Sign::Comma);
     let Token { kind, line } = tokens.token()?;
-    match kind {
-        TokenKind::Sign(Sign::Comma) if members < limit => Ok(()),
-        TokenKind::Sign(Sign::Comma) => Err(at(line, ScriptKind::TooMany)),
-        _ => Err(at(line, ScriptKind::Syntax)),
+    drop(kind);
+    if !found {
+        Err(at(line, ScriptKind::Syntax))
+    } else if members < limit {
+        Ok(())
+    } else {
+        Err(at(line, ScriptKind::TooMany))
     }
 }

@@ -2,19 +2,21 @@
 ghost use Rattle.std.specs.Prelude.{◌≡◌, ◌<◌, ◌≤◌, IfOk};
 ghost use Rattle.flume_tokens.specs.declared.token.Token.{Token};
 ghost use Rattle.flume_grammar.specs.Limits.{the_limits};
+ghost use Rattle.flume_grammar.specs.Parts.{with_part};
 ghost use Rattle.flume_grammar.specs.inner.Out.{one, all_of};
 ghost use Rattle.flume_grammar.specs.inner.Reads.{Reads, ReadsSuch, PassesSuch, Within, Below};
 ghost use Rattle.flume_grammar.specs.inner.Types as spec;
 
 use crate::cursor::Cursor;
-use crate::reading::{at, comma, sign, word};
+use crate::following::field_name;
+use crate::reading::{at, comma, sign};
 use flume_grammar::limits::{MAX_DEPTH, MAX_FIELDS};
 use flume_grammar::parts::Parts;
 use flume_grammar::start::TypeStart;
 use flume_grammar::{ScriptKind, Stop, Type};
 use flume_tokens::{Keyword, Sign, Token, TokenKind};
-use flume_value::Held;
-use std::alloc::Global;
+use flume_value::{Held, Str};
+use std::alloc::{AllocError, Global};
 
 /// A type, which may have the depth that is allowed.
 pub fn whole_type(alloc: Global, tokens: &mut Cursor) -> Result<Type, Stop>
@@ -51,17 +53,35 @@ fn after_start(
 {
     match start {
         TypeStart::Leaf(leaf) => Ok((leaf, 1)),
-        TypeStart::List => list_type(alloc, tokens, limit),
+        TypeStart::List => {
+            drop(start);
+            list_type(alloc, tokens, limit)
+        }
         TypeStart::Either => {
+            drop(start);
             let (left, right, depth) = pair_type(alloc, tokens, limit)?;
             Ok((Type::Either(left, right), depth))
         }
         TypeStart::Table => {
+            drop(start);
             let (key, value, depth) = pair_type(alloc, tokens, limit)?;
             Ok((Type::Table(key, value), depth))
         }
-        TypeStart::Record => record_type(alloc, tokens, limit),
+        TypeStart::Record => {
+            drop(start);
+            record_type(alloc, tokens, limit)
+        }
     }
+}
+
+/// A part of a type, held while the rest is read, and its depth.
+#[cycle(types)]
+fn part(alloc: Global, tokens: &mut Cursor, limit: u32) -> Result<(Held<Type>, u32), Stop>
+    requires { 2 ≤ limit }
+    ensures { ReadsSuch (λ x. x.1 < limit) (spec.type_below limit) tokens.old tokens.new result }
+{
+    let (part, depth) = type_of(alloc, tokens, limit - 1)?;
+    Ok((Held::new(alloc, part)?, depth))
 }
 
 #[cycle(types)]
@@ -71,9 +91,9 @@ fn list_type(alloc: Global, tokens: &mut Cursor, limit: u32) -> Result<(Type, u3
         tokens.old tokens.new result }
 {
     sign(tokens, Sign::Less)?;
-    let (member, depth) = type_of(alloc, tokens, limit - 1)?;
+    let (member, depth) = part(alloc, tokens, limit)?;
     sign(tokens, Sign::Greater)?;
-    Ok((Type::List(Held::new(alloc, member)?), depth + 1))
+    Ok((Type::List(member), depth + 1))
 }
 
 #[cycle(types)]
@@ -87,15 +107,11 @@ fn pair_type(
         tokens.old tokens.new result }
 {
     sign(tokens, Sign::Less)?;
-    let (first, a) = type_of(alloc, tokens, limit - 1)?;
+    let (first, a) = part(alloc, tokens, limit)?;
     sign(tokens, Sign::Comma)?;
-    let (second, b) = type_of(alloc, tokens, limit - 1)?;
+    let (second, b) = part(alloc, tokens, limit)?;
     sign(tokens, Sign::Greater)?;
-    Ok((
-        Held::new(alloc, first)?,
-        Held::new(alloc, second)?,
-        a.max(b) + 1,
-    ))
+    Ok((first, second, a.max(b) + 1))
 }
 
 #[cycle(types)]
@@ -110,12 +126,9 @@ fn field_type(
     ensures { ReadsSuch (Below limit) (spec.field_type (spec.type_below limit) fields)
         tokens.old tokens.new result }
 {
-    let name = word(alloc, tokens)?;
-    sign(tokens, Sign::Colon)?;
+    let name = field_name(alloc, tokens)?;
     let (part, depth) = type_of(alloc, tokens, limit - 1)?;
-    let mut fields = fields;
-    fields.put(name, part, depth)?;
-    Ok(fields)
+    Ok(with_field(fields, name, part, depth)?)
 }
 
 /// A comma and one more field.
@@ -170,6 +183,20 @@ fn record_type(alloc: Global, tokens: &mut Cursor, limit: u32) -> Result<(Type, 
     Ok((Type::Record(names, types), depth + 1))
 }
 
+/// The fields with one more.
+fn with_field(
+    fields: Parts<Type>,
+    name: Str,
+    part: Type,
+    depth: u32,
+) -> Result<Parts<Type>, AllocError>
+    ensures { IfOk result (λ p. p ≡ with_part fields name part depth) }
+{
+    let mut fields = fields;
+    fields.put(name, part, depth)?;
+    Ok(fields)
+}
+
 fn next_start(tokens: &mut Cursor, limit: u32) -> Result<TypeStart, Stop>
     ensures { ReadsSuch (λ s. spec.HasRoom s limit) (one (spec.type_start limit))
         tokens.old tokens.new result }
@@ -184,14 +211,27 @@ fn type_start(token: Token, limit: u32) -> Result<TypeStart, Stop>
     ensures deep { IfOk result (λ s. spec.HasRoom s limit) }
 {
     let Token { kind, line } = token;
-    let start = match kind {
-        TokenKind::Name(name) => TypeStart::Leaf(Type::Named(name)),
-        TokenKind::Keyword(keyword) => return keyword_type(keyword, line, limit),
-        TokenKind::Sign(Sign::OpenBrace) if limit > 1 => TypeStart::Record,
-        TokenKind::Sign(Sign::OpenBrace) => return Err(at(line, ScriptKind::TooDeep)),
-        _ => return Err(at(line, ScriptKind::Syntax)),
-    };
-    Ok(start)
+    match kind {
+        TokenKind::Name(name) => Ok(TypeStart::Leaf(Type::Named(name))),
+        TokenKind::Keyword(keyword) => keyword_type(keyword, line, limit),
+        TokenKind::Sign(sign) => sign_type(sign, line, limit),
+        other => {
+            drop(other);
+            Err(at(line, ScriptKind::Syntax))
+        }
+    }
+}
+
+fn sign_type(sign: Sign, line: u32, limit: u32) -> Result<TypeStart, Stop>
+    ensures value { (t : Token) → t.line ≡ line
+        → result ≡ spec.kind_type (TokenKind.Sign sign) limit t }
+    ensures deep { IfOk result (λ s. spec.HasRoom s limit) }
+{
+    match sign {
+        Sign::OpenBrace if limit > 1 => Ok(TypeStart::Record),
+        Sign::OpenBrace => Err(at(line, ScriptKind::TooDeep)),
+        _ => Err(at(line, ScriptKind::Syntax)),
+    }
 }
 
 fn keyword_type(keyword: Keyword, line: u32, limit: u32) -> Result<TypeStart, Stop>
@@ -210,6 +250,7 @@ fn keyword_type(keyword: Keyword, line: u32, limit: u32) -> Result<TypeStart, St
     if limit > 1 {
         Ok(start)
     } else {
+        drop(start);
         Err(at(line, ScriptKind::TooDeep))
     }
 }

@@ -70,17 +70,21 @@ pub fn flume_cached<X: Threads + Sync, R: Source, H: Host + Send, K: Shelf, P: S
 {
     memory_law();
     match cached_for(alloc, words) {
-        Ok(Some(wanted)) => run_cached(
-            rt,
-            alloc,
-            &wanted.settings,
-            wanted.script,
-            source,
-            hosts,
-            shelf,
-            screen,
-            cache,
-        ),
+        Ok(Some(wanted)) => {
+            let status = run_cached(
+                rt,
+                alloc,
+                &wanted.settings,
+                wanted.script,
+                source,
+                hosts,
+                shelf,
+                screen,
+                cache,
+            );
+            drop(wanted);
+            status
+        }
         Ok(None) => uncached(rt, alloc, words, source, hosts, shelf, screen),
         Err(_) => no_memory(screen),
     }

@@ -1,6 +1,6 @@
 // Names parted by commas, read from tokens.
 ghost use Rattle.flume_grammar.specs.inner.Out.{all_of};
-ghost use Rattle.flume_grammar.specs.inner.Reads.{Reads, Passes};
+ghost use Rattle.flume_grammar.specs.inner.Reads.{Reads, PassesSuch, all};
 ghost use Rattle.flume_grammar.specs.inner.Types.{at_comma};
 ghost use Rattle.flume_grammar.specs.inner.Statements as spec;
 
@@ -23,7 +23,7 @@ pub fn names(alloc: Global, tokens: &mut Cursor) -> Result<Pile<Str>, Stop>
 
 /// The names after the first.
 fn more_names(tokens: &mut Cursor, first: Pile<Str>) -> Result<Pile<Str>, Stop>
-    ensures { Passes (all_of at_comma spec.next_name first) tokens.old tokens.new result }
+    ensures { PassesSuch all (all_of at_comma spec.next_name first) tokens.old tokens.new result }
 {
     let mut names = first;
     'more: while tokens.is_at_sign(Sign::Comma) {

@@ -21,10 +21,10 @@ pub fn parse(alloc: Global, bytes: &[u8]) -> Result<Ast, ScriptFault>
     // and what they spell is answered, unless memory runs out.
     ensures only { (ast : Ast) → spec.Accepts bytes.now ast → spec.IsParsed result ast }
     // A refusal is the first fault of the bytes,
-    ensures refused { IfErr result (λ e. spec.IsRefusal bytes.now e) }
+    ensures refused { IfErr result (λ e. spec.IsRefusalOf bytes.now e) }
     // and the first fault is answered, unless memory runs out.
     ensures only_refused { (line : ℕ) (kind : Kind) → spec.Refuses bytes.now line kind
-        → spec.IsRefused result line kind }
+        → spec.IsRefusedAs result line kind }
 {
     parsed(alloc, bytes)
 }

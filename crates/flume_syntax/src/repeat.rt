@@ -1,15 +1,16 @@
 // A repeat, read from tokens: what enters its first turn, the lets of its body, and what it gives.
 ghost use Rattle.flume_grammar.specs.Limits.{the_limits};
 ghost use Rattle.flume_grammar.specs.inner.Out.{one};
-ghost use Rattle.flume_grammar.specs.inner.Reads.{Reads, Passes};
+ghost use Rattle.flume_grammar.specs.inner.Reads.{Reads, PassesSuch, all};
 ghost use Rattle.flume_grammar.specs.inner.Statements as spec;
+ghost use Rattle.flume_syntax.specs.inner.Pieces as inner;
 
 use crate::names::names;
 use crate::operation::operation;
 use flume_grammar::{Repeat, ScriptKind, Stop, TurnLet};
 use flume_reading::Cursor;
 use flume_reading::reading::{at, keyword, number, sign};
-use flume_tokens::{Keyword, Sign, Token, TokenKind};
+use flume_tokens::{Keyword, Sign, Token};
 use flume_value::{Pile, Str};
 use std::alloc::Global;
 
@@ -33,11 +34,17 @@ fn head(alloc: Global, tokens: &mut Cursor) -> Result<(Str, Pile<Str>, Pile<Str>
     ensures { Reads spec.repeat_head tokens.old tokens.new result }
 {
     let turns = number(tokens)?;
-    keyword(tokens, Keyword::From)?;
-    let from = names(alloc, tokens)?;
-    keyword(tokens, Keyword::As)?;
-    let entering = names(alloc, tokens)?;
+    let from = names_behind(alloc, tokens, Keyword::From)?;
+    let entering = names_behind(alloc, tokens, Keyword::As)?;
     Ok((turns, from, entering))
+}
+
+/// One name or more behind this keyword.
+fn names_behind(alloc: Global, tokens: &mut Cursor, word: Keyword) -> Result<Pile<Str>, Stop>
+    ensures { Reads (inner.names_behind word) tokens.old tokens.new result }
+{
+    keyword(tokens, word)?;
+    names(alloc, tokens)
 }
 
 /// `{ let .. give .. }`
@@ -46,30 +53,19 @@ fn body(alloc: Global, tokens: &mut Cursor) -> Result<(Pile<TurnLet>, Pile<Str>)
 {
     sign(tokens, Sign::OpenBrace)?;
     let lets = turn_lets(alloc, tokens)?;
-    keyword(tokens, Keyword::Give)?;
-    let gives = names(alloc, tokens)?;
+    let gives = names_behind(alloc, tokens, Keyword::Give)?;
     sign(tokens, Sign::CloseBrace)?;
     Ok((lets, gives))
 }
 
 /// The lets of a body.
 fn turn_lets(alloc: Global, tokens: &mut Cursor) -> Result<Pile<TurnLet>, Stop>
-    ensures { Passes (spec.turn_lets the_limits) tokens.old tokens.new result }
+    ensures { PassesSuch all (spec.turn_lets the_limits) tokens.old tokens.new result }
 {
     let mut lets = Pile::new(alloc);
     'more: while tokens.is_at_keyword(Keyword::Let) {
-        lets = next_let(alloc, tokens, lets)?;
+        lets.push(turn_let(alloc, tokens)?)?;
     }
-    Ok(lets)
-}
-
-/// One more let.
-fn next_let(alloc: Global, tokens: &mut Cursor, lets: Pile<TurnLet>) -> Result<Pile<TurnLet>, Stop>
-    ensures { Reads (spec.next_let the_limits lets) tokens.old tokens.new result }
-{
-    let next = turn_let(alloc, tokens)?;
-    let mut lets = lets;
-    lets.push(next)?;
     Ok(lets)
 }
 
@@ -87,9 +83,12 @@ fn turn_let(alloc: Global, tokens: &mut Cursor) -> Result<TurnLet, Stop>
 fn line_of_let(tokens: &mut Cursor) -> Result<u32, Stop>
     ensures { Reads (one spec.line_of_let) tokens.old tokens.new result }
 {
+    let found = tokens.is_at_keyword(Keyword::Let);
     let Token { kind, line } = tokens.token()?;
-    match kind {
-        TokenKind::Keyword(Keyword::Let) => Ok(line),
-        _ => Err(at(line, ScriptKind::Syntax)),
+    drop(kind);
+    if found {
+        Ok(line)
+    } else {
+        Err(at(line, ScriptKind::Syntax))
     }
 }

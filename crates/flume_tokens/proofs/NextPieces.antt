@@ -8,9 +8,9 @@ use Rattle.flume_tokens.specs.declared.piece.Piece.TheVariants as piece
 use Rattle.flume_tokens.specs.declared.token.Token.{Token}
 use Rattle.flume_tokens.specs.declared.token.TokenKind.{TokenKind}
 use Rattle.flume_tokens.specs.Pieces.{piece_of}
-use Rattle.flume_tokens.specs.Tokens.{Cut, ahead, and_on, tokens_from}
+use Rattle.flume_tokens.specs.Tokens.{TokensOrFault, ahead, and_on, tokens_from}
 
-ahead_ahead : (ts us : List Token) (r : Cut) → ahead ts (ahead us r) ≡ ahead (ts ++ us) r
+ahead_ahead : (ts us : List Token) (r : TokensOrFault) → ahead ts (ahead us r) ≡ ahead (ts ++ us) r
 ahead_ahead ts us (Ok vs) = ap Ok (sym (append_assoc ts us vs))
 ahead_ahead ts us (Err e) = refl
 
@@ -59,7 +59,8 @@ left at k bs = drop-drop k at bs
 some_left : (at : ℕ) (bs : List ℕ) → at < length bs → 0 < length (drop at bs)
 some_left at bs h = omega (arith, length-drop at bs)
 
-pub on_LineEnd : (ts : List Token) (at line : ℕ) (bs : List ℕ) (whole : Cut) → at < length bs
+pub on_LineEnd : (ts : List Token) (at line : ℕ) (bs : List ℕ) (whole : TokensOrFault)
+    → at < length bs
     → piece.LineEnd ≡ piece_of (drop at bs)
     → ahead ts (tokens_from 0 line (drop at bs)) ≡ whole
     → ahead ts (tokens_from 0 (line + 1) (drop (at + 1) bs)) ≡ whole
@@ -67,7 +68,8 @@ on_LineEnd ts at line bs whole h e w =
     ap (λ xs. ahead ts (tokens_from 0 (line + 1) xs)) (sym (left at 1 bs))
     ∙ ap (ahead ts) (sym (next_LineEnd line (drop at bs) (some_left at bs h) e)) ∙ w
 
-pub on_Gap : (ts : List Token) (at k line : ℕ) (bs : List ℕ) (whole : Cut) → at < length bs → 1 ≤ k
+pub on_Gap : (ts : List Token) (at k line : ℕ) (bs : List ℕ) (whole : TokensOrFault)
+    → at < length bs → 1 ≤ k
     → piece.Gap k ≡ piece_of (drop at bs)
     → ahead ts (tokens_from 0 line (drop at bs)) ≡ whole
     → ahead ts (tokens_from 0 line (drop (at + k) bs)) ≡ whole
@@ -75,7 +77,8 @@ on_Gap ts at k line bs whole h g e w =
     ap (λ xs. ahead ts (tokens_from 0 line xs)) (sym (left at k bs))
     ∙ ap (ahead ts) (sym (next_Gap k line (drop at bs) (some_left at bs h) g e)) ∙ w
 
-pub on_Token : (ts us : List Token) (kind : TokenKind) (at k line : ℕ) (bs : List ℕ) (whole : Cut)
+pub on_Token : (ts us : List Token) (kind : TokenKind) (at k line : ℕ) (bs : List ℕ)
+    (whole : TokensOrFault)
     → at < length bs → 1 ≤ k
     → piece.Token kind k ≡ piece_of (drop at bs)
     → us ≡ ts ++ record { kind = kind; line = line } ∷ []
@@ -88,7 +91,8 @@ on_Token ts us kind at k line bs whole h g e u w =
     ∙ ap (λ xs. ahead ts (ahead t (tokens_from 0 line xs))) (sym (left at k bs))
     ∙ ap (ahead ts) (sym (next_Token kind k line (drop at bs) (some_left at bs h) g e)) ∙ w
 
-pub on_Fault : (ts : List Token) (fault : Refusal) (at line : ℕ) (bs : List ℕ) (whole : Cut)
+pub on_Fault : (ts : List Token) (fault : Refusal) (at line : ℕ) (bs : List ℕ)
+    (whole : TokensOrFault)
     → at < length bs → piece.Fault fault ≡ piece_of (drop at bs)
     → ahead ts (tokens_from 0 line (drop at bs)) ≡ whole → whole ≡ Err (Refused line fault)
 on_Fault ts fault at line bs whole h e w = sym w

@@ -8,12 +8,12 @@ use Rattle.flume_tokens.specs.declared.token.Token.{Token}
 use Rattle.flume_tokens.specs.declared.piece.Piece.{Piece}
 use Rattle.flume_tokens.specs.declared.piece.Piece.TheVariants as piece
 use Rattle.flume_tokens.specs.Pieces.{piece_of}
-use Rattle.flume_tokens.specs.Tokens.{Cut, ahead, and_on, tokens_from, line_at, list_of, listed, tokens_of}
+use Rattle.flume_tokens.specs.Tokens.{TokensOrFault, ahead, and_on, tokens_from, line_at, list_of, listed, tokens_of}
 
-abbrev Fails : Cut → Type 0
+abbrev Fails : TokensOrFault → Type 0
 Fails r = r ≡ Err Memory
 
-behind : (ts : List Token) (r : Cut) → Fails (ahead ts r) → Fails r
+behind : (ts : List Token) (r : TokensOrFault) → Fails (ahead ts r) → Fails r
 behind ts (Ok us) e = cc
 behind ts (Err f) e = e
 
@@ -31,7 +31,7 @@ never zero line (b ∷ bs) e = by (piece_of (b ∷ bs)) (λ n m q. never n m bs 
         rest (n - 1) line
         (behind (record { kind = k; line = line } ∷ []) (tokens_from (n - 1) line bs) e)
 
-never_listed : (n : ℕ) (r : Cut) → (Fails r → ⊥) → list_of n r ≡ Err Memory → ⊥
+never_listed : (n : ℕ) (r : TokensOrFault) → (Fails r → ⊥) → list_of n r ≡ Err Memory → ⊥
 never_listed n (Ok us) h e = cc
 never_listed n (Err f) h e = h (let q : f ≡ Memory = cc in ap Err q)
 

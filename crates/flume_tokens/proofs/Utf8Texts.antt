@@ -29,7 +29,7 @@ use Rattle.flume_tokens.specs.Keywords.{keyword_of}
 use Rattle.flume_tokens.specs.Signs.{sign_of}
 use Rattle.flume_tokens.specs.Texts.{Closed, closed_text, escaped, taken, with_byte}
 use Rattle.flume_tokens.specs.Pieces.{piece_of, is_blank, is_in, word_kind, word, number, text, text_piece, sign, sign_piece}
-use Rattle.flume_tokens.specs.Tokens.{Cut, ahead, and_on, tokens_from, line_at, list_of, listed, tokens_of}
+use Rattle.flume_tokens.specs.Tokens.{TokensOrFault, ahead, and_on, tokens_from, line_at, list_of, listed, tokens_of}
 use Rattle.flume_tokens.specs.Utf8.{IsUtf8Text}
 
 -- ---- bytes
@@ -246,7 +246,7 @@ sound_kind front b bs (kind.Number x) n u e = tt
 sound_kind front b bs (kind.Sign x) n u e = tt
 
 -- what is put before sound tokens
-put : (t : Token) (r : Cut) (ts : List Token) → Sound t
+put : (t : Token) (r : TokensOrFault) (ts : List Token) → Sound t
     → ((us : List Token) → r ≡ Ok us → All Sound us)
     → ahead (t ∷ []) r ≡ Ok ts → All Sound ts
 put t (Err f) ts s h e = cc
@@ -282,7 +282,7 @@ pub texts : (bs : List ℕ) (list : TokenList) → tokens_of bs ≡ Ok list → 
 unfolding tokens_of
 texts bs list e = by (nat_lt 65536 (length bs)) (is_utf8 bs) refl e
   where
-    of_list : (n : ℕ) (r : Cut) → ((us : List Token) → r ≡ Ok us → All Sound us)
+    of_list : (n : ℕ) (r : TokensOrFault) → ((us : List Token) → r ≡ Ok us → All Sound us)
         → list_of n r ≡ Ok list → All Sound list.items
     of_list n (Err f) h e = cc
     of_list n (Ok us) h e =

@@ -59,11 +59,11 @@ abbrev pub sign : List ℕ → Piece
 sign bs = sign_piece (sign_of bs)
 
 -- a piece takes at least a byte, and no more than there are
-abbrev pub IsWithin : Piece → ℕ → Type 0
-IsWithin piece.LineEnd n = Unit {0}
-IsWithin (piece.Gap k) n = (1 ≤ k) × (k ≤ n)
-IsWithin (piece.Token kind k) n = (1 ≤ k) × (k ≤ n)
-IsWithin (piece.Fault fault) n = Unit {0}
+abbrev pub TakesWithin : Piece → ℕ → Type 0
+TakesWithin piece.LineEnd n = Unit {0}
+TakesWithin (piece.Gap k) n = (1 ≤ k) × (k ≤ n)
+TakesWithin (piece.Token kind k) n = (1 ≤ k) × (k ≤ n)
+TakesWithin (piece.Fault fault) n = Unit {0}
 
 -- what bytes begin with, which are at least one
 unfoldable pub piece_of : List ℕ → Piece

@@ -11,17 +11,17 @@ use Rattle.flume_tokens.specs.declared.token.Token.{Token}
 use Rattle.flume_tokens.specs.declared.token.TokenList.{TokenList}
 use Rattle.flume_tokens.specs.Pieces.{piece_of}
 
-abbrev pub Cut : Type 0
-Cut = Result (List Token) TokenFault
+abbrev pub TokensOrFault : Type 0
+TokensOrFault = Result (List Token) TokenFault
 
 -- these tokens, and then those
-abbrev pub ahead : List Token → Cut → Cut
+abbrev pub ahead : List Token → TokensOrFault → TokensOrFault
 ahead ts (Ok us) = Ok (ts ++ us)
 ahead ts (Err e) = Err e
 
 -- this piece, on this line, and what is left after it: a function of its bytes yet to pass, and of
 -- the line
-abbrev pub and_on : ℕ → (ℕ → ℕ → Cut) → Piece → Cut
+abbrev pub and_on : ℕ → (ℕ → ℕ → TokensOrFault) → Piece → TokensOrFault
 and_on line rest piece.LineEnd = rest 0 (line + 1)
 and_on line rest (piece.Gap n) = rest (n - 1) line
 and_on line rest (piece.Token kind n) = ahead (record { kind = kind; line = line } ∷ [])
@@ -29,7 +29,7 @@ and_on line rest (piece.Token kind n) = ahead (record { kind = kind; line = line
 and_on line rest (piece.Fault kind) = Err (Refused line kind)
 
 -- The tokens from a line on, or the first fault. The first `left` bytes belong to the piece before.
-abbrev pub tokens_from : ℕ → ℕ → List ℕ → Cut
+abbrev pub tokens_from : ℕ → ℕ → List ℕ → TokensOrFault
 tokens_from left line [] = Ok []
 tokens_from (suc left) line (b ∷ bs) = tokens_from left line bs
 tokens_from zero line (b ∷ bs) = and_on line (λ left n. tokens_from left n bs) (piece_of (b ∷ bs))
@@ -38,7 +38,7 @@ tokens_from zero line (b ∷ bs) = and_on line (λ left n. tokens_from left n bs
 abbrev pub line_at : List ℕ → ℕ → ℕ
 line_at bs at = 1 + count_by (λ b. b == 10) (take at bs)
 
-abbrev pub list_of : ℕ → Cut → Result TokenList TokenFault
+abbrev pub list_of : ℕ → TokensOrFault → Result TokenList TokenFault
 list_of last_line (Ok ts) = Ok (record { items = ts; last_line = last_line })
 list_of last_line (Err e) = Err e
 

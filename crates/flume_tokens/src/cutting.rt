@@ -1,6 +1,6 @@
 // The cutting of a script into its tokens, each with its line.
 ghost use Rattle.std.specs.Prelude.{◌≡◌, ◌≢◌, ◌+◌, ◌-◌, ◌<◌, ◌≤◌, drop, ◌++◌, ◌∷◌, [], ◌==◌, length, count_by, IfOk, IfErr, OnOk};
-ghost use Rattle.flume_tokens.specs.Pieces.{piece_of as piece_of_bytes, IsWithin};
+ghost use Rattle.flume_tokens.specs.Pieces.{piece_of as piece_of_bytes, TakesWithin};
 ghost use Rattle.flume_tokens.specs.Tokens as spec;
 
 use crate::fault::{Refusal, TokenFault};
@@ -79,7 +79,7 @@ fn cut(alloc: Global, bytes: &[u8]) -> Result<Vec<Token>, TokenFault>
 fn piece_at(alloc: Global, bytes: &[u8], at: usize) -> Result<Piece, AllocError>
     requires { at < length bytes.now }
     ensures value { IfOk result (λ p. p ≡ piece_of_bytes (drop at bytes.now)) }
-    ensures within { IfOk result (λ p. IsWithin p (length bytes.now - at)) }
+    ensures within { IfOk result (λ p. TakesWithin p (length bytes.now - at)) }
 {
     piece_of(alloc, &bytes[at..])
 }

@@ -42,7 +42,7 @@ enum Class {
 pub fn piece_of(alloc: Global, bytes: &[u8]) -> Result<Piece, AllocError>
     requires { 0 < length bytes.now }
     ensures value { IfOk result (λ p. p ≡ spec.piece_of bytes.now) }
-    ensures within { IfOk result (λ p. spec.IsWithin p (length bytes.now)) }
+    ensures within { IfOk result (λ p. spec.TakesWithin p (length bytes.now)) }
 {
     let first = bytes[0];
     match first {
@@ -83,7 +83,7 @@ fn is_in(class: Class, b: u8) -> bool
 fn text(alloc: Global, bytes: &[u8]) -> Result<Piece, AllocError>
     requires { 0 < length bytes.now }
     ensures value { IfOk result (λ p. p ≡ spec.text bytes.now) }
-    ensures within { IfOk result (λ p. spec.IsWithin p (length bytes.now)) }
+    ensures within { IfOk result (λ p. spec.TakesWithin p (length bytes.now)) }
 {
     match closed_text(alloc, &bytes[1..])? {
         Some((content, taken)) => Ok(Piece::Token(TokenKind::Text(content), taken + 1)),
@@ -94,7 +94,7 @@ fn text(alloc: Global, bytes: &[u8]) -> Result<Piece, AllocError>
 fn word(alloc: Global, bytes: &[u8]) -> Result<Piece, AllocError>
     requires { is_ascii_alphabetic (slice_index bytes.now 0) ≡ true }
     ensures value { IfOk result (λ p. p ≡ spec.word bytes.now) }
-    ensures within { IfOk result (λ p. spec.IsWithin p (length bytes.now)) }
+    ensures within { IfOk result (λ p. spec.TakesWithin p (length bytes.now)) }
 {
     let end = run_of(Class::Word, bytes);
     let spelling = &bytes[..end];
@@ -110,7 +110,7 @@ fn word(alloc: Global, bytes: &[u8]) -> Result<Piece, AllocError>
 fn number(alloc: Global, bytes: &[u8]) -> Result<Piece, AllocError>
     requires { is_ascii_digit (slice_index bytes.now 0) ≡ true }
     ensures value { IfOk result (λ p. p ≡ spec.number bytes.now) }
-    ensures within { IfOk result (λ p. spec.IsWithin p (length bytes.now)) }
+    ensures within { IfOk result (λ p. spec.TakesWithin p (length bytes.now)) }
 {
     let end = run_of(Class::Digit, bytes);
     Ok(Piece::Token(
@@ -121,7 +121,7 @@ fn number(alloc: Global, bytes: &[u8]) -> Result<Piece, AllocError>
 
 fn sign(bytes: &[u8]) -> Piece
     ensures value { result ≡ spec.sign bytes.now }
-    ensures within { spec.IsWithin result (length bytes.now) }
+    ensures within { spec.TakesWithin result (length bytes.now) }
 {
     match sign_of(bytes) {
         Some(sign) => Piece::Token(TokenKind::Sign(sign), sign.spelling().len()),

@@ -1,6 +1,6 @@
 // The columns of rows, and why a type has none.
 use flume_value::{Pile, Str};
-use std::alloc::{AllocError, AllocFailed};
+use std::alloc::AllocError;
 use thiserror::Error;
 
 /// The columns of a flat type, in order.
@@ -44,17 +44,6 @@ impl From<AllocError> for ColumnFault {
     ghost from_gives = { λ _ e. e ≡ Memory };
 
     fn from(_e: AllocError) -> ColumnFault {
-        ColumnFault::Memory
-    }
-}
-
-impl<T: Drop> From<AllocFailed<T>> for ColumnFault {
-    ghost use Rattle.std.specs.Prelude.{◌≡◌};
-    ghost use Rattle.flume_types.specs.declared.column.ColumnFault.TheVariants.{Memory};
-
-    ghost from_gives = { λ _ e. e ≡ Memory };
-
-    fn from(_e: AllocFailed<T>) -> ColumnFault {
         ColumnFault::Memory
     }
 }

@@ -21,12 +21,12 @@ pub fn columns(alloc: Global, ty: &Ty) -> Result<Columns, ColumnFault>
     ensures not_flat { IfErr result (λ e. e ≢ ColumnFault.Memory →
         columns_of ty.now ≡ None) }
 {
-    let mut columns = Vec::new(alloc);
+    let mut columns = Pile::new(alloc);
     match ty {
         Ty::Rec(fields) => add_fields(alloc, fields.as_slice(), &mut columns)?,
         cell => add_cell(Str::from_slice(alloc, b"value")?, cell, &mut columns)?,
     }
-    Ok(Pile::from_vec(columns))
+    Ok(columns)
 }
 
 /// The columns of an input's type, which is a record of int, bool and text: its fields.
@@ -36,12 +36,14 @@ pub fn input_columns(alloc: Global, ty: &Ty) -> Result<Columns, ColumnFault>
     ensures not_flat { IfErr result (λ e. e ≢ ColumnFault.Memory →
         input_columns_of ty.now ≡ None) }
 {
-    let mut columns = Vec::new(alloc);
     match ty {
-        Ty::Rec(fields) => add_cells(alloc, b"", fields.as_slice(), &mut columns)?,
-        _ => return Err(ColumnFault::NotFlat),
+        Ty::Rec(fields) => {
+            let mut columns = Pile::new(alloc);
+            add_cells(alloc, b"", fields.as_slice(), &mut columns)?;
+            Ok(columns)
+        }
+        _ => Err(ColumnFault::NotFlat),
     }
-    Ok(Pile::from_vec(columns))
 }
 
 /// The cells of a value of a flat type fill the type's columns: as many, and each of its
@@ -58,13 +60,9 @@ pub fn columns_law()
         has_type (Value.Rec cells) t ≡ are_filled columns cells }
 {}
 
-fn add_fields(
-    alloc: Global,
-    fields: &[Field<Ty>],
-    columns: &mut Vec<Column>,
-) -> Result<(), ColumnFault>
+fn add_fields(alloc: Global, fields: &[Field<Ty>], columns: &mut Columns) -> Result<(), ColumnFault>
     ensures flat { OnOk result (
-        columns_and (Some columns.old.items) (record_columns fields.now) ≡ Some columns.new.items) }
+        columns_and (Some columns.old) (record_columns fields.now) ≡ Some columns.new) }
     ensures not_flat { IfErr result (λ e. e ≢ ColumnFault.Memory →
         record_columns fields.now ≡ None) }
 {
@@ -74,17 +72,17 @@ fn add_fields(
     Ok(())
 }
 
-fn add_field(alloc: Global, field: &Field<Ty>, columns: &mut Vec<Column>) -> Result<(), ColumnFault>
+fn add_field(alloc: Global, field: &Field<Ty>, columns: &mut Columns) -> Result<(), ColumnFault>
     ensures flat { OnOk result (
-        columns_and (Some columns.old.items) (field_columns field.now.name (out-Ty field.now.ty))
-        ≡ Some columns.new.items) }
+        columns_and (Some columns.old) (field_columns field.now.name (out-Ty field.now.ty))
+        ≡ Some columns.new) }
     ensures not_flat { IfErr result (λ e. e ≢ ColumnFault.Memory →
         field_columns field.now.name (out-Ty field.now.ty) ≡ None) }
 {
     match &field.ty {
         Ty::Rec(fields) => {
             let prefix = dotted(alloc, &field.name)?;
-            add_cells(alloc, prefix.as_slice(), fields.as_slice(), columns)
+            add_cells(alloc, prefix.as_bytes(), fields.as_slice(), columns)
         }
         cell => add_cell(field.name.copy(alloc)?, cell, columns),
     }
@@ -95,11 +93,11 @@ fn add_cells(
     alloc: Global,
     prefix: &[u8],
     fields: &[Field<Ty>],
-    columns: &mut Vec<Column>,
+    columns: &mut Columns,
 ) -> Result<(), ColumnFault>
     ensures flat { OnOk result (
-        columns_and (Some columns.old.items) (cells_under prefix.now fields.now)
-        ≡ Some columns.new.items) }
+        columns_and (Some columns.old) (cells_under prefix.now fields.now)
+        ≡ Some columns.new) }
     ensures not_flat { IfErr result (λ e. e ≢ ColumnFault.Memory →
         cells_under prefix.now fields.now ≡ None) }
 {
@@ -110,20 +108,18 @@ fn add_cells(
     Ok(())
 }
 
-fn add_cell(name: Str, ty: &Ty, columns: &mut Vec<Column>) -> Result<(), ColumnFault>
+fn add_cell(name: Str, ty: &Ty, columns: &mut Columns) -> Result<(), ColumnFault>
     ensures flat { OnOk result (
-        columns_and (Some columns.old.items) (cell_column name (out-Ty ty.now))
-        ≡ Some columns.new.items) }
+        columns_and (Some columns.old) (cell_column name (out-Ty ty.now))
+        ≡ Some columns.new) }
     ensures not_flat { IfErr result (λ e. e ≢ ColumnFault.Memory →
         cell_column name (out-Ty ty.now) ≡ None) }
 {
-    match cell_kind(ty) {
-        Some(kind) => {
-            columns.push(Column { name, kind })?;
-            Ok(())
-        }
-        None => Err(ColumnFault::NotFlat),
-    }
+    let Some(kind) = cell_kind(ty) else {
+        return Err(ColumnFault::NotFlat);
+    };
+    columns.push(Column { name, kind })?;
+    Ok(())
 }
 
 fn cell_kind(ty: &Ty) -> Option<ColumnKind>
@@ -137,12 +133,11 @@ fn cell_kind(ty: &Ty) -> Option<ColumnKind>
     }
 }
 
-fn dotted(alloc: Global, name: &Str) -> Result<Vec<u8>, AllocError>
-    ensures { IfOk result (λ bytes. bytes.items ≡ name.now ++ codes ".") }
+fn dotted(alloc: Global, name: &Str) -> Result<Str, AllocError>
+    ensures { IfOk result (λ dotted. dotted ≡ name.now ++ codes ".") }
 {
-    let mut bytes = Vec::from_slice(alloc, name.as_bytes())?;
-    bytes.push(b'.')?;
-    Ok(bytes)
+    let dot = Str::from_slice(alloc, b".")?;
+    prefixed(alloc, name.as_bytes(), &dot)
 }
 
 fn prefixed(alloc: Global, prefix: &[u8], name: &Str) -> Result<Str, AllocError>

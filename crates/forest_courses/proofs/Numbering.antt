@@ -12,7 +12,7 @@ use Rattle.forest_steps.specs.of_exec_graph.Meaning.{is_out, has_out}
 use Rattle.forest_steps.specs.of_exec_graph.World.{World}
 use Rattle.task_lists.specs.of_exec_plan.Channels.{kept_out, outs_of}
 use Rattle.task_lists.specs.Runs.{out_at}
-use Rattle.forest_steps.specs.Running.{Lists, put}
+use Rattle.forest_steps.specs.Running.{OutputLists, put}
 use Rattle.forest_steps.specs.Fresh.{empties}
 use Rattle.forest_courses.proofs.Pouring.{poured, poured_all}
 
@@ -125,7 +125,7 @@ out_none w (Grow l kids rest) j x h =
     ∙ out_none w rest j x b.1
 
 -- ---- the list of each output
-abbrev pub part_at : Lists → ℕ → List Value
+abbrev pub part_at : OutputLists → ℕ → List Value
 part_at os j = or_none (slice_get os j)
 
 same_suc : (i j : ℕ) → (i == j) ≡ (suc i == suc j)
@@ -135,7 +135,7 @@ same_suc i j = elim (i == j) as (λ b. (i == j) ≡ b → b ≡ (suc i == suc j)
   | false ↦ λ e. let other : (suc i == suc j) ≡ false = grind (arith, e) in sym other
 ] refl
 
-part_set : (os : Lists) (i j : ℕ) (v : List Value) → i < length os
+part_set : (os : OutputLists) (i j : ℕ) (v : List Value) → i < length os
     → part_at (slice_set os i v) j ≡ cond (i == j) v (part_at os j)
 part_set [] i j v h = absurd (omega arith)
 part_set (o ∷ os) zero zero v h = refl
@@ -146,7 +146,7 @@ part_set (o ∷ os) (suc i) zero v h = let e : (suc i == 0)
 part_set (o ∷ os) (suc i) (suc j) v h = part_set os i j v (omega arith)
     ∙ ap (λ b. cond b v (part_at os j)) (same_suc i j)
 
-put_at : (o : Option ℕ) (vs : List Value) (os : Lists) (j : ℕ) → HasRoom (length os) o
+put_at : (o : Option ℕ) (vs : List Value) (os : OutputLists) (j : ℕ) → HasRoom (length os) o
     → part_at (put o vs os) j ≡ part_at os j ++ cond (is_out o j) vs []
 put_at None vs os j h = sym (append-nil (part_at os j))
 put_at (Some i) vs os j h =
@@ -157,16 +157,17 @@ put_at (Some i) vs os j h =
       | false ↦ λ e. sym (append-nil (part_at os j))
     ] refl
 
-put_length : (o : Option ℕ) (vs : List Value) (os : Lists) → length (put o vs os) ≡ length os
+put_length : (o : Option ℕ) (vs : List Value) (os : OutputLists) → length (put o vs os) ≡ length os
 put_length None vs os = refl
 put_length (Some i) vs os = length-set os i (part_at os i ++ vs)
 
-all_length : (g : Value → Lists → Lists) → ((y : Value) (os : Lists) → length (g y os) ≡ length os)
-    → (xs : List Value) (os : Lists) → length (fold (λ us y. g y us) os xs) ≡ length os
+all_length : (g : Value → OutputLists → OutputLists)
+    → ((y : Value) (os : OutputLists) → length (g y os) ≡ length os)
+    → (xs : List Value) (os : OutputLists) → length (fold (λ us y. g y us) os xs) ≡ length os
 all_length g h [] os = refl
 all_length g h (y ∷ ys) os = all_length g h ys (g y os) ∙ h y os
 
-poured_length : (w : World) (f : Forest) (x : Value) (os : Lists) → length (poured w f x os)
+poured_length : (w : World) (f : Forest) (x : Value) (os : OutputLists) → length (poured w f x os)
     ≡ length os
 poured_length w Bare x os = refl
 poured_length w (Grow l kids rest) x os =
@@ -174,14 +175,14 @@ poured_length w (Grow l kids rest) x os =
     ∙ put_length l.out (emitted w l x) (poured_all w kids (emitted w l x) os)
     ∙ all_length (poured w kids) (poured_length w kids) (emitted w l x) os
 
-poured_all_length : (w : World) (f : Forest) (xs : List Value) (os : Lists)
+poured_all_length : (w : World) (f : Forest) (xs : List Value) (os : OutputLists)
     → length (poured_all w f xs os) ≡ length os
 poured_all_length w f xs os = all_length (poured w f) (poured_length w f) xs os
 
 -- one output of many elements, from that of one
 all_at : (w : World) (f : Forest) (j m : ℕ)
-    → ((x : Value) (os : Lists) → length os ≡ m → part_at (poured w f x os) j
-    ≡ part_at os j ++ out_at w f j x) → (xs : List Value) (os : Lists) → length os ≡ m
+    → ((x : Value) (os : OutputLists) → length os ≡ m → part_at (poured w f x os) j
+    ≡ part_at os j ++ out_at w f j x) → (xs : List Value) (os : OutputLists) → length os ≡ m
     → part_at (poured_all w f xs os) j ≡ part_at os j ++ flat_map (out_at w f j) xs
 all_at w f j m h [] os e = sym (append-nil (part_at os j))
 all_at w f j m h (y ∷ ys) os e =
@@ -206,7 +207,7 @@ one_of_three false false os own kids rest g h k = (λ i. ((os ++ k refl i) ++ []
     ∙ (λ i. append-nil (append-nil os i) i ++ rest)
 
 -- a list gets what its output gives
-poured_at : (w : World) (f : Forest) (n m j : ℕ) (x : Value) (os : Lists) → IsFrom n f
+poured_at : (w : World) (f : Forest) (n m j : ℕ) (x : Value) (os : OutputLists) → IsFrom n f
     → after n f ≤ m → length os ≡ m → part_at (poured w f x os) j ≡ part_at os j ++ out_at w f j x
 poured_at w Bare n m j x os is h e = sym (append-nil (part_at os j))
 poured_at w (Grow l kids rest) n m j x os is h e =
@@ -266,12 +267,13 @@ outs_ups (Grow l kids rest) n is =
     ∙ ups_split n a (after k rest) (after_rises (Grow l Bare Bare) n)
     (omega (arith, after_rises kids a, after_rises rest k))
 
-map_ups_shift : (os : Lists) (o : List Value) (a k : ℕ) → map (part_at (o ∷ os)) (ups (suc a) k)
+map_ups_shift : (os : OutputLists) (o : List Value) (a k : ℕ)
+    → map (part_at (o ∷ os)) (ups (suc a) k)
     ≡ map (part_at os) (ups a k)
 map_ups_shift os o a zero = refl
 map_ups_shift os o a (suc k) = ap (λ l. part_at os a ∷ l) (map_ups_shift os o (suc a) k)
 
-map_parts : (os : Lists) → map (part_at os) (ups 0 (length os)) ≡ os
+map_parts : (os : OutputLists) → map (part_at os) (ups 0 (length os)) ≡ os
 map_parts [] = refl
 map_parts (o ∷ os) = ap (λ l. o ∷ l) (map_ups_shift os o 0 (length os) ∙ map_parts os)
 

@@ -7,31 +7,32 @@ use Rattle.flume_collection.specs.Calls.{Called, emissions, or_none}
 use Rattle.forest_steps.specs.of_exec_graph.Calls.{called, emitted}
 use Rattle.forest_steps.specs.of_exec_graph.Forests.{Forest, Bare, Grow}
 use Rattle.forest_steps.specs.of_exec_graph.World.{World}
-use Rattle.forest_steps.specs.Running.{Given, Lists, Run, and_then, below, behind, counted, kept, put, run, run_answer, run_each}
+use Rattle.forest_steps.specs.Running.{Given, OutputLists, Run, and_then, below, behind, counted, kept, put, run, run_answer, run_each}
 
 -- what the steps put behind the lists
-abbrev pub poured : World → Forest → Value → Lists → Lists
+abbrev pub poured : World → Forest → Value → OutputLists → OutputLists
 poured w Bare x lists = lists
 poured w (Grow l kids rest) x lists =
     poured w rest x
     (put l.out (emitted w l x)
     (fold (λ more y. poured w kids y more) lists (emitted w l x)))
 
-abbrev pub poured_all : World → Forest → List Value → Lists → Lists
+abbrev pub poured_all : World → Forest → List Value → OutputLists → OutputLists
 poured_all w f xs lists = fold (λ more y. poured w f y more) lists xs
 
 -- a run that is not trapped leaves these lists
-abbrev Leaves : Lists → Run → Type 0
+abbrev Leaves : OutputLists → Run → Type 0
 Leaves lists (Ok left) = left.lists ≡ lists
 Leaves lists (Err trap) = Unit {0}
 
-leaves_then : (lists : Lists) (r : Run) (f : Given → Run) (g : Lists → Lists) → Leaves lists r
+leaves_then : (lists : OutputLists) (r : Run) (f : Given → Run) (g : OutputLists → OutputLists)
+    → Leaves lists r
     → ((more : Given) → Leaves (g more.lists) (f more)) → Leaves (g lists) (and_then r f)
 leaves_then lists (Ok left) f g h k =
     subst (λ l. Leaves (g l) (f left)) h (k left)
 leaves_then lists (Err trap) f g h k = tt
 
-leaves_each : (P : Value → Lists → Lists) (f : Value → Given → Run)
+leaves_each : (P : Value → OutputLists → OutputLists) (f : Value → Given → Run)
     → ((x : Value) (more : Given) → Leaves (P x more.lists) (f x more)) → (xs : List Value)
     (more : Given) → Leaves (fold (λ ls y. P y ls) more.lists xs) (run_each f xs more)
 leaves_each P f h [] more = refl
@@ -39,7 +40,7 @@ leaves_each P f h (x ∷ xs) more =
     leaves_then (P x more.lists) (f x more) (run_each f xs)
     (λ ls. fold (λ ks y. P y ks) ls xs) (h x more) (λ given. leaves_each P f h xs given)
 
-leaves_answer : (P : Value → Lists → Lists) (f : Value → Given → Run)
+leaves_answer : (P : Value → OutputLists → OutputLists) (f : Value → Given → Run)
     → ((x : Value) (more : Given) → Leaves (P x more.lists) (f x more)) → (origin which : ℕ)
     (answer : Called) (out : Option ℕ) (at : ℕ) (more : Given)
     → Leaves (put out (emissions which answer)

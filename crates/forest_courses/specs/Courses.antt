@@ -10,7 +10,7 @@ use Rattle.forest_steps.specs.Running.{Given}
 -- nothing traps; what each output that is kept is given, and how many elements each output of each
 -- step
 -- emits
-pub record IsMade (w : World) (does : Option Forest) (xs : List Value) (given : Given)
+pub record IsUntrapped (w : World) (does : Option Forest) (xs : List Value) (given : Given)
     : Type 0 where
   pub calm : traps_of w does xs ≡ []
   pub lists : given.lists ≡ all_given w does xs
@@ -18,5 +18,5 @@ pub record IsMade (w : World) (does : Option Forest) (xs : List Value) (given : 
 
 -- what the outputs are given, or the first trap
 abbrev pub IsCourse : World → Option Forest → List Value → Result Given Trap → Type 0
-IsCourse w does xs (Ok given) = IsMade w does xs given
+IsCourse w does xs (Ok given) = IsUntrapped w does xs given
 IsCourse w does xs (Err trap) = slice_get (traps_of w does xs) 0 ≡ Some trap

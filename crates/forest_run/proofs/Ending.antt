@@ -8,7 +8,7 @@ use Rattle.exec_graph.specs.World.{World}
 use Rattle.crew.specs.declared.drill.Entry.{Entry}
 use Rattle.crew.specs.declared.attempts.Attempt.{Attempt}
 use Rattle.crew.specs.declared.attempts.Attempt.TheVariants.{Made, Down}
-use Rattle.crew.specs.Attempts.{IsMadeOf, MatchAttempt, Ran, StoppedDown, StoppedEarly}
+use Rattle.crew.specs.Attempts.{MadeHas, MatchAttempt, Ran, StoppedDown, StoppedEarly}
 use Rattle.outside.specs.Accounts.{Account}
 use Rattle.forest_steps.specs.Fresh.{none_given}
 use Rattle.forest_steps.specs.Places.{outputs_in, sizes_in}
@@ -17,13 +17,13 @@ use Rattle.forest_steps.specs.Turns.{in_turn}
 use Rattle.forest_steps.proofs.Visiting.{in_turn_each}
 use Rattle.forest_courses.specs.Courses.{IsCourse}
 use Rattle.forest_courses.proofs.Coursing.{either_course}
-use Rattle.forest_run.specs.Asked.{Asked}
+use Rattle.forest_run.specs.Asked.{WasAsked}
 use Rattle.forest_run.specs.inner.Ends.{IsRest}
 
 -- ---- the end of a walk
 module _ (e : Entry) (trap : Trap) (from to : ℕ) (a b : Account) where
   pub rest_value : (whole : Run) (r : Attempt Run) → IsRest e trap from to a b r
-      → whole ≡ Err trap → IsMadeOf (λ end. whole ≡ end) r
+      → whole ≡ Err trap → MadeHas (λ end. whole ≡ end) r
   rest_value whole (Made (Ok given)) rest is = absurd rest
   rest_value whole (Made (Err t)) rest is = is ∙ ap Err (sym rest.0)
   rest_value whole Down rest is = tt
@@ -46,21 +46,21 @@ module _ (w : World) (f : Forest) (bs : List Branch) (sizes : List ℕ) (start :
   gone_course xs (Err fault) e = tt
 
   pub walked_courses : {E : Type 0} (xs : List Value) (r : Result (Attempt Run) E)
-      → IfOk r (IsMadeOf (λ end. in_turn (map (run w sizes 0 (grown bs)) xs) start ≡ end))
-      → IfOk r (IsMadeOf (IsCourse w (Some f) xs))
+      → IfOk r (MadeHas (λ end. in_turn (map (run w sizes 0 (grown bs)) xs) start ≡ end))
+      → IfOk r (MadeHas (IsCourse w (Some f) xs))
   walked_courses xs (Ok (Made end)) e = walked_course xs end e
   walked_courses xs (Ok Down) e = tt
   walked_courses xs (Err fault) e = tt
 
 -- ---- how an attempt asked its host, for both ends of it
 module _ {O E : Type 0} (e : Entry) (places : ℕ) (a b : Account) where
-  pub asked_ran : (r : Result (Attempt O) E) → Asked e places a b r
+  pub asked_ran : (r : Result (Attempt O) E) → WasAsked e places a b r
       → IfOk r (λ m. MatchAttempt m (Ran e places a b) (StoppedDown e places a b))
   asked_ran (Ok (Made out)) h = h
   asked_ran (Ok Down) h = h
   asked_ran (Err fault) h = tt
 
-  pub asked_early : (r : Result (Attempt O) E) → Asked e places a b r
+  pub asked_early : (r : Result (Attempt O) E) → WasAsked e places a b r
       → OnErr r (StoppedEarly e places a b)
   asked_early (Ok m) h = tt
   asked_early (Err fault) h = h

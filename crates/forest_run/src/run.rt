@@ -1,7 +1,7 @@
 // The steps of a forest on the elements of a task, on a host.
 ghost use Rattle.std.specs.Prelude.{◌≡◌, ◌∷◌, [], ◌^◌, ◌<◌, ◌+◌, IfOk, OnOk, length, None};
 ghost use Rattle.std.specs.List.{AllByRecursion};
-ghost use Rattle.crew.specs.Attempts.{IsMadeOf};
+ghost use Rattle.crew.specs.Attempts.{MadeHas};
 ghost use Rattle.crew.specs.Drills.{attempt_at};
 ghost use Rattle.exec_graph.specs.Forests.{after};
 ghost use Rattle.exec_graph.specs.World.{World};
@@ -11,7 +11,7 @@ ghost use Rattle.forest_steps.specs.Fresh.{none_given};
 ghost use Rattle.forest_steps.specs.Functions.{world_of};
 ghost use Rattle.forest_steps.specs.Places.{outputs_in, sizes_in};
 ghost use Rattle.forest_steps.specs.Safety.{SafeOf};
-ghost use Rattle.forest_run.specs.Asked.{Asked};
+ghost use Rattle.forest_run.specs.Asked.{WasAsked};
 
 use crate::ask::ask_all;
 use crate::walking::{Course, walk};
@@ -36,9 +36,9 @@ pub fn run_owned<F: Functions, H: Host>(
     requires numbered { IsNumbered does.now }
     requires safe { AllByRecursion (SafeOf (world_of (F.called functions.now))
         (F.can_call functions.now) does.now) elements.items }
-    ensures value { IfOk result (IsMadeOf
+    ensures value { IfOk result (MadeHas
         (IsCourse (world_of (F.called functions.now)) does.now elements.items)) }
-    ensures asked { Asked (attempt_at spot.now task) (length elements.items)
+    ensures asked { WasAsked (attempt_at spot.now task) (length elements.items)
         (H.account host.old) (H.account host.new) result }
 {
     match does {
@@ -76,8 +76,8 @@ fn run_whole<H: Host>(
     spot: &Spot,
     task: u32,
 ) -> Result<Attempt<Course>, AllocError>
-    ensures value { (w : World) → IfOk result (IsMadeOf (IsCourse w None elements.items)) }
-    ensures asked { Asked (attempt_at spot.now task) (length elements.items)
+    ensures value { (w : World) → IfOk result (MadeHas (IsCourse w None elements.items)) }
+    ensures asked { WasAsked (attempt_at spot.now task) (length elements.items)
         (H.account host.old) (H.account host.new) result }
 {
     let count = elements.len();

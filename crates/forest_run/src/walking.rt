@@ -1,9 +1,9 @@
 // One walk over the elements of a task, on a host.
 ghost use Rattle.std.specs.Prelude.{◌≡◌, ◌+◌, ◌≤◌, IfOk, length};
-ghost use Rattle.crew.specs.Attempts.{IsMadeOf};
+ghost use Rattle.crew.specs.Attempts.{MadeHas};
 ghost use Rattle.crew.specs.Drills.{attempt_at};
 ghost use Rattle.forest_steps.specs.Turns.{in_turn};
-ghost use Rattle.forest_run.specs.Asked.{Asked};
+ghost use Rattle.forest_run.specs.Asked.{WasAsked};
 ghost use Rattle.forest_run.specs.inner.Ends.{IsRest};
 
 use crate::ask::ask_all;
@@ -27,8 +27,8 @@ pub fn walk<E: Elements + Drop, H: Host>(
     task: u32,
 ) -> Result<Attempt<Course>, AllocError>
     requires { E.are_safe elements }
-    ensures value { IfOk result (IsMadeOf (λ end. in_turn (E.turns elements) outputs ≡ end)) }
-    ensures asked { Asked (attempt_at spot.now task) (length (E.turns elements))
+    ensures value { IfOk result (MadeHas (λ end. in_turn (E.turns elements) outputs ≡ end)) }
+    ensures asked { WasAsked (attempt_at spot.now task) (length (E.turns elements))
         (H.account host.old) (H.account host.new) result }
 {
     match ask_all(host, spot, task, 0, 1) {

@@ -2,13 +2,13 @@
 use Rattle.std.proofs.Common.{◌≡◌, ◌+◌, ℕ, zero, suc, List, [], ◌∷◌, ◌++◌, refl, sym, ap, ◌∙◌, add-one}
 use Rattle.flume_value.specs.declared.value.Value.{Value}
 use Rattle.forest_steps.specs.Fresh.{empties, zeros}
-use Rattle.forest_steps.specs.Running.{Lists}
+use Rattle.forest_steps.specs.Running.{OutputLists}
 
 empties_push : (n : ℕ) → empties n ++ [] ∷ [] ≡ empties (suc n)
 empties_push zero = refl
 empties_push (suc n) = ap (λ l. [] ∷ l) (empties_push n)
 
-pub empties_more : (n : ℕ) (old new : Lists) (v : List Value) → old ≡ empties n
+pub empties_more : (n : ℕ) (old new : OutputLists) (v : List Value) → old ≡ empties n
     → new ≡ old ++ v ∷ [] → v ≡ [] → new ≡ empties (n + 1)
 empties_more n old new v e push none =
     push ∙ (λ i. e i ++ none i ∷ []) ∙ empties_push n ∙ ap empties (sym (add-one n))

@@ -10,7 +10,7 @@ use Rattle.exec_graph.specs.Forests.{Branch, Forest, Bare, Twig, grown, limb, tw
 use Rattle.exec_graph.specs.World.{World}
 use Rattle.forest_steps.specs.Functions.{IsTrapOf}
 use Rattle.forest_steps.specs.Safety.{Safe}
-use Rattle.forest_steps.specs.Running.{Given, Run, and_then, below, behind, behind_all, run, run_answer, run_out, run_twigs, IsRunFault, SafeTwigs}
+use Rattle.forest_steps.specs.Running.{Given, Run, and_then, below, behind, behind_all, run, run_answer, run_out, run_twigs, IsStepsFault, SafeTwigs}
 use Rattle.forest_steps.specs.declared.fault.StepFault.{StepFault}
 use Rattle.forest_steps.specs.declared.fault.StepFault.TheVariants as fault
 
@@ -85,7 +85,7 @@ module _ (w : World) where
 
     pub limb_traps : (at : ℕ) (b : Branch) (x : Value) (given : Given) (t : StepFault)
         → IsTrapOf b.origin (called w b.does x) t
-        → IsRunFault (run w sizes at (limb b Bare) x given) t
+        → IsStepsFault (run w sizes at (limb b Bare) x given) t
     limb_traps at b x given fault.Memory h = tt
     limb_traps at b x given (fault.Trap e) h =
         trap_first b.origin 0 (called w b.does x) b.first.out at

@@ -10,8 +10,8 @@ use Rattle.exec_graph.specs.Twigs.{twig}
 use Rattle.exec_graph.specs.World.{World}
 use Rattle.exec_graph.specs.declared.step.Output.{Output}
 use Rattle.forest_steps.specs.Safety.{Safe}
-use Rattle.forest_steps.specs.Running.{Given, Run, and_then, below, behind, behind_all, counted, kept, run, run_each, run_out, run_twigs, IsRunFault, SafeTwigs}
-use Rattle.forest_steps.specs.Turns.{Turn, first_turn, in_turn}
+use Rattle.forest_steps.specs.Running.{Given, Run, and_then, below, behind, behind_all, counted, kept, run, run_each, run_out, run_twigs, IsStepsFault, SafeTwigs}
+use Rattle.forest_steps.specs.Turns.{StepsTurn, first_turn, in_turn}
 use Rattle.forest_steps.specs.declared.fault.StepFault.{StepFault}
 use Rattle.forest_steps.specs.declared.fault.StepFault.TheVariants as fault
 use Rattle.forest_steps.proofs.Twigging.{grown_run, then_alike}
@@ -38,18 +38,18 @@ goes_on : (r whole : Run) (f : Given → Run) (g : Given) → and_then r f ≡ w
 goes_on r whole f g e is = sym (ap (λ q. and_then q f) is) ∙ e
 
 ends_by : (r whole : Run) (f : Given → Run) (t : StepFault) → and_then r f ≡ whole
-    → IsRunFault r t → IsRunFault whole t
+    → IsStepsFault r t → IsStepsFault whole t
 ends_by r whole f fault.Memory e h = tt
 ends_by r whole f (fault.Trap trap) e h = sym e ∙ ap (λ q. and_then q f) h
 
 -- ---- elements, one after another, each with its turn
-pub turns_done : (turns : List Turn) (g : Given) (whole : Run) → in_turn turns g ≡ whole
+pub turns_done : (turns : List StepsTurn) (g : Given) (whole : Run) → in_turn turns g ≡ whole
     → length turns ≡ 0 → whole ≡ Ok g
 turns_done [] g whole goes h = sym goes
 turns_done (t ∷ turns) g whole goes h = absurd (omega (arith, h))
 
 -- as many are left as there were, but one
-pub turns_left : (turns left : List Turn) → 0 < length turns → left ≡ drop 1 turns
+pub turns_left : (turns left : List StepsTurn) → 0 < length turns → left ≡ drop 1 turns
     → length left + 1 ≡ length turns
 turns_left [] left h is = absurd (omega arith)
 turns_left (t ∷ turns) left h is = let same = ap length is in omega arith
@@ -86,14 +86,14 @@ module _ (w : World) (sizes : List ℕ) where
   pub twigs_first_ends : (b : Branch) (o : Output) (os : List Output) (at : ℕ)
       (answers : List (List Value)) (vs : List Value) (g : Given) (t : StepFault)
       → b.first ≡ twig o → b.more ≡ map twig os → vs ≡ or_none (slice_get answers 0)
-      → IsRunFault (out_of at o vs g) t
-      → IsRunFault (run_twigs w sizes at answers (b.first ∷ b.more) g) t
+      → IsStepsFault (out_of at o vs g) t
+      → IsStepsFault (run_twigs w sizes at answers (b.first ∷ b.more) g) t
   twigs_first_ends b o os at answers vs g t first rest given e =
       ends_by (out_of at o (or_none (slice_get answers 0)) g)
       (run_twigs w sizes at answers (b.first ∷ b.more) g)
       (rest_of (behind sizes at) (drop 1 answers) os) t
       (λ i. run_twigs w sizes at answers (sym first i ∷ sym rest i) g)
-      (subst (λ us. IsRunFault (out_of at o us g) t) given e)
+      (subst (λ us. IsStepsFault (out_of at o us g) t) given e)
 
   twigs_at : (items : List Output) (i : ℕ) (o : Output) (at : ℕ) (answers : List (List Value))
       (vs : List Value) (g : Given) (whole : Run) → i < length items → o ≡ get_or items i o
@@ -121,8 +121,8 @@ module _ (w : World) (sizes : List ℕ) where
   pub twigs_end : (items : List Output) (i : ℕ) (o : Output) (at : ℕ)
       (answers : List (List Value)) (vs : List Value) (g : Given) (whole : Run) (t : StepFault)
       → i < length items → o ≡ get_or items i o → vs ≡ or_none (slice_get answers 0)
-      → rest_of at answers (drop i items) g ≡ whole → IsRunFault (out_of at o vs g) t
-      → IsRunFault whole t
+      → rest_of at answers (drop i items) g ≡ whole → IsStepsFault (out_of at o vs g) t
+      → IsStepsFault whole t
   twigs_end items i o at answers vs g whole t h is given goes e =
       ends_by (out_of at o vs g) whole
       (rest_of (behind sizes at) (drop 1 answers) (drop (i + 1) items)) t
@@ -178,7 +178,7 @@ module _ (w : World) (sizes : List ℕ) where
   pub steps_end : (bs : List Branch) (i : ℕ) (b : Branch) (at : ℕ) (x : Value) (g : Given)
       (whole : Run) (t : StepFault) → i < length bs → b ≡ get_or bs i b
       → run w sizes at (grown (drop i bs)) x g ≡ whole
-      → IsRunFault (run w sizes at (limb b Bare) x g) t → IsRunFault whole t
+      → IsStepsFault (run w sizes at (limb b Bare) x g) t → IsStepsFault whole t
   steps_end bs i b at x g whole t h is goes e =
       ends_by (run w sizes at (limb b Bare) x g) whole
       (run w sizes (behind_all sizes at (b.first ∷ b.more)) (grown (drop (i + 1) bs)) x) t

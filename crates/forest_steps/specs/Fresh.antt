@@ -1,10 +1,10 @@
 -- Before any step.
 use Rattle.std.specs.Prelude.{ℕ, List, [], ◌∷◌}
 use Rattle.std.proofs.Common.{zero, suc}
-use Rattle.forest_steps.specs.Running.{Given, Lists}
+use Rattle.forest_steps.specs.Running.{Given, OutputLists}
 
 -- so many empty lists
-abbrev pub empties : ℕ → Lists
+abbrev pub empties : ℕ → OutputLists
 empties zero = []
 empties (suc n) = [] ∷ empties n
 

@@ -13,25 +13,25 @@ use Rattle.forest_steps.specs.Safety.{Safe}
 use Rattle.forest_steps.specs.declared.fault.StepFault.{StepFault}
 use Rattle.forest_steps.specs.declared.fault.StepFault.TheVariants as fault
 
-abbrev pub Lists : Type 0
-Lists = List (List Value)
+abbrev pub OutputLists : Type 0
+OutputLists = List (List Value)
 
 -- what each output that is kept has got so far, by its number, and how many elements each output of
 -- each step has emitted, by its place in preorder
 pub record Given : Type 0 where
-  pub lists : Lists
+  pub lists : OutputLists
   pub counts : List ℕ
 
 abbrev pub given_code : Coded Given
 given_code =
-    code_by (Lists × List ℕ)
+    code_by (OutputLists × List ℕ)
     (coded× (coded_list (coded_list values.the_row.coded)) (coded_list coded_ℕ))
     (λ g. (g.lists, g.counts))
     (λ p. record { lists = p.0; counts = p.1 })
     (λ _. refl)
 
 -- values go behind the list of an output that is kept
-abbrev pub put : Option ℕ → List Value → Lists → Lists
+abbrev pub put : Option ℕ → List Value → OutputLists → OutputLists
 put None values lists = lists
 put (Some j) values lists = slice_set lists j (or_none (slice_get lists j) ++ values)
 
@@ -117,11 +117,11 @@ SafeTwigs w takes answers (t ∷ ts) =
     × SafeTwigs w takes (drop 1 answers) ts
 
 -- a fault is the trap that ended the steps; want of memory comes at any time
-abbrev pub IsRunFault : Run → StepFault → Type 0
-IsRunFault meant (fault.Trap e) = meant ≡ Err e
-IsRunFault meant fault.Memory = Unit {0}
+abbrev pub IsStepsFault : Run → StepFault → Type 0
+IsStepsFault meant (fault.Trap e) = meant ≡ Err e
+IsStepsFault meant fault.Memory = Unit {0}
 
 -- steps have given this, or were ended by a trap or by want of memory
 abbrev pub IsRun : {T : Type 0} → Run → Given → Result T StepFault → Type 0
 IsRun meant g (Ok t) = meant ≡ Ok g
-IsRun meant g (Err e) = IsRunFault meant e
+IsRun meant g (Err e) = IsStepsFault meant e

@@ -57,7 +57,11 @@ pub(crate) fn answer_moved<F: Functions>(
         (IsTrapOf origin (called (world_of (F.called functions.now)) does x)) }
 {
     match does {
-        Does::Call(_) | Does::Combine(_) => answer(alloc, functions, origin, does, &x),
+        Does::Call(_) | Does::Combine(_) => {
+            let answered = answer(alloc, functions, origin, does, &x);
+            drop(x);
+            answered
+        }
         _ => Ok(derive(alloc, does, x)?),
     }
 }

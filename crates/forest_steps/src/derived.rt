@@ -2,13 +2,12 @@
 ghost use Rattle.std.specs.Prelude.{◌≡◌, ◌∷◌, ◌++◌, [], IfOk, OnOk};
 ghost use Rattle.std.specs.Option.{option_to_list};
 ghost use Rattle.flume_value.specs.Parts.{left_of, right_of};
-ghost use Rattle.bag_groups.specs.Pairs.{parts_of};
 ghost use Rattle.bag_groups.specs.Combining.{group_of};
 ghost use Rattle.exec_graph.specs.Derived.{with_one, under_zero, left_tagged, right_tagged, sides_apart, split, spread};
 ghost use Rattle.forest_steps.specs.Answers.{lists_of};
 
 use crate::emissions::{Answer, only};
-use bag_groups::pair;
+use bag_groups::{into_parts, pair};
 use flume_value::{Items, Pile, Value};
 use key_order::Couple;
 use std::alloc::{AllocError, Global};
@@ -54,10 +53,13 @@ pub(crate) fn split(alloc: Global, x: Value) -> Result<Answer, AllocError>
     ensures { IfOk result (λ answer. lists_of answer ≡ split x ∷ []) }
 {
     match into_group(x) {
-        Some((key, eithers)) => {
-            let sides = sides_of(alloc, eithers)?;
-            Ok(Answer::Pair(Couple::of(key, sides)))
-        }
+        Some((key, eithers)) => match sides_of(alloc, eithers) {
+            Ok(sides) => Ok(Answer::Pair(Couple::of(key, sides))),
+            Err(fault) => {
+                drop(key);
+                Err(fault)
+            }
+        },
         None => only(alloc, Pile::new(alloc)),
     }
 }
@@ -67,7 +69,10 @@ pub(crate) fn spread(alloc: Global, x: Value) -> Result<Answer, AllocError>
     ensures { IfOk result (λ answer. lists_of answer ≡ spread x ∷ []) }
 {
     match into_group(x) {
-        Some((_key, members)) => only(alloc, members),
+        Some((key, members)) => {
+            drop(key);
+            only(alloc, members)
+        }
         None => only(alloc, Pile::new(alloc)),
     }
 }
@@ -104,7 +109,10 @@ fn push_side(either: Value, sides: &mut Sides) -> Result<(), AllocError>
     match either {
         Value::Left(side) => push(side.into_inner(), &mut sides.lefts),
         Value::Right(side) => push(side.into_inner(), &mut sides.rights),
-        _other => Ok(()),
+        other => {
+            drop(other);
+            Ok(())
+        }
     }
 }
 
@@ -115,28 +123,17 @@ fn push(value: Value, values: &mut Vec<Value>) -> Result<(), AllocError>
     Ok(())
 }
 
-/// The key and the value of a pair.
-fn into_parts(x: Value) -> Option<(Value, Value)>
-    ensures { result ≡ parts_of x }
-{
-    let Value::Rec(fields) = x else {
-        return None;
-    };
-    if fields.len() != 2 {
-        return None;
-    }
-    let mut fields = fields.into_vec();
-    let value = fields.pop()?;
-    let key = fields.pop()?;
-    Some((key, value))
-}
-
 /// The key and the list of a group.
 fn into_group(x: Value) -> Option<(Value, Items)>
     ensures { result ≡ group_of x }
 {
-    match into_parts(x)? {
-        (key, Value::List(members)) => Some((key, members)),
-        _ => None,
+    let (key, value) = into_parts(x)?;
+    match value {
+        Value::List(members) => Some((key, members)),
+        other => {
+            drop(key);
+            drop(other);
+            None
+        }
     }
 }

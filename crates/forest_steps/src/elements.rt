@@ -15,10 +15,10 @@ use std::vec::IntoIter;
 /// Elements in their order, each of which goes through its steps once.
 pub trait Elements {
     ghost use Rattle.std.specs.Prelude.{List};
-    ghost use Rattle.forest_steps.specs.Turns.{Turn};
+    ghost use Rattle.forest_steps.specs.Turns.{StepsTurn};
 
     /// What the steps on each element that is left make of what was given.
-    ghost turns: { Self → List Turn };
+    ghost turns: { Self → List StepsTurn };
 
     /// The steps may be called on each element that is left.
     ghost are_safe: { Self → Type 0 };
@@ -46,20 +46,14 @@ pub struct Borrowed<'a, F: Functions> {
 }
 
 impl<'a, F: Functions> Elements for Borrowed<'a, F> {
-    ghost use Rattle.std.specs.Prelude.{map};
-    ghost use Rattle.std.specs.List.{AllByRecursion};
-    ghost use Rattle.exec_graph.specs.Forests.{grown};
     ghost use Rattle.forest_steps.specs.Functions.{world_of};
-    ghost use Rattle.forest_steps.specs.Running.{run};
-    ghost use Rattle.forest_steps.specs.Safety.{Safe};
+    ghost use Rattle.forest_steps.specs.Turns.{AreSafeOn, turns_on};
 
-    ghost turns = { λ b. map
-        (run (world_of (F.called b.functions.now)) b.sizes.now 0 (grown b.steps.now))
-        b.elements.now };
+    ghost turns = { λ b. turns_on (world_of (F.called b.functions.now)) b.sizes.now
+        b.steps.now b.elements.now };
 
-    ghost are_safe = { λ b. AllByRecursion
-        (Safe (world_of (F.called b.functions.now)) (F.can_call b.functions.now)
-        (grown b.steps.now)) b.elements.now };
+    ghost are_safe = { λ b. AreSafeOn (world_of (F.called b.functions.now))
+        (F.can_call b.functions.now) b.steps.now b.elements.now };
 
     fn count(&self) -> usize {
         self.elements.len()
@@ -86,20 +80,14 @@ pub struct Owned<'a, F: Functions> {
 }
 
 impl<'a, F: Functions> Elements for Owned<'a, F> {
-    ghost use Rattle.std.specs.Prelude.{map};
-    ghost use Rattle.std.specs.List.{AllByRecursion};
-    ghost use Rattle.exec_graph.specs.Forests.{grown};
     ghost use Rattle.forest_steps.specs.Functions.{world_of};
-    ghost use Rattle.forest_steps.specs.Running.{run};
-    ghost use Rattle.forest_steps.specs.Safety.{Safe};
+    ghost use Rattle.forest_steps.specs.Turns.{AreSafeOn, turns_on};
 
-    ghost turns = { λ o. map
-        (run (world_of (F.called o.functions.now)) o.sizes.now 0 (grown o.steps.now))
-        o.elements.rest.items };
+    ghost turns = { λ o. turns_on (world_of (F.called o.functions.now)) o.sizes.now
+        o.steps.now o.elements.rest.items };
 
-    ghost are_safe = { λ o. AllByRecursion
-        (Safe (world_of (F.called o.functions.now)) (F.can_call o.functions.now)
-        (grown o.steps.now)) o.elements.rest.items };
+    ghost are_safe = { λ o. AreSafeOn (world_of (F.called o.functions.now))
+        (F.can_call o.functions.now) o.steps.now o.elements.rest.items };
 
     fn count(&self) -> usize {
         self.elements.len()

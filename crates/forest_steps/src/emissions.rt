@@ -29,9 +29,16 @@ pub(crate) fn only(alloc: Global, emitted: Items) -> Result<Answer, AllocError>
 pub(crate) fn one_in_lists(alloc: Global, value: Value) -> Result<Vec<Items>, AllocError>
     ensures { IfOk result (λ lists. lists.items ≡ (value ∷ []) ∷ []) }
 {
-    let mut values = Vec::with_capacity(alloc, 1)?;
-    values.push(value)?;
-    first_list(alloc, Pile::from_vec(values))
+    match Vec::with_capacity(alloc, 1) {
+        Ok(mut values) => {
+            values.push(value)?;
+            first_list(alloc, Pile::from_vec(values))
+        }
+        Err(fault) => {
+            drop(value);
+            Err(fault)
+        }
+    }
 }
 
 fn first_list(alloc: Global, emitted: Items) -> Result<Vec<Items>, AllocError>

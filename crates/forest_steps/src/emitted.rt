@@ -86,12 +86,21 @@ impl Emitted {
     pub(crate) fn push(&mut self, alloc: Global, value: Value) -> Result<(), AllocError>
         ensures { OnOk result (self.new ≡ self.old ++ value ∷ []) }
     {
-        if !self.couples.is_empty() {
-            let couples = replace(&mut self.couples, Vec::new(alloc));
-            append_pairs(alloc, couples, &mut self.values)?;
+        if self.couples.is_empty() {
+            self.values.push(value)?;
+            return Ok(());
         }
-        self.values.push(value)?;
-        Ok(())
+        let couples = replace(&mut self.couples, Vec::new(alloc));
+        match append_pairs(alloc, couples, &mut self.values) {
+            Ok(()) => {
+                self.values.push(value)?;
+                Ok(())
+            }
+            Err(fault) => {
+                drop(value);
+                Err(fault)
+            }
+        }
     }
 
     /// Puts a pair behind the others.

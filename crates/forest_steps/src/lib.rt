@@ -34,6 +34,6 @@ pub use emissions::Answer;
 pub use emitted::Emitted;
 pub use fault::StepFault;
 pub use functions::Functions;
-pub use outputs::Outputs;
+pub use outputs::{Outputs, no_counts};
 pub use sizes::sizes_of;
 pub use visit::{visit_one, visit_steps};

@@ -93,11 +93,11 @@ impl Outputs {
     ) -> Result<(), AllocError>
         ensures { OnOk result (self.new ≡ kept number (value ∷ []) self.old) }
     {
-        if let Some(number) = number {
-            let at = number as usize;
-            if at < self.lists.len() {
-                self.lists[at].push(alloc, value)?;
+        match number {
+            Some(number) if (number as usize) < self.lists.len() => {
+                self.lists[number as usize].push(alloc, value)?;
             }
+            _ => drop(value),
         }
         Ok(())
     }
@@ -111,11 +111,11 @@ impl Outputs {
     ) -> Result<(), AllocError>
         ensures { OnOk result (self.new ≡ kept number (couple ∷ []) self.old) }
     {
-        if let Some(number) = number {
-            let at = number as usize;
-            if at < self.lists.len() {
-                self.lists[at].push_couple(couple)?;
+        match number {
+            Some(number) if (number as usize) < self.lists.len() => {
+                self.lists[number as usize].push_couple(couple)?;
             }
+            _ => drop(couple),
         }
         Ok(())
     }
@@ -132,7 +132,8 @@ fn empty_lists(alloc: Global, count: usize) -> Result<Vec<Emitted>, AllocError>
     Ok(lists)
 }
 
-fn no_counts(alloc: Global, count: usize) -> Result<Vec<u64>, AllocError>
+/// So many counts of nothing.
+pub fn no_counts(alloc: Global, count: usize) -> Result<Vec<u64>, AllocError>
     ensures { IfOk result (λ counts. counts.items ≡ zeros count) }
 {
     let mut counts = Vec::with_capacity(alloc, count)?;

@@ -61,7 +61,9 @@ pub fn move_to_steps<F: Functions>(
         outputs.old) outputs.new result }
 {
     if steps.len() != 1 {
-        return visit_steps(alloc, functions, sizes, steps, at, &x, outputs);
+        let ran = visit_steps(alloc, functions, sizes, steps, at, &x, outputs);
+        drop(x);
+        return ran;
     }
     visit_moved(alloc, functions, sizes, &steps[0], at, x, outputs)?;
     Ok(())
@@ -260,9 +262,16 @@ fn visit_emission<F: Functions>(
         )?;
         return Ok(());
     }
-    visit_kids(alloc, functions, sizes, output, first, &value, outputs)?;
-    outputs.keep_one(alloc, output.number, value)?;
-    Ok(())
+    match visit_kids(alloc, functions, sizes, output, first, &value, outputs) {
+        Ok(()) => {
+            outputs.keep_one(alloc, output.number, value)?;
+            Ok(())
+        }
+        Err(fault) => {
+            drop(value);
+            Err(fault)
+        }
+    }
 }
 
 /// The one step on an output that is not kept, on each emission to it, in order.

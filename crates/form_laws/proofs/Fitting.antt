@@ -20,7 +20,7 @@ use Rattle.plan_laws.specs.declared.operations.Operation.{Operation}
 use Rattle.plan_laws.specs.declared.operations.Operation.TheVariants.{Flat, Class}
 use Rattle.plan_laws.specs.declared.operations.Key.{Key}
 use Rattle.plan_laws.specs.Operations.{IsFlat, IsHonest, runs, times, works_at}
-use Rattle.plan_rules.specs.Fitting.{AreFit, IsFit, IsUsed, flat_runs, same_key}
+use Rattle.plan_rules.specs.Fitting.{AreFit, FitsEntries, IsUsed, flat_runs, same_key}
 use Rattle.plan_roles.specs.Mappers.{is_mapper, is_reducer, is_stage, maps_at, outputs_of, passes, reducer_of}
 use Rattle.plan_roles.specs.Roles.{passes_of}
 use Rattle.form_laws.specs.declared.ranked.Ranked.{Ranked}
@@ -67,7 +67,7 @@ passes_no b (Mapper n ∷ ks) =
 
 -- ---- operations
 class_fit : (b : Blocked) (ns : List ℕ) → IsBlockedOk b → Each (IsGbk b) ns → 0 < length ns
-    → IsFit b.graph.nodes (class_operation b ns)
+    → FitsEntries b.graph.nodes (class_operation b ns)
 class_fit b ns ok a h = record {
   some = class_some b ns ok.ok a h;
   differ = to_distinct same_key (class_keys b ns) (uses_distinct (flat_map (keys_of b) ns));
@@ -81,7 +81,7 @@ class_fit b ns ok a h = record {
 }
 
 trivial_fit : (b : Blocked) (n : ℕ) (d : Place) (f : Forest) → IsSound b.graph
-    → node_at b.graph.nodes n ≡ Some (Pdo d f) → IsFit b.graph.nodes (trivial n f)
+    → node_at b.graph.nodes n ≡ Some (Pdo d f) → FitsEntries b.graph.nodes (trivial n f)
 trivial_fit b n d f ok h = record {
   some = omega arith;
   differ = to_distinct same_key (Mapper n ∷ []) (tt, tt);
@@ -92,7 +92,8 @@ trivial_fit b n d f ok h = record {
 }
 
 barrier_fit : (b : Blocked) (n : ℕ) (ins : List Place) (o : ℕ) (l : Bool) (a : Act)
-    → node_at b.graph.nodes n ≡ Some (Barrier ins o l a) → IsFit b.graph.nodes (barrier_does n a)
+    → node_at b.graph.nodes n ≡ Some (Barrier ins o l a)
+    → FitsEntries b.graph.nodes (barrier_does n a)
 barrier_fit b n ins o l (SideInput f) h = record {
   some = omega arith;
   differ = to_distinct same_key (Mapper n ∷ []) (tt, tt);
@@ -105,7 +106,7 @@ barrier_fit b n ins o l (Operate f) h = tt
 barrier_fit b n ins o l (Singleton k) h = tt
 
 abbrev Fits : Blocked → Ranked → Type 0
-Fits b y = IsFit b.graph.nodes y.does
+Fits b y = FitsEntries b.graph.nodes y.does
 
 flat_fits : (b : Blocked) (n : ℕ) (s : Bool) → Each (Fits b) (cond s (alone b n (Flat n) ∷ []) [])
 flat_fits b n true = (tt, tt)
@@ -226,7 +227,7 @@ formed_fit b os ok f =
     let p = classes_part b cs ok.ok.objects f.classed in
     let sound : IsSound b.graph = IsSound-ok b.graph ok.ok in
     subst (AreFit es) (sym f.ordered) (record {
-      fit = ordered_keep (IsFit es) es _ _ (operations b cs)
+      fit = ordered_keep (FitsEntries es) es _ _ (operations b cs)
           (λ y i. among_all (Fits b) (operations b cs) y
           (all_fit b cs ok f.classed.gbks f.classed.some) i);
       flats = λ n. flats_by b cs p n (node_at es n) sound refl;

@@ -18,7 +18,7 @@ use Rattle.plan_rules.specs.of_exec_plan.Channels.{outs_of}
 use Rattle.plan_rules.proofs.of_graph_laws.ReadPlaces.{same_self}
 use Rattle.plan_laws.specs.declared.operations.Key.{Key}
 use Rattle.plan_laws.specs.declared.operations.Key.TheVariants.{Mapper, Whole}
-use Rattle.plan_laws.specs.Operations.{HasKey, IsFlat, IsGroupedOk, IsHonest, IsKeyOk, IsPdo, IsTaken, TakesInputs, has_key, inputs_at, read_through}
+use Rattle.plan_laws.specs.Operations.{HasKey, IsFlat, IsGroupedOk, IsHonest, IsKeyOk, IsPdo, IsTakenPlace, TakesInputs, has_key, inputs_at, read_through}
 use Rattle.plan_laws.proofs.Carrying.{outs_has}
 use Rattle.plan_roles.specs.Levels.{level}
 use Rattle.plan_roles.specs.Mappers.{is_mapper, key_of, outputs_of, passes}
@@ -175,7 +175,8 @@ takes_by es keys n (Some (Pdo d f)) a h g i = absurd g
 takes_by es keys n (Some (Gbk c o l k)) a h g i =
     let t : IsThere es c =
     (all_found (λ e. Each (IsThere es) (reads e.node)) es n (Gbk c o l k) h a).0 in
-    Each-both (HasKey keys) (IsThere es) (IsTaken es keys) (λ c x y. (x, y)) (read_through es c) i
+    Each-both (HasKey keys) (IsThere es) (IsTakenPlace es keys) (λ c x y. (x, y))
+    (read_through es c) i
     (inputs_there es c (node_at es c.node) a refl t)
 takes_by es keys n (Some (Barrier ins x y d)) a h g i = absurd g
 
@@ -205,14 +206,14 @@ passes_there b n o h =
     (outs_there b.graph.nodes n d f (h ∙ i)))
 
 passes_ok : (b : Blocked) (all ks : List Key) → ((c : Place) → HasKey ks c → HasKey all c)
-    → Each (IsTaken b.graph.nodes all) (flat_map (key_passes b) ks)
+    → Each (IsTakenPlace b.graph.nodes all) (flat_map (key_passes b) ks)
 passes_ok b all [] h = tt
 passes_ok b all (Whole c ∷ ks) h = passes_ok b all ks (λ d i. h d (inr i))
 passes_ok b all (Mapper n ∷ ks) h =
     let es : List Entry = b.graph.nodes in
     let cs : List Place = passes_at b n (node_at es n) in
-    Each-append (IsTaken es all) cs (flat_map (key_passes b) ks)
-    (Each-weaker (λ c. (c.node ≡ n) × IsThere es c) (IsTaken es all)
+    Each-append (IsTakenPlace es all) cs (flat_map (key_passes b) ks)
+    (Each-weaker (λ c. (c.node ≡ n) × IsThere es c) (IsTakenPlace es all)
     (λ c i. (h c (inl (eq-eqb n c.node (sym i.0))), i.1)) cs
     (passes_there b n (node_at es n) refl))
     (passes_ok b all ks (λ d i. h d (inr i)))
@@ -252,7 +253,7 @@ pub trivial_honest : (es : List Entry) (n : ℕ) (d : Place) (f : Forest)
 trivial_honest es n d f h = (
   (subst IsPdo (sym h) tt, tt),
   tt,
-  Each-weaker (λ c. (c.node ≡ n) × IsThere es c) (IsTaken es (Mapper n ∷ []))
+  Each-weaker (λ c. (c.node ≡ n) × IsThere es c) (IsTakenPlace es (Mapper n ∷ []))
       (λ c i. (inl (eq-eqb n c.node (sym i.0)), i.1)) (outputs_of n f) (outs_there es n d f h),
 )
 

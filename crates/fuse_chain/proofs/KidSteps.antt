@@ -32,7 +32,7 @@ use Rattle.pardo_fuse.proofs.Reading.{IsReader, all_readers}
 use Rattle.fuse_chain.specs.Cuts.{IsNextKid, with_inner}
 use Rattle.fuse_chain.specs.Rewrites.{BecomesKid, IsKid}
 use Rattle.fuse_chain.proofs.CutStates.{cut_sound, cut_state, joined_drawn, leader_found, leads_if, owner_in, owner_led, plan_of, read_kept}
-use Rattle.fuse_chain.proofs.Names.{EachOut, grafted_through, grow_alike, of_kids, of_label, of_rest}
+use Rattle.fuse_chain.proofs.Names.{EachOut, beside_through, grafted_through, grow_alike, of_kids, of_label, of_rest}
 use Rattle.fuse_chain.proofs.Plans.{IsNext, drawn_next}
 use Rattle.fuse_chain.proofs.Rewriting.{kid_differ, kid_step}
 use Rattle.fuse_chain.proofs.States.{IsState, fused_in, graph_of, named_graph}
@@ -77,10 +77,7 @@ kept_twice keep held (Grow l kids rest) h =
 
 pub beside_kept : (keep : ℕ → Bool) (f g : Forest)
     → beside (kept_by keep f) (kept_by keep g) ≡ kept_by keep (beside f g)
-beside_kept keep Bare g = refl
-beside_kept keep (Grow l kids rest) g =
-    ap (λ (x : Forest). Grow (with_out (out_kept keep l.out) l) (kept_by keep kids) x)
-    (beside_kept keep rest g)
+beside_kept keep = beside_through (out_kept keep) (kept_by keep) refl (λ l kids rest. refl)
 
 is_out_kept : (keep : ℕ → Bool) (n : ℕ) (o : Option ℕ) → keep n ≡ true
     → is_out (out_kept keep o) n ≡ is_out o n

@@ -21,9 +21,9 @@ use Rattle.fusion_blocks.specs.inner.Tables.{IsRanked}
 use Rattle.fusion_blocks.specs.declared.chains.Stretch.{Stretch}
 use Rattle.fusion_blocks.specs.declared.chains.Stretch.TheVariants.{Open, Empty, Least}
 use Rattle.fusion_blocks.proofs.Blocking.{blocked_by, ranked_ok}
-use Rattle.fusion_blocks.proofs.Chaining.{by_group, by_lifted, by_pdo, by_stretch}
+use Rattle.fusion_blocks.proofs.Chaining.{by_group, by_lifted, by_pdo, tells_mark}
 use Rattle.fusion_blocks.proofs.Filling.{estimate_alike}
-use Rattle.fusion_blocks.proofs.Marking.{among_more, nothing_more, one_more}
+use Rattle.fusion_blocks.proofs.Marking.{also_alike, among_more, nothing_more, one_more}
 
 -- ---- estimates
 
@@ -167,7 +167,11 @@ one_mark : (es : List Entry) (m : ℕ → ℕ) (c : Place) (old : List Place) (o
     → node_at es c.node ≡ o → Known es m c → Marked old (IsMarkOf es m c)
 one_mark es m c old (Some (Pdo i f)) e k =
     let r = least_marks old k.0 in
-    (r.0, by_stretch es m c i f k.0 old r.0 e k.1 r.1)
+    let tells = tells_mark es m c i f k.0 e k.1 in (
+      r.0,
+      also_alike old r.0 (λ d. k.0 ≡ Least d) (IsMarkOf es m c) r.1 (λ d. (tells d).0)
+          (λ d. (tells d).1),
+    )
 one_mark es m c old _ e k = no_mark es m c old (ap is_pdo e)
 
 marks_from : (es : List Entry) (m : ℕ → ℕ) → ((c : Place) → Known es m c) → (old cs : List Place)

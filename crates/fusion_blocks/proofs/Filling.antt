@@ -1,5 +1,5 @@
 -- How estimates become known.
-use Rattle.std.proofs.Common.{◌≡◌, ℕ, ◌+◌, ◌*◌, ◌/◌, ◌<◌, ◌≤◌, Bool, true, false, cond, eqb, List, [], ◌∷◌, length, drop, get_or, Option, Some, None, zero, suc, refl, sym, ap, ◌∙◌, subst, arith}
+use Rattle.std.proofs.Common.{◌≡◌, ℕ, ◌+◌, ◌-◌, ◌*◌, ◌/◌, ◌<◌, ◌≤◌, Bool, true, false, cond, eqb, List, [], ◌∷◌, length, drop, get_or, Option, Some, None, zero, suc, refl, sym, ap, ◌∙◌, subst, arith}
 use Rattle.std.proofs.Math.Seq.{drop-cons}
 use Rattle.std.proofs.lemmas.Bool.{eqb-true}
 use Rattle.std.proofs.lemmas.List.{get_or_default}
@@ -125,6 +125,13 @@ reads_below es turns less n x e b h =
 
 pub turns_less : (es : List Entry) (turns n : ℕ) → IsBelow es turns n → 0 < turns
 turns_less es turns n b = let l = b.below in omega arith
+
+pub all_below : {es : List Entry} {turns n : ℕ} {x : Node} {cs : List Place} → IsBelow es turns n
+    → node_at es n ≡ Some x → cs ≡ reads x → AllBelow es (turns - 1) cs
+all_below {es} {turns} {n} {x} b found is =
+    let some = turns_less es turns n b in
+    let less : turns - 1 + 1 ≡ turns = omega arith in
+    subst (AllBelow es (turns - 1)) (sym is) (reads_below es turns (turns - 1) n x less b found)
 
 pub record IsFilling (scales : List ℕ) (es : List Entry) (turns : ℕ) (places rest : List Place)
     (first now : ℕ → Option ℕ) : Type 0 where

@@ -1,19 +1,20 @@
 // The marks of a graph: where the chains from groups to what feeds a group are cut.
-ghost use Rattle.std.specs.Prelude.{◌≡◌, OnOk, IfOk};
+ghost use Rattle.std.specs.Prelude.{◌≡◌, [], List, OnOk, IfOk};
+ghost use Rattle.exec_graph.specs.declared.graph.Entry.{Entry as GhostEntry};
 ghost use Rattle.exec_graph.specs.Wellformed.{IsBlockedOk, IsGraphOk};
-ghost use Rattle.fusion_blocks.specs.Blocks.{IsBlocked, IsMarkOf};
+ghost use Rattle.fusion_blocks.specs.Blocks.{IsBlocked};
 ghost use Rattle.node_index.specs.Index.{IsIndex};
-ghost use Rattle.fusion_blocks.specs.inner.Stretches.{AreBefore, AreMarks, HasCodes, HasGrouped, MarkedFrom, MarksAlso, fed};
+ghost use Rattle.fusion_blocks.specs.inner.Stretches.{AreBefore, AreMarks, HasCodes, HasGrouped, MarkedBy, MarkedFrom, MarksAlso, fed};
 ghost use Rattle.fusion_blocks.specs.inner.Tables.{IsRanked, known};
 ghost use Rattle.fusion_blocks.specs.declared.chains.Stretch.TheVariants as least;
 
-use crate::chains::{Stretch, stretch_to};
+use crate::chains::{Stretch, stretch_of};
 use crate::estimates::estimates_of;
 use crate::feeding::grouped_of;
 use crate::marks::Marks;
 use exec_graph::{Blocked, Entry, Graph, Node, Place};
 use flume_value::Pile;
-use node_index::{find_node, index_of};
+use node_index::index_of;
 use std::alloc::{AllocError, Global};
 use std::collections::{HashMap, HashSet};
 use std::slice;
@@ -40,56 +41,49 @@ fn marks_in(alloc: Global, scales: &[u32], nodes: &[Entry]) -> Result<Vec<Place>
     let index = index_of(alloc, nodes)?;
     let estimates = estimates_of(alloc, scales, nodes, &index)?;
     let grouped = grouped_of(alloc, nodes)?;
-    let mut marks = Marks::new(alloc);
-    let mut before = HashMap::new(alloc);
-    for e in nodes {
-        mark_fed(
-            nodes,
-            &index,
-            &estimates,
-            &grouped,
-            e,
-            &mut before,
-            &mut marks,
-        )?;
-    }
-    let Marks { places, codes: _ } = marks;
-    Ok(places)
+    marks_by(alloc, nodes, &index, &estimates, &grouped)
 }
 
-/// Marks what is to be marked of the chains to what a Gbk groups, or to the inputs of a Flatten
-/// that a Gbk groups.
-fn mark_fed(
+/// The marks by these estimates, where it is known which collections are grouped.
+fn marks_by(
+    alloc: Global,
     nodes: &[Entry],
     index: &HashMap<u32, usize>,
     estimates: &HashMap<u32, u64>,
     grouped: &HashSet<u32>,
-    entry: &Entry,
-    before: &mut HashMap<u32, Stretch>,
-    marks: &mut Marks,
-) -> Result<(), AllocError>
+) -> Result<Vec<Place>, AllocError>
     requires index { IsIndex index.now nodes.now }
     requires ranked { IsRanked nodes.now }
     requires grouped { HasGrouped grouped.now nodes.now }
-    requires before { AreBefore nodes.now (known estimates.now) before.old }
-    requires codes { HasCodes marks.old.codes marks.old.places.items }
-    ensures before { OnOk result (AreBefore nodes.now (known estimates.now) before.new) }
-    ensures codes { OnOk result (HasCodes marks.new.codes marks.new.places.items) }
-    ensures marked { OnOk result (MarksAlso marks.old.places.items marks.new.places.items
-        (MarkedFrom nodes.now (known estimates.now)
-        (fed nodes.now entry.now.number entry.now.node))) }
+    ensures { IfOk result (λ v. MarksAlso [] v.items
+        (MarkedBy nodes.now (known estimates.now) nodes.now)) }
+{
+    let mut marks = Marks::new(alloc);
+    let mut before = HashMap::new(alloc);
+    for e in nodes {
+        let fed = fed_by(grouped, e);
+        mark_all(nodes, index, estimates, fed, &mut before, &mut marks)?;
+    }
+    let Marks { places, codes } = marks;
+    drop(codes);
+    Ok(places)
+}
+
+/// The collections by which a node is a Gbk, or a Flatten that a Gbk groups.
+fn fed_by<'a>(grouped: &HashSet<u32>, entry: &'a Entry) -> &'a [Place]
+    ensures { (nodes : List GhostEntry) → HasGrouped grouped.now nodes
+        → result.now ≡ fed nodes entry.now.number entry.now.node }
 {
     match &entry.node {
-        Node::Gbk { input: c, .. } => {
-            mark_all(nodes, index, estimates, slice::from_ref(c), before, marks)
-        }
+        Node::Gbk { input: c, .. } => slice::from_ref(c),
         Node::Flatten(inputs) => {
-            if !grouped.contains(&entry.number) {
-                return Ok(());
+            if grouped.contains(&entry.number) {
+                inputs.as_slice()
+            } else {
+                &[]
             }
-            mark_all(nodes, index, estimates, inputs.as_slice(), before, marks)
         }
-        Node::Source(_) | Node::Pdo { .. } | Node::Barrier { .. } => Ok(()),
+        Node::Source(_) | Node::Pdo { .. } | Node::Barrier { .. } => &[],
     }
 }
 
@@ -112,31 +106,7 @@ fn mark_all(
         (MarkedFrom nodes.now (known estimates.now) places.now)) }
 {
     for c in places {
-        mark_chain(nodes, index, estimates, *c, before, marks)?;
-    }
-    Ok(())
-}
-
-/// Marks what is to be marked of the chain to a collection, where that is an output of a Pdo.
-fn mark_chain(
-    nodes: &[Entry],
-    index: &HashMap<u32, usize>,
-    estimates: &HashMap<u32, u64>,
-    c: Place,
-    before: &mut HashMap<u32, Stretch>,
-    marks: &mut Marks,
-) -> Result<(), AllocError>
-    requires index { IsIndex index.now nodes.now }
-    requires ranked { IsRanked nodes.now }
-    requires before { AreBefore nodes.now (known estimates.now) before.old }
-    requires codes { HasCodes marks.old.codes marks.old.places.items }
-    ensures before { OnOk result (AreBefore nodes.now (known estimates.now) before.new) }
-    ensures codes { OnOk result (HasCodes marks.new.codes marks.new.places.items) }
-    ensures marked { OnOk result (MarksAlso marks.old.places.items marks.new.places.items
-        (IsMarkOf nodes.now (known estimates.now) c)) }
-{
-    if let Some(Node::Pdo { .. }) = find_node(nodes, index, c.node) {
-        let stretch = stretch_to(nodes, index, estimates, nodes.len() + 1, c, before)?;
+        let stretch = stretch_of(nodes, index, estimates, *c, before)?;
         mark_least(stretch, marks)?;
     }
     Ok(())

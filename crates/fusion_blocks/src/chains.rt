@@ -1,8 +1,8 @@
 // The chain to a collection, as far as it may be cut, and its first collection of least estimate.
 ghost use Rattle.std.specs.Prelude.{◌≡◌, OnOk, IfOk};
 ghost use Rattle.node_index.specs.Index.{IsIndex};
-ghost use Rattle.fusion_blocks.specs.inner.Stretches.{AreBefore, IsPdoOf, IsStretch, longer};
-ghost use Rattle.fusion_blocks.specs.inner.Tables.{IsBelow, known};
+ghost use Rattle.fusion_blocks.specs.inner.Stretches.{AreBefore, IsStretch, TellsMark, longer};
+ghost use Rattle.fusion_blocks.specs.inner.Tables.{IsBelow, IsRanked, known};
 
 use crate::estimates::known;
 use exec_graph::{Entry, Node, Place};
@@ -21,9 +21,29 @@ pub(crate) enum Stretch {
     Least(Place),
 }
 
-/// What is known of the chain to a collection.
-#[cycle(walk)]
-pub(crate) fn stretch_to(
+/// What is known of the chain to a collection, where that is an output of a Pdo.
+pub(crate) fn stretch_of(
+    nodes: &[Entry],
+    index: &HashMap<u32, usize>,
+    estimates: &HashMap<u32, u64>,
+    c: Place,
+    before: &mut HashMap<u32, Stretch>,
+) -> Result<Stretch, AllocError>
+    requires index { IsIndex index.now nodes.now }
+    requires ranked { IsRanked nodes.now }
+    requires before { AreBefore nodes.now (known estimates.now) before.old }
+    ensures before { OnOk result (AreBefore nodes.now (known estimates.now) before.new) }
+    ensures marks { IfOk result (λ s. TellsMark nodes.now (known estimates.now) c s) }
+{
+    match find_node(nodes, index, c.node) {
+        Some(Node::Pdo { .. }) => stretch_to(nodes, index, estimates, nodes.len() + 1, c, before),
+        _ => Ok(Stretch::Open),
+    }
+}
+
+/// What is known of the chain to a collection. What is known of the chain to what a Pdo reads is
+/// worked out once.
+fn stretch_to(
     nodes: &[Entry],
     index: &HashMap<u32, usize>,
     estimates: &HashMap<u32, u64>,
@@ -38,18 +58,14 @@ pub(crate) fn stretch_to(
     ensures is { IfOk result (λ s. IsStretch nodes.now (known estimates.now) c s) }
 {
     match find_node(nodes, index, c.node) {
-        Some(Node::Pdo { input, .. }) => {
-            let stretch = stretch_before(
-                nodes,
-                index,
-                estimates,
-                turns - 1,
-                c.node,
-                *input,
-                before,
-            )?;
-            Ok(longer(estimates, stretch, c))
-        }
+        Some(Node::Pdo { input, .. }) => match before.get(&c.node).copied() {
+            Some(stretch) => Ok(longer(estimates, stretch, c)),
+            None => {
+                let stretch = stretch_to(nodes, index, estimates, turns - 1, *input, before)?;
+                before.insert(c.node, stretch)?;
+                Ok(longer(estimates, stretch, c))
+            }
+        },
         Some(Node::Gbk { lifted: None, .. }) => Ok(Stretch::Least(c)),
         Some(
             Node::Gbk {
@@ -59,34 +75,6 @@ pub(crate) fn stretch_to(
         ) => Ok(Stretch::Empty),
         Some(Node::Source(_)) | Some(Node::Flatten(_)) | Some(Node::Barrier { .. }) | None => {
             Ok(Stretch::Open)
-        }
-    }
-}
-
-/// What is known of the chain to what a Pdo reads. It is worked out once.
-#[cycle(walk)]
-fn stretch_before(
-    nodes: &[Entry],
-    index: &HashMap<u32, usize>,
-    estimates: &HashMap<u32, u64>,
-    turns: usize,
-    number: u32,
-    input: Place,
-    before: &mut HashMap<u32, Stretch>,
-) -> Result<Stretch, AllocError>
-    requires index { IsIndex index.now nodes.now }
-    requires below { IsBelow nodes.now turns input.node }
-    requires pdo { IsPdoOf nodes.now number input }
-    requires before { AreBefore nodes.now (known estimates.now) before.old }
-    ensures before { OnOk result (AreBefore nodes.now (known estimates.now) before.new) }
-    ensures is { IfOk result (λ s. IsStretch nodes.now (known estimates.now) input s) }
-{
-    match before.get(&number).copied() {
-        Some(stretch) => Ok(stretch),
-        None => {
-            let stretch = stretch_to(nodes, index, estimates, turns, input, before)?;
-            before.insert(number, stretch)?;
-            Ok(stretch)
         }
     }
 }

@@ -3,6 +3,7 @@ use Rattle.std.proofs.Common.{◌≡◌, ℕ, suc, zero, ◌+◌, ◌-◌, ◌<�
 use Rattle.std.specs.Prelude.{Option, Some, None, if◌then◌else◌, slice_get}
 use Rattle.std.specs.Option.{option_map}
 use Rattle.script_program.specs.of_written_types.Named.{Named}
+use Rattle.script_program.proofs.SourceSteps.{told_many}
 use Rattle.script_program.specs.Script.{Node, Script}
 use Rattle.graph_build.specs.Built.{built, built_at, built_from, built_here}
 use Rattle.graph_build.specs.Calls.{call_built, emitted_at, first_emitted, kept_at, kept_from, next_if, other_names}
@@ -27,13 +28,9 @@ built_is script i node h =
     let e : 0 + i ≡ i = omega arith in
     sym (found script 0 i script.nodes node h ∙ ap (λ n. built_here script n node.made) e)
 
-all_built : (script : Script) (k : ℕ) (nodes : Named Node)
-    → length (built_from script k nodes) ≡ length nodes
-all_built script k [] = refl
-all_built script k (entry ∷ nodes) = ap suc (all_built script (suc k) nodes)
-
 pub built_length : (script : Script) → length (built script) ≡ length script.nodes
-built_length script = all_built script 0 script.nodes
+built_length script =
+    told_many (built_from script) (λ k. refl) (λ k entry nodes. (_, refl)) 0 script.nodes
 
 -- ---- the names of a call
 

@@ -1,11 +1,12 @@
 -- One collection more: of the numbers of nodes that give collections, and of nodes.
-use Rattle.std.proofs.Common.{◌≡◌, ℕ, suc, zero, ◌+◌, ◌<◌, List, [], ◌∷◌, ◌++◌, length, get_or, drop, refl, arith, ap, ◌∙◌, sym, append_assoc, append-nil, add-one, drop-cons}
+use Rattle.std.proofs.Common.{◌≡◌, ℕ, ◌+◌, ◌<◌, List, [], ◌∷◌, ◌++◌, length, get_or, drop, refl, ap, ◌∙◌, sym, append_assoc, append-nil, add-one, drop-cons}
 use Rattle.std.specs.Prelude.{Option, Some, None}
 use Rattle.std.proofs.Math.Seq.{drop-length}
 use Rattle.std.specs.Prelude.{map, slice_get}
 use Rattle.std.specs.Option.{option_map}
 use Rattle.exec_graph.specs.declared.graph.Entry.{Entry}
 use Rattle.exec_graph.specs.declared.graph.Place.{Place}
+use Rattle.script_program.proofs.SourceSteps.{head_of}
 use Rattle.script_program.specs.Script.{Script}
 use Rattle.graph_build.specs.Graphs.{last_node, behind, giving_from, next_source, nodes_at, nodes_from}
 use Rattle.graph_build.specs.Built.{Built, built, built_at}
@@ -48,20 +49,6 @@ giving_next script done more all i n next below pushed ahead h =
     let fits : i < length (built script) = rw built_length below in
     rw (pushed, ahead, append_assoc)
     (ap (λ rest. done ++ rest) (sym (giving_step (built script) i n fits)) ∙ h)
-
--- an element below the length
-pub found_below : {A : Type 0} (xs : List A) (i : ℕ) → i < length xs
-    → (x : A) × (slice_get xs i ≡ Some x)
-found_below [] i h = absurd (omega arith)
-found_below (x ∷ xs) zero h = (x, refl)
-found_below (x ∷ xs) (suc i) h = found_below xs i (omega arith)
-
--- the element of a place in front of those behind it
-pub head_of : {A : Type 0} (xs : List A) (i : ℕ) (x : A) → slice_get xs i ≡ Some x
-    → drop i xs ≡ x ∷ drop (suc i) xs
-head_of [] i x h = cc
-head_of (y ∷ xs) zero x h = ap (λ (z : _). z ∷ xs) cc
-head_of (y ∷ xs) (suc i) x h = head_of xs i x h
 
 pub mapped_next : {A B : Type 0} (f : A → B) (xs : List A) (done more : List B) (i : ℕ) (x : A)
     → slice_get xs i ≡ Some x

@@ -7,7 +7,7 @@ use Rattle.script_program.specs.declared.made.Made.{Made}
 use Rattle.script_program.specs.Script.{Node, Script}
 use Rattle.script_program.specs.Needed.{is_needed}
 use Rattle.graph_build.specs.Wanted.{needed_at, wanted, wanted_from, wanted_at}
-use Rattle.script_program.proofs.SourceSteps.{found_below as within}
+use Rattle.script_program.proofs.SourceSteps.{found_below as within, told_many}
 
 -- how a node is made, where it is needed
 abbrev pub where_needed : Script → ℕ → Node → Option Made
@@ -44,13 +44,9 @@ wanted_needless script i node h needless =
     ∙ ap (λ n. where_needed script n node) (at_zero i)
     ∙ ap (λ b. if b then Some node.made else None) (sym needless))
 
-all_wanted : (script : Script) (k : ℕ) (nodes : Named Node)
-    → length (wanted_from script k nodes) ≡ length nodes
-all_wanted script k [] = refl
-all_wanted script k (entry ∷ nodes) = ap suc (all_wanted script (suc k) nodes)
-
 pub wanted_length : (script : Script) → length (wanted script) ≡ length script.nodes
-wanted_length script = all_wanted script 0 script.nodes
+wanted_length script =
+    told_many (wanted_from script) (λ k. refl) (λ k entry nodes. (_, refl)) 0 script.nodes
 
 beyond_all : {A : Type 0} (xs : List A) (i : ℕ) (d : A) → length xs ≤ i → get_or xs i d ≡ d
 beyond_all [] i d h = refl

@@ -127,18 +127,11 @@ whole_nodes comb origin n input =
 
 -- how many nodes stand before the last of a collection
 abbrev pub before_last : Made → ℕ
-before_last (made.Input file columns) = 0
-before_last (made.Do source function output) = 0
-before_last (made.Group source) = 0
-before_last (made.Combine source by) = 0
-before_last (made.Flatten sources) = 0
 before_last (made.Count source) = 2
 before_last (made.Join left right) = 4
 before_last (made.Top number source) = 3
 before_last (made.CombineAll source by) = 3
-before_last (made.Operate objects function) = 0
-before_last (made.DoWith source function object) = 0
-before_last (made.Saved is_object call) = 0
+before_last _ = 0
 
 -- how many sources a collection has
 abbrev pub sources_made : Made → ℕ

@@ -9,7 +9,7 @@ ghost use Rattle.graph_build.specs.Nodes.{before_last as before_last_of, sources
 ghost use Rattle.script_program.specs.Sources.{source_numbers as numbers_in};
 
 use crate::built::built_at;
-use crate::nodes::{call, last_step, push_node, read_source};
+use crate::nodes::{call, push_last, push_node, read_source};
 use crate::numbers::{Start, ahead_of, before_last, inputs_of, number_of};
 use crate::objects::{push_beside, push_operate, push_whole};
 use crate::operations::{push_count, push_join, push_top};
@@ -249,8 +249,8 @@ fn push_combine(
         (last_step_of start.origin (does.Combine by) (spec.place_in places.now source)) ∷ []) }
 {
     let input = place_in(places, source);
-    let node = last_step(alloc, start.origin, Does::Combine(by), input)?;
-    push_node(nodes, start.node, node)
+    let combined = Does::Combine(by);
+    push_last(alloc, start.origin, start.node, combined, input, nodes)
 }
 
 /// Adds a node of collections together.

@@ -27,7 +27,7 @@ pub(crate) fn read_source(number: u32, is_object: bool) -> Node
 }
 
 /// The step of a collection that does not give it.
-pub(crate) fn step(alloc: Global, origin: u32, does: Does, input: Place) -> Result<Node, AllocError>
+fn step(alloc: Global, origin: u32, does: Does, input: Place) -> Result<Node, AllocError>
     ensures { IfOk result (λ node. node ≡ spec.step origin does input) }
 {
     let step = Step::new(origin, false, does, first_output(alloc), Vec::new(alloc));
@@ -35,16 +35,43 @@ pub(crate) fn step(alloc: Global, origin: u32, does: Does, input: Place) -> Resu
 }
 
 /// The step that gives a collection.
-pub(crate) fn last_step(
-    alloc: Global,
-    origin: u32,
-    does: Does,
-    input: Place,
-) -> Result<Node, AllocError>
+fn last_step(alloc: Global, origin: u32, does: Does, input: Place) -> Result<Node, AllocError>
     ensures { IfOk result (λ node. node ≡ spec.last_step origin does input) }
 {
     let step = Step::new(origin, true, does, first_output(alloc), Vec::new(alloc));
     only(alloc, input, step)
+}
+
+/// Adds the step of a collection that does not give it.
+pub(crate) fn push_step(
+    alloc: Global,
+    origin: u32,
+    number: u32,
+    does: Does,
+    input: Place,
+    nodes: &mut Pile<Entry>,
+) -> Result<(), AllocError>
+    ensures { OnOk result (nodes.new
+        ≡ nodes.old ++ spec.entry number (spec.step origin does input) ∷ []) }
+{
+    let node = step(alloc, origin, does, input)?;
+    push_node(nodes, number, node)
+}
+
+/// Adds the step that gives a collection.
+pub(crate) fn push_last(
+    alloc: Global,
+    origin: u32,
+    number: u32,
+    does: Does,
+    input: Place,
+    nodes: &mut Pile<Entry>,
+) -> Result<(), AllocError>
+    ensures { OnOk result (nodes.new
+        ≡ nodes.old ++ spec.entry number (spec.last_step origin does input) ∷ []) }
+{
+    let node = last_step(alloc, origin, does, input)?;
+    push_node(nodes, number, node)
 }
 
 /// The call of a function, whose first name has that number.

@@ -4,9 +4,9 @@ ghost use Rattle.exec_graph.specs.declared.graph.Act.TheVariants.{Operate, SideI
 ghost use Rattle.graph_build.specs.Graphs.{place_in as place_of};
 ghost use Rattle.graph_build.specs.Nodes as spec;
 
-use crate::nodes::{groups, push_node, step};
+use crate::nodes::{groups, push_node, push_step};
 use crate::numbers::{Start, first_of, number_of};
-use crate::places::{place_in, places_in};
+use crate::places::{both, place_in, places_in};
 use combine_table::Comb;
 use exec_graph::{Act, Does, Entry, Node, Place};
 use flume_value::Pile;
@@ -28,19 +28,12 @@ pub(crate) fn push_whole(
     let origin = start.origin;
     let n = start.node;
     let input = place_in(places, source);
-    push_node(nodes, n, step(alloc, origin, Does::Solo, input)?)?;
+    push_step(alloc, origin, n, Does::Solo, input, nodes)?;
     push_node(nodes, n + 1, groups(origin, first_of(n)))?;
     let combined = Does::Combine(by);
-    push_node(
-        nodes,
-        n + 2,
-        step(alloc, origin, combined, first_of(n + 1))?,
-    )?;
-    push_node(
-        nodes,
-        n + 3,
-        only_value(alloc, by, origin, first_of(n + 2))?,
-    )?;
+    push_step(alloc, origin, n + 2, combined, first_of(n + 1), nodes)?;
+    let value = only_value(alloc, by, origin, first_of(n + 2))?;
+    push_node(nodes, n + 3, value)?;
     Ok(())
 }
 
@@ -90,16 +83,6 @@ pub(crate) fn push_beside(
     let act = Act::SideInput(number_of(function)?);
     let inputs = both(alloc, place_in(places, source), place_in(places, object))?;
     push_node(nodes, start.node, barrier(start.origin, act, inputs))
-}
-
-/// A collection, and the object beside it.
-fn both(alloc: Global, input: Place, object: Place) -> Result<Pile<Place>, AllocError>
-    ensures { IfOk result (λ inputs. inputs ≡ input ∷ object ∷ []) }
-{
-    let mut inputs = Pile::new(alloc);
-    inputs.push(input)?;
-    inputs.push(object)?;
-    Ok(inputs)
 }
 
 /// What an act makes of collections that it takes whole.

@@ -4,9 +4,9 @@ ghost use Rattle.exec_graph.specs.declared.graph.Node.TheVariants.{Flatten};
 ghost use Rattle.graph_build.specs.Graphs.{place_in as place_of};
 ghost use Rattle.graph_build.specs.Nodes as spec;
 
-use crate::nodes::{groups, last_step, push_node, step};
+use crate::nodes::{groups, push_last, push_node, push_step};
 use crate::numbers::{Start, first_of};
-use crate::places::place_in;
+use crate::places::{both, place_in};
 use combine_table::Comb;
 use exec_graph::{Does, Entry, Node, Place};
 use flume_value::Pile;
@@ -27,14 +27,10 @@ pub(crate) fn push_count(
     let origin = start.origin;
     let n = start.node;
     let input = place_in(places, source);
-    push_node(nodes, n, step(alloc, origin, Does::Pair, input)?)?;
+    push_step(alloc, origin, n, Does::Pair, input, nodes)?;
     push_node(nodes, n + 1, groups(origin, first_of(n)))?;
     let sums = Does::Combine(Comb::Sum);
-    push_node(
-        nodes,
-        n + 2,
-        last_step(alloc, origin, sums, first_of(n + 1))?,
-    )?;
+    push_last(alloc, origin, n + 2, sums, first_of(n + 1), nodes)?;
     Ok(())
 }
 
@@ -56,26 +52,27 @@ pub(crate) fn push_join(
     let n = start.node;
     let one = place_in(places, left);
     let other = place_in(places, right);
-    push_node(nodes, n, step(alloc, origin, Does::TagLeft, one)?)?;
-    push_node(nodes, n + 1, step(alloc, origin, Does::TagRight, other)?)?;
-    push_node(nodes, n + 2, both(alloc, first_of(n), first_of(n + 1))?)?;
+    push_step(alloc, origin, n, Does::TagLeft, one, nodes)?;
+    push_step(alloc, origin, n + 1, Does::TagRight, other, nodes)?;
+    push_both(alloc, n + 2, first_of(n), first_of(n + 1), nodes)?;
     push_node(nodes, n + 3, groups(origin, first_of(n + 2)))?;
-    push_node(
-        nodes,
-        n + 4,
-        last_step(alloc, origin, Does::Split, first_of(n + 3))?,
-    )?;
+    push_last(alloc, origin, n + 4, Does::Split, first_of(n + 3), nodes)?;
     Ok(())
 }
 
-/// Two collections together.
-fn both(alloc: Global, left: Place, right: Place) -> Result<Node, AllocError>
-    ensures { IfOk result (λ node. node ≡ Flatten (left ∷ right ∷ [])) }
+/// Adds the node of two collections together.
+fn push_both(
+    alloc: Global,
+    number: u32,
+    left: Place,
+    right: Place,
+    nodes: &mut Pile<Entry>,
+) -> Result<(), AllocError>
+    ensures { OnOk result (nodes.new
+        ≡ nodes.old ++ spec.entry number (Flatten (left ∷ right ∷ [])) ∷ []) }
 {
-    let mut inputs = Pile::new(alloc);
-    inputs.push(left)?;
-    inputs.push(right)?;
-    Ok(Node::Flatten(inputs))
+    let inputs = both(alloc, left, right)?;
+    push_node(nodes, number, Node::Flatten(inputs))
 }
 
 /// Adds the nodes of the greatest members.
@@ -94,18 +91,10 @@ pub(crate) fn push_top(
     let origin = start.origin;
     let n = start.node;
     let input = place_in(places, source);
-    push_node(nodes, n, step(alloc, origin, Does::Solo, input)?)?;
+    push_step(alloc, origin, n, Does::Solo, input, nodes)?;
     push_node(nodes, n + 1, groups(origin, first_of(n)))?;
     let greatest = Does::Combine(Comb::Top(many));
-    push_node(
-        nodes,
-        n + 2,
-        step(alloc, origin, greatest, first_of(n + 1))?,
-    )?;
-    push_node(
-        nodes,
-        n + 3,
-        last_step(alloc, origin, Does::Spread, first_of(n + 2))?,
-    )?;
+    push_step(alloc, origin, n + 2, greatest, first_of(n + 1), nodes)?;
+    push_last(alloc, origin, n + 3, Does::Spread, first_of(n + 2), nodes)?;
     Ok(())
 }

@@ -1,5 +1,5 @@
 // The places of collections in the graph.
-ghost use Rattle.std.specs.Prelude.{◌≡◌, ◌+◌, ◌<◌, ◌^◌, Some, IfOk, if◌then◌else◌, length, map, slice_index};
+ghost use Rattle.std.specs.Prelude.{◌≡◌, ◌+◌, ◌<◌, ◌^◌, [], ◌∷◌, Some, IfOk, if◌then◌else◌, length, map, slice_index};
 ghost use Rattle.graph_build.specs.Calls.{emitted_as, is_kept};
 ghost use Rattle.graph_build.specs.Graphs as spec;
 ghost use Rattle.graph_build.specs.Wanted.{wanted_at as wanted_in};
@@ -145,5 +145,15 @@ pub(crate) fn places_in(
     for source in sources {
         inputs.push(place_in(places, *source))?;
     }
+    Ok(inputs)
+}
+
+/// Two places, one behind the other.
+pub(crate) fn both(alloc: Global, first: Place, second: Place) -> Result<Pile<Place>, AllocError>
+    ensures { IfOk result (λ inputs. inputs ≡ first ∷ second ∷ []) }
+{
+    let mut inputs = Pile::new(alloc);
+    inputs.push(first)?;
+    inputs.push(second)?;
     Ok(inputs)
 }

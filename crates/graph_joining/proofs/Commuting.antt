@@ -10,7 +10,7 @@ use Rattle.exec_graph.specs.declared.graph.Place.{Place}
 use Rattle.exec_graph.proofs.Bools.{not_true}
 use Rattle.exec_graph.proofs.Entries.{entry}
 use Rattle.graph_laws.specs.Joining.{reread, reread_entry, set_node, without}
-use Rattle.graph_joining.proofs.Rereads.{set_again}
+use Rattle.graph_laws.proofs.Setting.{set_set, without_set, without_set_other}
 
 -- ---- read by one rule, and then by another
 
@@ -58,7 +58,7 @@ pub set_over : (r : Place → Place) (es : List Entry) (n : ℕ) (y : Node) (c :
 set_over r es n y c f stays =
     ap (λ (d : Place). set_node (map (reread_entry r) (set_node es n y)) n (Pdo d f)) (sym stays)
     ∙ set_map r (set_node es n y) n (Pdo c f)
-    ∙ ap (λ (l : List Entry). map (reread_entry r) l) (set_again es n y (Pdo c f))
+    ∙ ap (λ (l : List Entry). map (reread_entry r) l) (set_set es n y (Pdo c f))
 
 -- ---- a node that is gone
 
@@ -74,38 +74,12 @@ without_map r (e ∷ es) n = by (eqb e.number n) (without_map r es n)
     by true h = refl
     by false h = ap (λ (l : List Entry). reread_entry r e ∷ l) h
 
-pub without_same : (es : List Entry) (q : ℕ) (x : Node)
-    → without (set_node es q x) q ≡ without es q
-without_same [] q x = refl
-without_same (e ∷ es) q x = by (eqb e.number q) refl (without_same es q x)
-  where
-    by : (b : Bool) → eqb e.number q ≡ b → without (set_node es q x) q ≡ without es q
-        → without (cond b (entry q x ∷ es) (e ∷ set_node es q x)) q
-        ≡ cond b es (e ∷ without es q)
-    by true i h = rw (eq-eqb q q refl) refl
-    by false i h = rw i (ap (λ (l : List Entry). e ∷ l) h)
-
-pub without_other : (es : List Entry) (p q : ℕ) (x : Node) → (p ≡ q → ⊥)
-    → without (set_node es p x) q ≡ set_node (without es q) p x
-without_other [] p q x apart = refl
-without_other (e ∷ es) p q x apart =
-    by (eqb e.number p) (eqb e.number q) refl refl (without_other es p q x apart)
-  where
-    by : (a b : Bool) → eqb e.number p ≡ a → eqb e.number q ≡ b
-        → without (set_node es p x) q ≡ set_node (without es q) p x
-        → without (cond a (entry p x ∷ es) (e ∷ set_node es p x)) q
-        ≡ set_node (cond b es (e ∷ without es q)) p x
-    by true true i j s = absurd (apart (sym (eqb-true e.number p i) ∙ eqb-true e.number q j))
-    by true false i j s = rw (not_true (eqb p q) (λ k. apart (eqb-true p q k)), i) refl
-    by false true i j s = rw j refl
-    by false false i j s = rw (i, j) (ap (λ (l : List Entry). e ∷ l) s)
-
 -- two nodes are others, and the first is gone
 pub without_first : (es : List Entry) (p q : ℕ) (x y : Node) → (q ≡ p → ⊥)
     → without (set_node (set_node es p x) q y) p ≡ set_node (without es p) q y
 without_first es p q x y apart =
-    without_other (set_node es p x) q p y apart
-    ∙ ap (λ (l : List Entry). set_node l q y) (without_same es p x)
+    without_set_other (set_node es p x) q p y apart
+    ∙ ap (λ (l : List Entry). set_node l q y) (without_set es p x)
 
 -- one of two is gone, which both were the same
 pub without_one : (es : List Entry) (p q n : ℕ) (x : Node) → (p ≡ q → ⊥)
@@ -114,7 +88,7 @@ pub without_one : (es : List Entry) (p q n : ℕ) (x : Node) → (p ≡ q → �
 without_one es p q n x apart (inl e) =
     subst (λ (m : ℕ). without (set_node (set_node es p x) q x) (cond (eqb m p) q p)
     ≡ set_node (without es (cond (eqb m p) q p)) m x) (sym e)
-    (rw (eq-eqb p p refl) (without_same (set_node es p x) q x ∙ without_other es p q x apart))
+    (rw (eq-eqb p p refl) (without_set (set_node es p x) q x ∙ without_set_other es p q x apart))
 without_one es p q n x apart (inr e) =
     subst (λ (m : ℕ). without (set_node (set_node es p x) q x) (cond (eqb m p) q p)
     ≡ set_node (without es (cond (eqb m p) q p)) m x) (sym e)

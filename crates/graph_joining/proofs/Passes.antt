@@ -1,4 +1,5 @@
 -- Two Pdos pass the tests exactly where they may become one.
+use Rattle.std.specs.Prelude.{◌↔◌, IsTrue}
 use Rattle.std.proofs.Common.{◌≡◌, ℕ, ◌<◌, Bool, true, ltb, ◌&&◌, Option, Some, refl, sym, ap, ◌∙◌, arith}
 use Rattle.std.proofs.lemmas.Bool.{and_from, and_parts, false≢true, lt-ltb, ltb-true}
 use Rattle.exec_graph.specs.Forests.{Forest}
@@ -29,7 +30,7 @@ calls_one : (c : Place) (o : Option Node) (f : Forest) → o ≡ Some (Pdo c f)
     → calls_at c o ≡ true
 calls_one c o f e = ap (calls_at c) e ∙ same_self c
 
-pub kid_passes : (g : Graph) (p k q : ℕ) → can_kid g.nodes p k q ≡ true → CanBeKid g p k q
+kid_passes : (g : Graph) (p k q : ℕ) → can_kid g.nodes p k q ≡ true → CanBeKid g p k q
 kid_passes g p k q h =
     let both =
     and_parts (is_pdo (node_at g.nodes p)) (calls_at (place p k) (node_at g.nodes q)) h in
@@ -38,10 +39,15 @@ kid_passes g p k q h =
       other = call_is (place p k) (node_at g.nodes q) both.1;
     }
 
-pub passes_kid : (g : Graph) (p k q : ℕ) → CanBeKid g p k q → can_kid g.nodes p k q ≡ true
+passes_kid : (g : Graph) (p k q : ℕ) → CanBeKid g p k q → can_kid g.nodes p k q ≡ true
 passes_kid g p k q can =
     and_from (is_pdo (node_at g.nodes p)) (calls_at (place p k) (node_at g.nodes q))
     (ap is_pdo can.keeper) (calls_one (place p k) (node_at g.nodes q) (forest_at g q) can.other)
+
+pub kid_told : (g : Graph) (p k q : ℕ) (b : Bool) → b ≡ can_kid g.nodes p k q
+    → IsTrue b ↔ CanBeKid g p k q
+kid_told g p k q b is =
+    (λ e. kid_passes g p k q (sym is ∙ e), λ can. is ∙ passes_kid g p k q can)
 
 module _ (g : Graph) (p q : ℕ) where
   abbrev a : Bool
@@ -67,3 +73,8 @@ module _ (g : Graph) (p q : ℕ) where
   passes_sibling lt can =
       and_from (ltb p q) (a && b) (lt-ltb p q lt) (and_from a b (ap is_pdo can.keeper)
       (calls_one (input_at g p) (node_at g.nodes q) (forest_at g q) can.other))
+
+  pub sibling_told : (told : Bool) → told ≡ can_sibling g.nodes p q
+      → IsTrue told ↔ ((p < q) × CanBeSibling g p q)
+  sibling_told told is =
+      (λ e. sibling_passes (sym is ∙ e), λ can. is ∙ passes_sibling can.0 can.1)

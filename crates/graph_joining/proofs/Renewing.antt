@@ -16,7 +16,8 @@ use Rattle.graph_walks.specs.Outs.{outs, place_of}
 use Rattle.graph_walks.proofs.Places.{number_place}
 use Rattle.graph_joining.specs.inner.Refits.{graph_of, refitted_by, reread_by}
 use Rattle.graph_joining.proofs.Commuting.{nodes_both, places_both, set_map, set_over}
-use Rattle.graph_joining.proofs.Rereads.{kept_same, moved_same, nodes_same, nodes_same_number, places_same_number, set_again}
+use Rattle.graph_joining.proofs.Rereads.{kept_same, moved_same, nodes_same, nodes_same_number, places_same_number}
+use Rattle.graph_laws.proofs.Setting.{set_set}
 use Rattle.graph_walks.proofs.Rereads.{places_same}
 
 -- twice refitted is once refitted
@@ -28,7 +29,7 @@ refitted_twice g n c f h r =
     graph_of (map (reread_entry R) es) (map R cs) g.next)
     (ap (λ (es : List Entry). set_node es n (Pdo c h))
     (nodes_same_number n (set_node g.nodes n (Pdo c f)))
-    ∙ set_again g.nodes n (Pdo c f) (Pdo c h))
+    ∙ set_set g.nodes n (Pdo c f) (Pdo c h))
     (places_same_number n g.outputs)
 
 refitted_alike : (g : Graph) (n : ℕ) (c : Place) (f : Forest) (r s : ℕ → ℕ)

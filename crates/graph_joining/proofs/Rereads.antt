@@ -1,6 +1,6 @@
 -- Nodes that read by one rule or by another that gives the same.
 use Rattle.std.proofs.Common.{◌≡◌, ℕ, Bool, true, false, cond, eqb, List, [], ◌∷◌, map, Option, Some, None, refl, sym, ap, ap₂, ◌∙◌}
-use Rattle.std.proofs.lemmas.Bool.{eqb-true, eq-eqb}
+use Rattle.std.proofs.lemmas.Bool.{eqb-true}
 use Rattle.exec_graph.specs.Forests.{Forest, Bare, Grow, with_out}
 use Rattle.exec_graph.specs.Meaning.{place}
 use Rattle.exec_graph.specs.declared.graph.Entry.{Entry}
@@ -8,7 +8,7 @@ use Rattle.exec_graph.specs.declared.graph.Node.{Node}
 use Rattle.exec_graph.specs.declared.graph.Node.TheVariants.{Source, Flatten, Pdo, Gbk, Barrier}
 use Rattle.exec_graph.specs.declared.graph.Place.{Place}
 use Rattle.exec_graph.proofs.Entries.{entry}
-use Rattle.graph_laws.specs.Joining.{reread, reread_entry, set_node}
+use Rattle.graph_laws.specs.Joining.{reread, reread_entry}
 use Rattle.graph_walks.proofs.Rereads.{places_same, reread_same}
 use Rattle.graph_laws.specs.Kids.{kept_by, moved_out, out_kept, same_number}
 
@@ -52,19 +52,6 @@ nodes_same_number n es =
 pub places_same_number : (n : ℕ) (cs : List Place) → map (moved_out n same_number) cs ≡ cs
 places_same_number n cs =
     places_same (moved_out n same_number) (λ c. c) (same_stays n) cs ∙ places_stay cs
-
--- ---- a node, and again
-
-pub set_again : (es : List Entry) (n : ℕ) (x y : Node)
-    → set_node (set_node es n x) n y ≡ set_node es n y
-set_again [] n x y = refl
-set_again (e ∷ es) n x y = by (eqb e.number n) refl (set_again es n x y)
-  where
-    by : (b : Bool) → eqb e.number n ≡ b → set_node (set_node es n x) n y ≡ set_node es n y
-        → set_node (cond b (entry n x ∷ es) (e ∷ set_node es n x)) n y
-        ≡ cond b (entry n y ∷ es) (e ∷ set_node es n y)
-    by true i h = rw (eq-eqb n n refl) refl
-    by false i h = rw i (ap (λ (l : List Entry). e ∷ l) h)
 
 -- ---- outputs that are kept
 

@@ -14,8 +14,9 @@ use Rattle.graph_rewrites.specs.Exchange.{exchanged, swapped}
 use Rattle.graph_joining.specs.inner.Apart.{apart_place}
 use Rattle.graph_joining.specs.inner.Joined.{Differ}
 use Rattle.graph_joining.specs.inner.Refits.{graph_of, parted, refitted_by}
-use Rattle.graph_joining.proofs.Commuting.{nodes_both, places_both, set_over, without_first, without_map, without_other, without_same}
-use Rattle.graph_joining.proofs.Rereads.{nodes_same, set_again}
+use Rattle.graph_joining.proofs.Commuting.{nodes_both, places_both, set_over, without_first, without_map}
+use Rattle.graph_joining.proofs.Rereads.{nodes_same}
+use Rattle.graph_laws.proofs.Setting.{set_set, without_set, without_set_other}
 use Rattle.graph_walks.proofs.Rereads.{places_same}
 
 -- ---- places
@@ -107,9 +108,9 @@ nodes_joined es p q c x y all r s t differ rc sc =
     let gone : without (S (set_node (R (set_node es p x)) q y)) q
     ≡ map (reread_entry both) (set_node left p x) =
     without_map s (set_node (R (set_node es p x)) q y) q
-    ∙ ap S (without_same (R (set_node es p x)) q y
+    ∙ ap S (without_set (R (set_node es p x)) q y
     ∙ without_map r (set_node es p x) q
-    ∙ ap R (without_other es p q x differ))
+    ∙ ap R (without_set_other es p q x differ))
     ∙ nodes_both r s (set_node left p x) in
     ap (λ (l : List Entry). T (set_node l p (Pdo c all))) gone
     ∙ ap T (set_over both left p x c all (ap s rc ∙ sc))
@@ -131,7 +132,7 @@ joined_apart g p q c d f h all differ =
     (out_far q odd c (ne_eqb c.node q differ.away))
     ∙ nodes_same (λ (e : Place). t (s (r e))) now is (set_node left p (Pdo c all))
     ∙ ap (λ (es : List Entry). map (reread_entry now) es)
-    (sym (set_again left p (Pdo c Bare) (Pdo c all))))
+    (sym (set_set left p (Pdo c Bare) (Pdo c all))))
     (places_thrice r s t g.outputs
     ∙ places_same (λ (e : Place). t (s (r e))) now is g.outputs)
 
@@ -165,7 +166,7 @@ joined_swapped g p q c d e f h all differ =
     ∙ nodes_both x three last
     ∙ nodes_same (λ (k : Place). three (x k)) now is last
     ∙ ap (λ (es : List Entry). map (reread_entry now) es)
-    (sym (set_again left q (Pdo c Bare) (Pdo c all))))
+    (sym (set_set left q (Pdo c Bare) (Pdo c all))))
     (places_thrice r s t (map x g.outputs)
     ∙ places_both x three g.outputs
     ∙ places_same (λ (k : Place). three (x k)) now is g.outputs)

@@ -1,15 +1,13 @@
 -- Walks that look for the output of a number.
-use Rattle.std.proofs.Common.{◌≡◌, ◌≢◌, ◌≤◌, ◌<◌, ℕ, ◌+◌, ◌-◌, zero, suc, Bool, true, false, cond, eqb, ◌||◌, List, [], ◌∷◌, ◌++◌, map, drop, length, get_or, Option, Some, None, refl, sym, ap, ap₂, subst, ◌∙◌, arith}
+use Rattle.std.proofs.Common.{◌≡◌, ◌≢◌, ◌≤◌, ◌<◌, ℕ, ◌+◌, ◌-◌, zero, suc, Bool, true, false, cond, eqb, ◌||◌, List, [], ◌∷◌, ◌++◌, drop, length, get_or, Option, Some, None, refl, sym, ap, ap₂, subst, ◌∙◌, arith}
 use Rattle.std.proofs.lemmas.Bool.{eq-eqb, eqb-false, eqb-true, false≢true, ne_eqb}
-use Rattle.std.proofs.lemmas.List.{drop_all}
+use Rattle.std.specs.List.{flat_map}
 use Rattle.exec_graph.specs.Forests.{Branch, Forest, Bare, Grow, grown}
 use Rattle.exec_graph.specs.Meaning.{OutsDiffer, has_out, is_out}
-use Rattle.exec_graph.specs.Twigs.{twig}
-use Rattle.exec_graph.specs.declared.step.Output.{Output}
 use Rattle.graph_laws.specs.Kids.{number_in}
 use Rattle.graph_walks.specs.Outs.{out_list, outs, place_of}
-use Rattle.graph_walks.specs.inner.Numbering.{branch_outs, branches_outs, twig_outs, twigs_outs}
-use Rattle.graph_walks.proofs.InPlace.{left_here}
+use Rattle.graph_walks.specs.inner.Numbering.{branches_outs}
+use Rattle.graph_walks.proofs.InPlace.{IsSeen, none_left, seen_here}
 use Rattle.graph_walks.proofs.NumberLemmas.{outs_grown}
 use Rattle.graph_walks.proofs.Places.{holds, holds_append, holds_outs, number_place}
 use Rattle.graph_joins.specs.inner.Seeks.{is_kth, is_name, seek}
@@ -37,31 +35,20 @@ pub seek_more : (xs ys : List ℕ) (k : ℕ) (s : Sought) → s ≡ seek xs k
 seek_more xs ys k s e =
     ap (λ (x : Sought). seek_on x ys) e ∙ sym (seek_append xs ys k)
 
-module _ (bs : List Branch) (i k : ℕ) where
-  pub step_turn : (b : Branch) (s : Sought) → i < length bs → b ≡ get_or bs i b
-      → s ≡ seek (branch_outs b) k
-      → seek_on s (branches_outs (drop (i + 1) bs)) ≡ seek (branches_outs (drop i bs)) k
-  step_turn b s lt is e =
-      seek_more (branch_outs b) (branches_outs (drop (i + 1) bs)) k s e
-      ∙ ap (λ (ls : List Branch). seek (branches_outs ls) k) (sym (left_here bs i b lt is))
+module _ {X V : Type 0} (seen : List X → List V) (one : X → V) (s : IsSeen seen one)
+    (outs_of : V → List ℕ) (xs : List X) (i k : ℕ) where
+  pub seek_turn : (x : X) (sought : Sought) → i < length xs → x ≡ get_or xs i x
+      → sought ≡ seek (outs_of (one x)) k
+      → seek_on sought (flat_map outs_of (seen (drop (i + 1) xs)))
+      ≡ seek (flat_map outs_of (seen (drop i xs))) k
+  seek_turn x sought lt is e =
+      seek_more (outs_of (one x)) (flat_map outs_of (seen (drop (i + 1) xs))) k sought e
+      ∙ ap (λ (vs : List V). seek (flat_map outs_of vs) k)
+      (sym (seen_here seen one s xs i x x lt is))
 
-  pub steps_end : length bs ≤ i → Behind k ≡ seek (branches_outs (drop i bs)) k
-  steps_end past =
-      ap (λ (ls : List Branch). seek (branches_outs ls) k) (sym (drop_all i bs past))
-
-module _ (os : List Output) (i k : ℕ) where
-  pub output_turn : (o : Output) (s : Sought) → i < length os → o ≡ get_or os i o
-      → s ≡ seek (twig_outs (twig o)) k
-      → seek_on s (twigs_outs (map twig (drop (i + 1) os)))
-      ≡ seek (twigs_outs (map twig (drop i os))) k
-  output_turn o s lt is e =
-      seek_more (twig_outs (twig o)) (twigs_outs (map twig (drop (i + 1) os))) k s e
-      ∙ ap (λ (ls : List Output). seek (twigs_outs (map twig ls)) k)
-      (sym (left_here os i o lt is))
-
-  pub outputs_end : length os ≤ i → Behind k ≡ seek (twigs_outs (map twig (drop i os))) k
-  outputs_end past =
-      ap (λ (ls : List Output). seek (twigs_outs (map twig ls)) k) (sym (drop_all i os past))
+  pub seek_end : length xs ≤ i → Behind k ≡ seek (flat_map outs_of (seen (drop i xs))) k
+  seek_end past =
+      ap (λ (vs : List V). seek (flat_map outs_of vs) k) (sym (none_left seen one s xs i past))
 
 -- behind the first
 kth_next : (m : ℕ) (ns : List ℕ) (k n : ℕ) → is_kth (m ∷ ns) (suc k) n ≡ is_kth ns k n

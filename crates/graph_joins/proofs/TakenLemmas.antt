@@ -9,7 +9,7 @@ use Rattle.exec_graph.specs.declared.graph.Node.TheVariants.{Pdo}
 use Rattle.exec_graph.specs.declared.graph.Place.{Place}
 use Rattle.graph_joining.specs.inner.Refits.{graph_of, with_pdo}
 use Rattle.graph_joining.proofs.Passes.{pdo_is}
-use Rattle.graph_joining.proofs.Rereads.{set_again}
+use Rattle.graph_laws.proofs.Setting.{set_set}
 use Rattle.graph_laws.specs.Joining.{without}
 use Rattle.graph_laws.proofs.Changes.{node_at-without_other}
 use Rattle.graph_laws.proofs.Wellness.{node_at-set_same}
@@ -25,7 +25,7 @@ taken_again g left h p q c d f i e j k is =
     is ∙ ap₂ (λ (v : Place) (w : Forest). with_pdo left p v w) j k
     ∙ ap (λ (x : Graph). with_pdo x p c f) e
     ∙ ap (λ (l : List Entry). graph_of l g.outputs g.next)
-    (set_again (without g.nodes q) p (Pdo c Bare) (Pdo c f))
+    (set_set (without g.nodes q) p (Pdo c Bare) (Pdo c f))
 
 pub still_pdo : (g left : Graph) (p q : ℕ) (c : Place) → left ≡ taken_in g p q c Bare
     → (p ≡ q → ⊥) → is_pdo (node_at g.nodes p) ≡ true → is_pdo (node_at left.nodes p) ≡ true

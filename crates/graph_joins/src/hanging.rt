@@ -9,37 +9,38 @@ use exec_graph::{Output, Step};
 use graph_walks::{is_out, kept_out};
 use std::alloc::AllocError;
 
-/// Puts the others on that output, if the way leads to it and nothing is on it, and then keeps the
-/// output or not. Tells whether it did.
+/// An output, and whether it is kept once steps are on it.
+#[derive(Clone, Copy, Drop)]
+pub(crate) struct Peg {
+    pub(crate) output: u32,
+    pub(crate) keep: bool,
+}
+
+/// Puts the others on the output, if the last turns of the way that are left lead to it and nothing
+/// is on it. Tells whether it did.
+#[cycle(hang)]
 pub(crate) fn hang(
     steps: &mut Vec<Step>,
     way: &[Turn],
-    output: u32,
-    keep: bool,
+    rest: usize,
+    peg: Peg,
     others: &mut Vec<Step>,
 ) -> Result<bool, AllocError>
-    ensures hangs { IfOk result (λ b. b ≡ true → Hangs output keep (grown others.old.items)
-        (grown steps.old.items) (grown steps.new.items)) }
+    ensures hangs { IfOk result (λ b. b ≡ true →
+        Hangs peg.output peg.keep (grown others.old.items) (grown steps.old.items)
+        (grown steps.new.items)) }
     ensures steps { IfOk result (λ b. b ≡ false → steps.new.items ≡ steps.old.items) }
     ensures others { IfOk result (λ b. b ≡ false → others.new.items ≡ others.old.items) }
 {
-    if way.is_empty() {
+    if rest == 0 || rest > way.len() {
         return Ok(false);
     }
-    let rest = way.len() - 1;
-    let turn = way[rest];
+    let next = rest - 1;
+    let turn = way[next];
     if turn.step >= steps.len() {
         return Ok(false);
     }
-    let hung = hang_step(
-        &mut steps[turn.step],
-        turn.output,
-        way,
-        rest,
-        output,
-        keep,
-        others,
-    )?;
+    let hung = hang_step(&mut steps[turn.step], turn.output, way, next, peg, others)?;
     Ok(hung)
 }
 
@@ -49,20 +50,19 @@ fn hang_step(
     index: usize,
     way: &[Turn],
     rest: usize,
-    output: u32,
-    keep: bool,
+    peg: Peg,
     others: &mut Vec<Step>,
 ) -> Result<bool, AllocError>
     ensures hangs { IfOk result (λ b. b ≡ true → (f : Forest) →
-        Hangs output keep (grown others.old.items) (limb step.old f) (limb step.new f)) }
+        Hangs peg.output peg.keep (grown others.old.items) (limb step.old f) (limb step.new f)) }
     ensures step { IfOk result (λ b. b ≡ false → step.new ≡ step.old) }
     ensures others { IfOk result (λ b. b ≡ false → others.new.items ≡ others.old.items) }
 {
     if index == 0 {
-        let hung = hang_output(&mut step.first, way, rest, output, keep, others)?;
+        let hung = hang_output(&mut step.first, way, rest, peg, others)?;
         return Ok(hung);
     }
-    let hung = hang_outputs(&mut step.more, index - 1, way, rest, output, keep, others)?;
+    let hung = hang_outputs(&mut step.more, index - 1, way, rest, peg, others)?;
     Ok(hung)
 }
 
@@ -72,13 +72,12 @@ fn hang_outputs(
     index: usize,
     way: &[Turn],
     rest: usize,
-    output: u32,
-    keep: bool,
+    peg: Peg,
     others: &mut Vec<Step>,
 ) -> Result<bool, AllocError>
     ensures hangs { IfOk result (λ b. b ≡ true → (s : Branch) (n : ℕ) (f : Forest) →
-        Hangs output keep (grown others.old.items) (twigs s n (map twig outputs.old.items) f)
-        (twigs s n (map twig outputs.new.items) f)) }
+        Hangs peg.output peg.keep (grown others.old.items)
+        (twigs s n (map twig outputs.old.items) f) (twigs s n (map twig outputs.new.items) f)) }
     ensures outputs { IfOk result (λ b. b ≡ false →
         map twig outputs.new.items ≡ map twig outputs.old.items) }
     ensures others { IfOk result (λ b. b ≡ false → others.new.items ≡ others.old.items) }
@@ -86,7 +85,7 @@ fn hang_outputs(
     if index >= outputs.len() {
         return Ok(false);
     }
-    let hung = hang_output(&mut outputs[index], way, rest, output, keep, others)?;
+    let hung = hang_output(&mut outputs[index], way, rest, peg, others)?;
     Ok(hung)
 }
 
@@ -95,45 +94,27 @@ fn hang_output(
     one: &mut Output,
     way: &[Turn],
     rest: usize,
-    output: u32,
-    keep: bool,
+    peg: Peg,
     others: &mut Vec<Step>,
 ) -> Result<bool, AllocError>
     ensures hangs { IfOk result (λ b. b ≡ true → (s : Branch) (n : ℕ) (f : Forest) →
-        Hangs output keep (grown others.old.items)
+        Hangs peg.output peg.keep (grown others.old.items)
         (Grow (label_at s n (twig one.old)) (twig one.old).kids f)
         (Grow (label_at s n (twig one.new)) (twig one.new).kids f)) }
     ensures one { IfOk result (λ b. b ≡ false → twig one.new ≡ twig one.old) }
     ensures others { IfOk result (λ b. b ≡ false → others.new.items ≡ others.old.items) }
 {
     if rest == 0 {
-        if !is_out(one.number, output) {
+        if !is_out(one.number, peg.output) {
             return Ok(false);
         }
         if !one.kids.is_empty() {
             return Ok(false);
         }
-        one.number = kept_out(one.number, keep);
+        one.number = kept_out(one.number, peg.keep);
         one.kids.append(others)?;
         return Ok(true);
     }
-    let next = rest - 1;
-    if next >= way.len() {
-        return Ok(false);
-    }
-    let turn = way[next];
-    let kids = &mut one.kids;
-    if turn.step >= kids.len() {
-        return Ok(false);
-    }
-    let hung = hang_step(
-        &mut kids[turn.step],
-        turn.output,
-        way,
-        next,
-        output,
-        keep,
-        others,
-    )?;
+    let hung = hang(&mut one.kids, way, rest, peg, others)?;
     Ok(hung)
 }

@@ -100,6 +100,8 @@ pub(crate) fn relist(
     let more = lists.remove(&kid.reader);
     let own = lists.remove(&kid.keeper);
     if !is_bare {
+        drop(own);
+        drop(more);
         return Ok(());
     }
     if let Some(names) = joined(own, kid.output, keep, more)? {
@@ -117,8 +119,16 @@ fn joined(
     ensures { IfOk result (λ o. o ≡ spec.joined output keep own more) }
 {
     match (own, more) {
-        (Some(own), Some(more)) => own.spliced(output as usize, keep, &more),
-        _ => Ok(None),
+        (Some(own), Some(more)) => {
+            let names = own.spliced(output as usize, keep, &more);
+            drop(more);
+            names
+        }
+        (own, more) => {
+            drop(own);
+            drop(more);
+            Ok(None)
+        }
     }
 }
 

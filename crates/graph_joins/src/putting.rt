@@ -8,7 +8,7 @@ ghost use Rattle.graph_walks.specs.Outs.{outs};
 ghost use Rattle.graph_states.specs.States.{all_but};
 ghost use Rattle.graph_joins.specs.inner.Splices.{spliced};
 
-use crate::hanging::hang;
+use crate::hanging::{Peg, hang};
 use crate::ways::Turn;
 use exec_graph::Step;
 use graph_walks::put_on;
@@ -31,7 +31,8 @@ pub(crate) fn put(
         ≡ spliced output keep (outs (grown others.items)) (outs (grown steps.old.items))) }
 {
     let mut others = others;
-    if hang(steps, way, output, keep, &mut others)? {
+    let peg = Peg { output, keep };
+    if hang(steps, way, way.len(), peg, &mut others)? {
         return Ok(true);
     }
     put_on(steps, output, keep, others)?;

@@ -27,6 +27,7 @@ pub(crate) fn is_output(steps: &[Step], number: u32, name: u32) -> bool
     }
 }
 
+#[cycle(seek)]
 fn seek_steps(steps: &[Step], number: u32) -> Sought
     ensures { result ≡ spec.seek (branches_outs steps.now) number }
 {
@@ -70,16 +71,7 @@ fn seek_output(output: &Output, number: u32) -> Sought
 {
     match seek_out(output.number, number) {
         Sought::Found(name) => Sought::Found(name),
-        Sought::Behind(left) => {
-            let mut rest = left;
-            for kid in &output.kids {
-                match seek_step(kid, rest) {
-                    Sought::Found(name) => return Sought::Found(name),
-                    Sought::Behind(left) => rest = left,
-                }
-            }
-            Sought::Behind(rest)
-        }
+        Sought::Behind(left) => seek_steps(output.kids.as_slice(), left),
     }
 }
 

@@ -103,6 +103,7 @@ fn take_apart(alloc: Global, graph: NamedGraph, stays: u32, goes: u32) -> Parted
     requires stays { is_pdo (node_at graph.nodes stays) ≡ true }
     requires goes { is_pdo (node_at graph.nodes goes) ≡ true }
     ensures graph { result.graph ≡ taken_in graph stays goes (input_at graph stays) Bare }
+    ensures pdo { is_pdo (node_at result.graph.nodes stays) ≡ true }
     ensures input { result.input ≡ input_at graph stays }
     ensures stays { grown result.stays.items ≡ forest_at graph stays }
     ensures goes { grown result.goes.items ≡ forest_at graph goes }

@@ -6,7 +6,7 @@ use Rattle.std.specs.List.{flat_map, AllByRecursion}
 use Rattle.combine_table.specs.of_flume_value.Bag.{put}
 use Rattle.combine_table.specs.of_flume_value.declared.value.Value.{Value}
 use Rattle.exec_graph.specs.of_flume_collection.Sets.{put_new, gather}
-use Rattle.exec_graph.specs.Meaning.{through, place, IsKept, FitsForest, total, step_own, step_traps, Holds, Meets, own, traps, node_at, reads, is_out, has_out, gives_at, IsThere, IsSound, KeepsMeaning}
+use Rattle.exec_graph.specs.Meaning.{through, place, IsGivenToKept, FitsForest, total, step_own, step_traps, Holds, Meets, own, traps, node_at, reads, is_out, has_out, gives_at, IsThere, IsSound, KeepsMeaning}
 use Rattle.exec_graph.specs.of_flume_collection.Collection.{Collection, together, by_key}
 use Rattle.exec_graph.specs.World.{World}
 use Rattle.exec_graph.specs.Objects.{act_result}
@@ -37,8 +37,8 @@ pub record Relabels (out : Option ℕ → Option ℕ) (new : Forest → Forest) 
 pub fits_relabelled : (w : World) (m k : Place → Collection) (n i : ℕ) (r : ℕ → ℕ)
     (out : Option ℕ → Option ℕ) (new : Forest → Forest) → Relabels out new
     → ((o : Option ℕ) (u : Collection)
-    → ((j : ℕ) → is_out o j ≡ true → k (place i (r j)) ≡ m (place n j)) → IsKept m n o u
-    → IsKept k i (out o) u) → (v : Collection) (f : Forest)
+    → ((j : ℕ) → is_out o j ≡ true → k (place i (r j)) ≡ m (place n j)) → IsGivenToKept m n o u
+    → IsGivenToKept k i (out o) u) → (v : Collection) (f : Forest)
     → ((j : ℕ) → has_out j f ≡ true → k (place i (r j)) ≡ m (place n j)) → FitsForest w m n v f
     → FitsForest w k i v (new f)
 fits_relabelled w m k n i r out new is one v Bare h a =
@@ -55,8 +55,8 @@ fits_relabelled w m k n i r out new is one v (Grow l kids rest) h a =
     )
 
 kept_moved : (m k : Place → Collection) (n i : ℕ) (o : Option ℕ) (u : Collection)
-    → ((j : ℕ) → is_out o j ≡ true → k (place i j) ≡ m (place n j)) → IsKept m n o u
-    → IsKept k i o u
+    → ((j : ℕ) → is_out o j ≡ true → k (place i j) ≡ m (place n j)) → IsGivenToKept m n o u
+    → IsGivenToKept k i o u
 kept_moved m k n i None u h a = tt
 kept_moved m k n i (Some j) u h a = h j (eq-eqb j j refl) ∙ a
 

@@ -4,7 +4,7 @@ use Rattle.std.specs.Prelude.{Some, slice_get, ◌⊎◌}
 use Rattle.std.proofs.lemmas.List.{drop_all}
 use Rattle.std.proofs.lemmas.Bool.{cases_lt}
 use Rattle.exec_graph.specs.declared.graph.Place.{Place}
-use Rattle.graph_build.proofs.StepLemmas.{head_of}
+use Rattle.script_program.proofs.SourceSteps.{head_of}
 use Rattle.graph_build.specs.of_script_program.declared.made.Output.{Output}
 use Rattle.graph_print.specs.GraphText.{output_line, output_lines}
 

@@ -1,9 +1,8 @@
 -- What holds of each node by itself, by its kind and its steps, holds after a rewrite.
-use Rattle.std.proofs.Common.{◌≡◌, ℕ, ◌-◌, ◌+◌, Bool, true, false, cond, ◌==◌, List, [], ◌∷◌, ◌++◌, map, length, Option, Some, zero, suc}
+use Rattle.std.proofs.Common.{◌≡◌, ℕ, ◌-◌, ◌+◌, Bool, true, false, cond, ◌==◌, List, [], ◌∷◌, map, length, Option, Some, zero, suc}
 use Rattle.std.specs.Prelude.{nat_lt}
 use Rattle.std.specs.List.{AllByRecursion}
 use Rattle.combine_table.specs.declared.comb.Comb.{Comb}
-use Rattle.flume_value.proofs.EachLemmas.{Each-append}
 use Rattle.graph_bounds.specs.of_exec_graph.Forests.{Forest, numbered}
 use Rattle.graph_bounds.specs.of_exec_graph.Meaning.{node_at, place}
 use Rattle.graph_bounds.specs.of_exec_graph.Readers.{is_read}
@@ -15,12 +14,13 @@ use Rattle.graph_bounds.specs.of_exec_graph.declared.graph.Graph.{Graph}
 use Rattle.graph_bounds.specs.of_exec_graph.declared.graph.Blocked.{Blocked}
 use Rattle.graph_bounds.proofs.of_exec_graph.Entries.{all_found, all_map}
 use Rattle.graph_bounds.specs.of_graph_laws.Joining.{beside, grafted, joined_into, moved, reread, reread_entry, set_node, without}
-use Rattle.graph_bounds.specs.of_graph_laws.Kids.{CanKid, apart, even, kept_by, moved_out, named_by, number_in, odd, refitted, renewed, same_number, with_kid, with_sibling}
+use Rattle.graph_bounds.specs.of_graph_laws.Kids.{apart, even, kept_by, moved_out, named_by, number_in, odd, refitted, renewed, same_number, with_kid, with_sibling}
 use Rattle.graph_bounds.specs.of_graph_laws.Lifting.{lift_of, marked, marked_entry}
 use Rattle.graph_bounds.proofs.of_graph_laws.Changes.{all_set, all_without}
 use Rattle.graph_bounds.specs.of_sink_laws.Chain.{forest_of, ins_of}
 use Rattle.graph_bounds.specs.of_sink_laws.Merging.{dropped, spliced, tidied}
-use Rattle.graph_bounds.specs.of_sink_laws.Sinking.{copied, copies, first_flatten, flattens, instead, outputs_of, rerouted, sunk_once}
+use Rattle.graph_bounds.specs.of_sink_laws.Sinking.{copied, copies, flattens, outputs_of, rerouted, sunk_once}
+use Rattle.graph_bounds.proofs.of_sink_laws.SinkFounded.{all_sunk as sunk_all}
 use Rattle.graph_rewrites.specs.Exchange.{exchanged, swapped}
 use Rattle.graph_rewrites.specs.Rewrites.{CanApply, forest_at, input_at, kid_under, kid_under_other, rewritten, swapped_at}
 use Rattle.graph_rewrites.specs.declared.rewrite.Rewrite.{Rewrite}
@@ -78,25 +78,12 @@ module _ (Q : Node → Type 0) (F : Forest → Type 0) (steady : IsSteady Q F) w
   all_flattens n first ins j (suc k) =
       (steady.flat (copied first (suc j) ins), all_flattens (n + 1) first ins (suc j) k)
 
-  all_instead : (es : List Entry) (p first : ℕ) (ins : List Place) (k : ℕ) → All es
-      → All (instead es p (first_flatten first ins k))
-  all_instead es p first ins zero h = all_gone es p h
-  all_instead es p first ins (suc k) h =
-      all_set (λ e. Q e.node) es p (Flatten (copied first 0 ins)) h
-      (steady.flat (copied first 0 ins))
-
   all_sunk : (g : Graph) (p : ℕ) (f : Forest) (ins : List Place) → F f → All g.nodes
       → All (sunk_once g p f ins).nodes
   all_sunk g p f ins i h =
-      let base : ℕ = g.next + length ins in
-      let kept : List Entry = map (reread_entry (rerouted p base)) g.nodes in
-      let firsts : List Entry = instead kept p (first_flatten g.next ins (outputs_of f)) in
-      let made : List Entry = copies g.next f ins in
-      let others : List Entry = flattens base g.next ins 0 (outputs_of f - 1) in
-      Each-append (λ (e : Entry). Q e.node) firsts (made ++ others)
-      (all_instead kept p g.next ins (outputs_of f) (all_reread (rerouted p base) g.nodes h))
-      (Each-append (λ (e : Entry). Q e.node) made others (all_copies g.next f ins i)
-      (all_flattens base g.next ins 0 (outputs_of f - 1)))
+      sunk_all (λ e. Q e.node) g p f ins (all_reread (rerouted p (g.next + length ins)) g.nodes h)
+      (λ _. steady.flat (copied g.next 0 ins)) (all_copies g.next f ins i)
+      (all_flattens (g.next + length ins) g.next ins 0 (outputs_of f - 1))
 
   all_marked : (s : ℕ → Option Comb → Option Comb) (es : List Entry) → All es
       → All (map (marked_entry s) es)

@@ -11,7 +11,7 @@ use Rattle.graph_bounds.specs.of_exec_graph.declared.graph.Blocked.{Blocked}
 use Rattle.fusion_blocks.specs.Blocks.{CanMark}
 use Rattle.graph_bounds.specs.of_graph_laws.Kids.{CanKid, CanPair, with_kid, with_sibling}
 use Rattle.graph_bounds.specs.of_graph_laws.Lifting.{CanLift, lifted_at}
-use Rattle.graph_bounds.specs.of_sink_laws.Chain.{CanCall, CanNest, after_call, after_nest, forest_of}
+use Rattle.graph_bounds.specs.of_sink_laws.Chain.{CanSinkPdo, CanNest, after_call, after_nest, forest_of}
 use Rattle.graph_bounds.specs.of_sink_laws.declared.pair.Pair.{Pair}
 use Rattle.graph_rewrites.specs.Exchange.{swapped}
 use Rattle.graph_rewrites.specs.declared.rewrite.Rewrite.{Rewrite}
@@ -72,7 +72,7 @@ HasRoom g p = total_size (after_call g p).nodes ≤ most_nodes
 abbrev pub CanApply : Blocked → Rewrite → Type 0
 CanApply b (Merge outer inner) = CanNest b.graph (pair outer inner)
 CanApply b (Sink flatten pdo) =
-    CanCall b.graph (pair flatten pdo) × HasRoom b.graph (pair flatten pdo)
+    CanSinkPdo b.graph (pair flatten pdo) × HasRoom b.graph (pair flatten pdo)
 CanApply b (Lift group) = CanLift b.graph group
 CanApply b (Kid keeper output reader) = CanBeKid b.graph keeper output reader
 CanApply b (Sibling keeper other) = (keeper < other) × CanBeSibling b.graph keeper other

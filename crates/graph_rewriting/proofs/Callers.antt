@@ -9,7 +9,6 @@ use Rattle.exec_graph.specs.declared.graph.Entry.{Entry}
 use Rattle.exec_graph.specs.declared.graph.Graph.{Graph}
 use Rattle.exec_graph.specs.declared.graph.Node.{Node}
 use Rattle.exec_graph.specs.declared.graph.Node.TheVariants.{Source, Flatten, Pdo, Gbk, Barrier}
-use Rattle.exec_graph.specs.declared.graph.Place.{Place}
 use Rattle.exec_graph.proofs.Entries.{entry}
 use Rattle.graph_laws.specs.Lifting.{CanLift, lift_of, lifted_at, marked, marked_entry, remarked}
 use Rattle.graph_rewriting.specs.inner.Tests.{found_list, is_gbk, only}
@@ -86,31 +85,16 @@ lifted_is g n comb e =
 
 -- ---- groups
 
-pub record IsGbk (o : Option Node) : Type 0 where
-  pub input : Place
-  pub origin : ℕ
-  pub last : Bool
-  pub mark : Option Comb
-  pub is : o ≡ Some (Gbk input origin last mark)
-
-gbk_is : (o : Option Node) → is_gbk o ≡ true → IsGbk o
-gbk_is (Some (Gbk c o l k)) h =
-    record { input = c; origin = o; last = l; mark = k; is = refl }
-gbk_is _ h = absurd (false≢true h)
+-- a node that is a group can be lifted, where it has a combiner for that
+gbk_can_lift : (g : Graph) (n : ℕ) (comb : Comb) (o : Option Node) → node_at g.nodes n ≡ o
+    → is_gbk o ≡ true → lift_of g n ≡ Some comb → CanLift g n
+gbk_can_lift g n comb (Some (Gbk c o l k)) is h e =
+    record { input = c; origin = o; last = l; mark = k; gbk = is; comb = comb; may = e }
+gbk_can_lift g n comb _ is h e = absurd (false≢true h)
 
 pub can_lift : (g : Graph) (n : ℕ) (comb : Comb) → is_gbk (node_at g.nodes n) ≡ true
     → lift_of g n ≡ Some comb → CanLift g n
-can_lift g n comb h e =
-    let x = gbk_is (node_at g.nodes n) h in
-    record {
-      input = x.input;
-      origin = x.origin;
-      last = x.last;
-      mark = x.mark;
-      gbk = x.is;
-      comb = comb;
-      may = e;
-    }
+can_lift g n comb = gbk_can_lift g n comb (node_at g.nodes n) refl
 
 pub no_group : (g : Graph) (n : ℕ) → is_gbk (node_at g.nodes n) ≡ false → CanLift g n → ⊥
 no_group g n h can = false≢true (sym h ∙ ap is_gbk can.gbk)

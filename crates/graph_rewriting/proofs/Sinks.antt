@@ -27,10 +27,13 @@ sink_made g f p None h = λ can.
 sink_made g f p (Some x) h = ((h.0, h.1), h.2)
 
 -- of what was made under a name of the rewrite
+pub made_so : (g : Graph) (r s : Rewrite) (o : Option Graph) → r ≡ s → IsMade g s o → IsMade g r o
+made_so g r s o e h = subst (λ (x : Rewrite). IsMade g x o) (sym e) h
+
 pub made_as : {E : Type 0} (g : Graph) (r s : Rewrite) (made : Result (Option Graph) E) → r ≡ s
     → (P : Option Graph → Type 0) → ((o : Option Graph) → P o → IsMade g s o) → IfOk made P
     → IfOk made (λ o. IsMade g r o)
-made_as g r s (Ok o) e P h is = subst (λ (x : Rewrite). IsMade g x o) (sym e) (h o is)
+made_as g r s (Ok o) e P h is = made_so g r s o e (h o is)
 made_as g r s (Err x) e P h is = tt
 
 -- ---- marks say nothing of what may be made

@@ -11,7 +11,6 @@ use crate::marking::markable;
 use exec_graph::{Blocked, Graph, Place};
 use flatten_sink::{merge_pair, sink_pair};
 use flume_value::Pile;
-use graph_joining::Kid;
 use graph_rewrites::Rewrite;
 use sink_laws::Pair;
 use std::alloc::{AllocError, Global};
@@ -48,14 +47,7 @@ fn rewritten(alloc: Global, graph: Graph, rewrite: Rewrite) -> Result<Option<Gra
             keeper,
             output,
             reader,
-        } => {
-            let own = Kid {
-                keeper,
-                output,
-                reader,
-            };
-            kid(alloc, graph, own)
-        }
+        } => kid(alloc, graph, keeper, output, reader),
         Rewrite::Sibling { keeper, other } => sibling(alloc, graph, keeper, other),
         Rewrite::Mark { node, output } => Ok(markable(graph, node, output)),
     }

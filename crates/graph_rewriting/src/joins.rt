@@ -9,11 +9,21 @@ use graph_joining::{Kid, can_be_kid, can_be_sibling, join_kid, join_sibling};
 use std::alloc::{AllocError, Global};
 
 /// The reader becomes a kid, if it reads that output.
-pub(crate) fn kid(alloc: Global, graph: Graph, kid: Kid) -> Result<Option<Graph>, AllocError>
+pub(crate) fn kid(
+    alloc: Global,
+    graph: Graph,
+    keeper: u32,
+    output: u32,
+    reader: u32,
+) -> Result<Option<Graph>, AllocError>
     requires { IsGraphOk graph }
-    ensures { IfOk result (λ made.
-        IsMade graph (rewrite.Kid kid.keeper kid.output kid.reader) made) }
+    ensures { IfOk result (λ made. IsMade graph (rewrite.Kid keeper output reader) made) }
 {
+    let kid = Kid {
+        keeper,
+        output,
+        reader,
+    };
     if !can_be_kid(&graph, kid) {
         return Ok(None);
     }

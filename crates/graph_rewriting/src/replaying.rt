@@ -77,6 +77,7 @@ fn follow(
 {
     let own = group_of(rewrite);
     if own < group {
+        drop(now);
         return Ok(None);
     }
     let made = applied(alloc, now, rewrite)?;

@@ -19,6 +19,7 @@ use Rattle.graph_laws.specs.Kids.{kept_by, number_in, out_kept}
 use Rattle.graph_laws.proofs.Changes.{all_set, all_without, node_at-without_other}
 use Rattle.graph_laws.proofs.Disjoint.{differ_grafted, has_out-grafted}
 use Rattle.graph_laws.proofs.Renaming.{has_one}
+use Rattle.graph_laws.proofs.Roots.{was_kept}
 use Rattle.graph_laws.proofs.Wellness.{node_at-set_same}
 use Rattle.fuse_chain.specs.Rewrites.{IsKid}
 use Rattle.fuse_chain.proofs.NextStates.{IsJoin, any_split, next_state}
@@ -29,26 +30,6 @@ use Rattle.fuse_chain.specs.of_pardo_fuse.Fusing.{holds_out}
 use Rattle.graph_names.specs.Names.{unnamed}
 use Rattle.graph_states.specs.States.{Stands, all_but, still_read, taken_in}
 use Rattle.graph_states.proofs.Siblings.{stands_by, state_of}
-
--- ---- what is kept is so by the rule
-
-out_rule : (keep : ℕ → Bool) (o : Option ℕ) (j : ℕ) → is_out (out_kept keep o) j ≡ true
-    → keep j ≡ true
-out_rule keep None j x = absurd (false≢true x)
-out_rule keep (Some k) j x = by (keep k) refl x
-  where
-    by : (b : Bool) → keep k ≡ b → is_out (cond b (Some k) None) j ≡ true → keep j ≡ true
-    by true e y = ap keep (sym (eqb-true k j y)) ∙ e
-    by false e y = absurd (false≢true y)
-
-kept_rule : (keep : ℕ → Bool) (f : Forest) (j : ℕ) → has_out j (kept_by keep f) ≡ true
-    → keep j ≡ true
-kept_rule keep Bare j x = absurd (false≢true x)
-kept_rule keep (Grow l kids rest) j x =
-    or_else (keep j ≡ true) (is_out (out_kept keep l.out) j)
-    (has_out j (kept_by keep kids) || has_out j (kept_by keep rest)) x (out_rule keep l.out j)
-    (λ y. or_else (keep j ≡ true) (has_out j (kept_by keep kids)) (has_out j (kept_by keep rest))
-    y (kept_rule keep kids j) (kept_rule keep rest j))
 
 -- ---- what is kept is so by another rule that says the same of it
 
@@ -188,7 +169,7 @@ module _ (h : Graph) (p q n : ℕ) (c : Place) (f i : Forest) (s : Stands h)
       own x e j y =
           let same : x ≡ Pdo c kept = cc in
           reads_alike (place j 0) kept Bare
-          ∙ kept_rule (still_read h p q c) (grafted n i f) j
+          ∙ was_kept (still_read h p q c) (grafted n i f) j
           (ap (λ (z : Node). holds_out j z) (sym same) ∙ y)
 
       each : (k : ℕ) (x : Node) (b : Bool) → eqb k p ≡ b

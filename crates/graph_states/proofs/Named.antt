@@ -17,6 +17,7 @@ use Rattle.exec_graph.proofs.Soundness.{IsSound-ok}
 use Rattle.graph_laws.specs.Joining.{reread}
 use Rattle.graph_laws.specs.Kids.{named_by, number_in}
 use Rattle.graph_laws.proofs.Renaming.{had_out}
+use Rattle.graph_laws.proofs.Roots.{after_new, after_numbered}
 use Rattle.fuse_chain.specs.of_pardo_fuse.Fusing.{finished, holds_out, out_number}
 use Rattle.fuse_chain.specs.of_pardo_fuse.Parting.{part_number}
 use Rattle.fuse_chain.specs.of_pardo_fuse.Readers.{is_pdo}
@@ -26,18 +27,6 @@ use Rattle.fuse_chain.proofs.Names.{IsBack, has_is_named, number_named, numbered
 use Rattle.graph_names.specs.Names.{named, named_entry, named_place, unnamed, with_names}
 
 -- ---- numbers of a forest that has them in order
-
-after_new : (n m : ℕ) (o : Option ℕ) → after_out n (new_out m o) ≡ after_out n o
-after_new n m None = refl
-after_new n m (Some j) = refl
-
-after_numbered : (n m : ℕ) (f : Forest) → after n (numbered m f) ≡ after n f
-after_numbered n m Bare = refl
-after_numbered n m (Grow l kids rest) =
-    let low : ℕ = after_out m l.out in
-    after_numbered (after (after_out n (new_out m l.out)) (numbered low kids)) (after low kids) rest
-    ∙ ap (λ k. after k rest) (after_numbered (after_out n (new_out m l.out)) low kids
-    ∙ ap (λ k. after k kids) (after_new n m l.out))
 
 new_is : (s j : ℕ) (o : Option ℕ) → is_out (new_out s o) j ≡ true → s ≡ j
 new_is s j None h = absurd (false≢true h)

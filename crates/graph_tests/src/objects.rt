@@ -6,6 +6,18 @@ use graph_checks::graph_ok;
 use std::alloc::{AllocError, Global};
 use std::test::Fail;
 
+/// The rows of an input.
+const ROWS: Input = Input {
+    number: 0,
+    is_object: false,
+};
+
+/// A value that was kept.
+const SAVED: Input = Input {
+    number: 1,
+    is_object: true,
+};
+
 fn first_of(node: u32) -> Place {
     Place { node, out: 0 }
 }
@@ -34,44 +46,35 @@ fn barrier(alloc: Global, inputs: &[u32], act: Act) -> Result<Node, AllocError> 
     })
 }
 
-fn push(nodes: &mut Pile<Entry>, number: u32, node: Node) -> Result<(), AllocError> {
-    nodes.push(Entry { number, node })?;
-    Ok(())
-}
-
-/// The rows of an input, a function of each, the sum of all as an object (node 5), a source that is
-/// an object (node 6), and one node more, which is written out.
-fn graph(alloc: Global, inputs: &[u32], act: Act) -> Result<Graph, AllocError> {
-    let mut nodes = Pile::new(alloc);
-    let rows = Input {
-        number: 0,
-        is_object: false,
-    };
-    let saved = Input {
-        number: 1,
-        is_object: true,
-    };
-    push(&mut nodes, 0, Node::Source(rows))?;
-    push(&mut nodes, 1, pdo(alloc, 0, 1, Does::Call(0))?)?;
-    push(&mut nodes, 2, pdo(alloc, 1, 2, Does::Solo)?)?;
-    push(
-        &mut nodes,
-        3,
-        Node::Gbk {
+/// The node of that number: the rows of an input, a function of each, the sum of all as an object
+/// (node 5), a source that is an object (node 6), and one node more, with these inputs.
+fn node(alloc: Global, number: u32, inputs: &[u32], act: Act) -> Result<Node, AllocError> {
+    match number {
+        0 => Ok(Node::Source(ROWS)),
+        1 => pdo(alloc, 0, 1, Does::Call(0)),
+        2 => pdo(alloc, 1, 2, Does::Solo),
+        3 => Ok(Node::Gbk {
             input: first_of(2),
             origin: 2,
             is_own: false,
             lifted: None,
-        },
-    )?;
-    push(&mut nodes, 4, pdo(alloc, 3, 2, Does::Combine(Comb::Sum))?)?;
-    push(
-        &mut nodes,
-        5,
-        barrier(alloc, &[4], Act::Singleton(Comb::Sum))?,
-    )?;
-    push(&mut nodes, 6, Node::Source(saved))?;
-    push(&mut nodes, 7, barrier(alloc, inputs, act)?)?;
+        }),
+        4 => pdo(alloc, 3, 2, Does::Combine(Comb::Sum)),
+        5 => barrier(alloc, &[4], Act::Singleton(Comb::Sum)),
+        6 => Ok(Node::Source(SAVED)),
+        _ => barrier(alloc, inputs, act),
+    }
+}
+
+/// The graph of these nodes, of which the last and the function of each row are written out.
+fn graph(alloc: Global, inputs: &[u32], act: Act) -> Result<Graph, AllocError> {
+    let mut nodes = Pile::new(alloc);
+    for number in 0..8 {
+        nodes.push(Entry {
+            number,
+            node: node(alloc, number, inputs, act)?,
+        })?;
+    }
     let mut outputs = Pile::new(alloc);
     outputs.push(first_of(7))?;
     outputs.push(first_of(1))?;

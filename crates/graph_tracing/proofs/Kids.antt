@@ -1,5 +1,5 @@
 -- A kid more, and none.
-use Rattle.std.proofs.Common.{◌≡◌, ℕ, ◌<◌, Bool, true, false, cond, eqb, List, [], ◌∷◌, ◌++◌, Some, None, map, refl, sym, ap, ap₂, ◌∙◌, subst, inl, inr, arith, append_assoc}
+use Rattle.std.proofs.Common.{◌≡◌, ℕ, ◌<◌, Bool, true, false, cond, eqb, List, [], ◌∷◌, ◌++◌, Some, None, map, refl, sym, ap, ap₂, ◌∙◌, subst, inl, inr, arith}
 use Rattle.std.proofs.lemmas.Bool.{eq-eqb, eqb-true, false≢true, ne_eqb}
 use Rattle.std.specs.List.{AllByRecursion as Each}
 use Rattle.exec_graph.specs.Forests.{Forest}
@@ -30,7 +30,7 @@ use Rattle.graph_tracing.specs.declared.trace.Trace.{Trace}
 use Rattle.graph_tracing.proofs.Keepers.{can_kid}
 use Rattle.graph_tracing.proofs.Effects.{Calls}
 use Rattle.graph_tracing.proofs.Traces.{one_more}
-use Rattle.graph_tracing.proofs.Waiting.{Effect, absent_kept, calls_kept, effect, made_sound, not_up_to}
+use Rattle.graph_tracing.proofs.Waiting.{await_rest, calls_kept, not_up_to, one_behind}
 
 pub kid_ok : (g h : Graph) (p k q : ℕ) → IsGraphOk g → CanBeKid g p k q
     → h ≡ kid_under g p k q → IsGraphOk h
@@ -75,9 +75,6 @@ kid_is g p k q h m =
     (ap forest_of m.can.keeper)
     ∙ ap (λ (y : Forest). with_kid g p k q m.source m.near y) (ap forest_of m.can.other)
     ∙ m.is
-
-one_behind : (xs ys : List Rewrite) (r : Rewrite) → (xs ++ r ∷ []) ++ ys ≡ xs ++ r ∷ ys
-one_behind xs ys r = append_assoc xs (r ∷ []) ys
 
 -- ---- a Pdo that goes is not there at the end
 
@@ -130,13 +127,8 @@ module _ (t new : Trace) (m : Graph) (p k n : ℕ) (ns : List ℕ) (whole : List
       let rest : List Rewrite = map as_rewrite (present later rs) in
       record {
         rest = rs;
-        await = record {
-          all = all.1;
-          leads = subst (λ (x : Graph). LeadsTo rs x m) (sym next) to.2;
-          some = go.1;
-          rise = rise.1;
-          sound = subst IsSound (sym next) (made_sound (Kid u j q) g to.0 s ok);
-        };
+        await = await_rest false (Kid u j q) rs g to.0 new.graph m ns next s ok to.2 all.1 go.1
+            rise.1;
         written = ap (λ (f : ℕ → ℕ). new.rewrites ++ map as_rewrite (present f rs)) (sym same)
             ∙ ap (λ (xs : List Rewrite). xs ++ rest) more
             ∙ one_behind t.rewrites rest (rewrite.Kid (l p) k (l n))

@@ -1,5 +1,5 @@
 -- A sibling more, and none.
-use Rattle.std.proofs.Common.{◌≡◌, ℕ, ◌<◌, true, List, [], ◌∷◌, ◌++◌, Some, map, refl, sym, ap, ◌∙◌, subst, inl, inr, arith, append_assoc}
+use Rattle.std.proofs.Common.{◌≡◌, ℕ, ◌<◌, true, List, [], ◌∷◌, ◌++◌, Some, map, refl, sym, ap, ◌∙◌, subst, inl, inr, arith}
 use Rattle.std.proofs.lemmas.Bool.{false≢true}
 use Rattle.std.specs.List.{AllByRecursion as Each}
 use Rattle.exec_graph.specs.Forests.{Forest}
@@ -21,7 +21,7 @@ use Rattle.graph_tracing.specs.declared.trace.Trace.{Trace}
 use Rattle.graph_tracing.proofs.Keepers.{can_pair}
 use Rattle.graph_tracing.proofs.Effects.{Calls}
 use Rattle.graph_tracing.proofs.Traces.{goes_more}
-use Rattle.graph_tracing.proofs.Waiting.{calls_kept, made_sound, not_up_to}
+use Rattle.graph_tracing.proofs.Waiting.{await_rest, calls_kept, not_up_to, one_behind}
 
 pub sibling_goes : (old new : Trace) (p q : ℕ) → p < q → CanBeSibling old.graph p q
     → new.graph ≡ after_sibling old.graph p q
@@ -46,9 +46,6 @@ stay_apart : (rs : List Fusion) (g m : Graph) (a b : ℕ) (c : Place) → LeadsT
 stay_apart rs g m a b c l low apart x y i j =
     let k = calls_kept rs g m l low a b c x y i j in
     apart a b k.0 k.1.0 k.2.0 k.1.1 k.2.1
-
-one_behind : (xs ys : List Rewrite) (r : Rewrite) → (xs ++ r ∷ []) ++ ys ≡ xs ++ r ∷ ys
-one_behind xs ys r = append_assoc xs (r ∷ []) ys
 
 -- siblings change no number
 abbrev as_is : ℕ → ℕ
@@ -110,13 +107,8 @@ module _ (t new : Trace) (m : Graph) (p n : ℕ) (ns : List ℕ) (whole : List R
       ∙ ap (λ (x : ℕ). after_sibling g k x) (sym of_n) ∙ sibling_is g k q l.0 s in
       record {
         rest = rs;
-        await = record {
-          all = all.1;
-          leads = subst (λ (x : Graph). LeadsTo rs x m) (sym next) l.2;
-          some = go.1;
-          rise = rise.1;
-          sound = subst IsSound (sym next) (made_sound (Sibling k q) g l.0 s low);
-        };
+        await = await_rest true (Sibling k q) rs g l.0 new.graph m ns next s low l.2 all.1 go.1
+            rise.1;
         written = ap (λ (xs : List Rewrite). xs ++ map as_rewrite (present as_is rs)) more
             ∙ one_behind t.rewrites (map as_rewrite (present as_is rs)) (rewrite.Sibling p n)
             ∙ ap (λ (x : ℕ). t.rewrites ++ rewrite.Sibling x n ∷

@@ -1,5 +1,5 @@
 -- What kids and siblings that are still to be made leave of the Pdos that stay.
-use Rattle.std.proofs.Common.{◌≡◌, ℕ, ◌<◌, Bool, true, false, cond, eqb, List, [], ◌∷◌, ◌++◌, Option, Some, None, map, refl, sym, ap, ◌∙◌, subst, inl, inr, ◌⊎◌, arith}
+use Rattle.std.proofs.Common.{◌≡◌, ℕ, ◌<◌, Bool, true, false, cond, eqb, List, [], ◌∷◌, ◌++◌, Option, Some, None, map, refl, sym, ap, ◌∙◌, subst, inl, inr, ◌⊎◌, arith, append_assoc}
 use Rattle.std.proofs.lemmas.Bool.{eqb-true}
 use Rattle.std.proofs.lemmas.List.{append-nil}
 use Rattle.std.specs.List.{AllByRecursion as Each}
@@ -14,14 +14,14 @@ use Rattle.exec_graph.specs.declared.graph.Node.{Node}
 use Rattle.exec_graph.specs.declared.graph.Node.TheVariants.{Pdo}
 use Rattle.exec_graph.specs.declared.graph.Place.{Place}
 use Rattle.pass_rewrites.specs.of_fuse_chain.Numbers.{after_kids}
-use Rattle.pass_rewrites.specs.of_fuse_chain.Rewrites.{InOrder, IsKid, IsSibling, Kid, Sibling, LeadsTo, Makes, Rewrite as Fusion, other_of}
+use Rattle.pass_rewrites.specs.of_fuse_chain.Rewrites.{InOrder, IsKid, IsSibling, Kid, Sibling, LeadsTo, MakesByRewrite, Rewrite as Fusion, is_sibling, other_of}
 use Rattle.graph_laws.specs.Joining.{beside, grafted, joined_into}
 use Rattle.graph_laws.specs.Kids.{apart, even, named_by, odd, renewed}
 use Rattle.graph_rewrites.specs.declared.rewrite.Rewrite.{Rewrite}
 use Rattle.pass_rewrites.specs.Passes.{as_rewrite, present}
 use Rattle.graph_laws.proofs.Kids.{kid_sound, sibling_sound}
 use Rattle.graph_laws.proofs.Wellness.{reads_lower}
-use Rattle.graph_tracing.specs.inner.Waiting.{GoFrom, IsUnderway, Rise}
+use Rattle.graph_tracing.specs.inner.Waiting.{Await, GoFrom, IsUnderway, Rise}
 use Rattle.graph_tracing.specs.declared.trace.Trace.{Trace}
 use Rattle.graph_tracing.proofs.Effects.{Calls, Takes, shift, taken_absent, taken_calls, taken_gone}
 
@@ -62,7 +62,7 @@ sibling_takes g p q h ok m =
     }
 
 -- a rewrite leaves a graph with a meaning
-pub made_sound : (r : Fusion) (g h : Graph) → Makes r g h → IsSound g → IsSound h
+pub made_sound : (r : Fusion) (g h : Graph) → MakesByRewrite r g h → IsSound g → IsSound h
 made_sound (Kid p k q) g h m ok =
     subst IsSound m.is (kid_sound g p k q m.source m.near m.far ok m.can).sound
 made_sound (Sibling p q) g h m ok =
@@ -88,7 +88,7 @@ effect_of g p q c d near far new t = record {
   there = t.other;
 }
 
-pub effect : (r : Fusion) (g h : Graph) → Makes r g h → IsSound g
+pub effect : (r : Fusion) (g h : Graph) → MakesByRewrite r g h → IsSound g
     → Effect g h (other_of r)
 effect (Kid p k q) g h m low =
     subst (λ (x : Graph). Effect g x q) m.is
@@ -119,6 +119,22 @@ absent_kept [] g m l low n h = subst (λ (z : Graph). node_at z.nodes n ≡ None
 absent_kept (r ∷ rs) g m l low n h =
     let e : Effect g l.0 (other_of r) = effect r g l.0 l.1 low in
     absent_kept rs l.0 m l.2 (made_sound r g l.0 l.1 low) n (e.absent n h)
+
+-- what is still to be made behind the first of them, where a graph is what that makes
+pub await_rest : (siblings : Bool) (r : Fusion) (rs : List Fusion) (g h now m : Graph)
+    (ns : List ℕ) → now ≡ h → MakesByRewrite r g h → IsSound g → LeadsTo rs h m
+    → Each (λ s. is_sibling s ≡ siblings) rs → GoFrom rs ns → Rise ns
+    → Await siblings now m ns rs
+await_rest siblings r rs g h now m ns at made ok to all go rise = record {
+  all = all;
+  leads = subst (λ (x : Graph). LeadsTo rs x m) (sym at) to;
+  some = go;
+  rise = rise;
+  sound = subst IsSound (sym at) (made_sound r g h made ok);
+}
+
+pub one_behind : (xs ys : List Rewrite) (r : Rewrite) → (xs ++ r ∷ []) ++ ys ≡ xs ++ r ∷ ys
+one_behind xs ys r = append_assoc xs (r ∷ []) ys
 
 -- ---- the Pdos that go
 

@@ -1,4 +1,5 @@
 pub mod Relabeling
+pub mod Falling
 pub mod InPlace
 pub mod PlantLemmas
 pub mod PlantTurns

@@ -3,7 +3,7 @@ use Rattle.std.proofs.Common.{◌≡◌, ℕ, suc, ◌+◌, List, [], ◌∷◌,
 use Rattle.std.specs.List.{flat_map}
 use Rattle.graph_laws.specs.of_exec_graph.Forests.{Branch, Forest, Bare, Grow, Twig, after, after_out, grown, label_at, limb, new_label, numbered, twigs}
 use Rattle.graph_walks.specs.Outs.{out_list, outs}
-use Rattle.graph_walks.specs.inner.Numbering.{after_branch, after_twig, after_twigs, branch_outs, branches_outs, numbered_all, numbered_branch, numbered_branches, numbered_twigs, twig_outs, twigs_outs}
+use Rattle.graph_walks.specs.inner.Numbering.{after_branch, after_twig, after_twigs, branch_outs, branches_outs, numbered_branch, numbered_branches, numbered_twigs, twig_outs, twigs_outs}
 
 -- ---- the forest
 
@@ -75,18 +75,12 @@ branch_count n b = twigs_count n (b.first ∷ b.more)
 
 -- ---- one more
 
-pub numbered_more : {X : Type 0} (one : ℕ → X → X) (behind : ℕ → X → ℕ) (outs_of : X → List ℕ)
+pub counted : {X : Type 0} (behind : ℕ → X → ℕ) (outs_of : X → List ℕ)
     → ((n : ℕ) (x : X) → behind n x ≡ n + length (outs_of x))
-    → (done new : List X) (before after : List ℕ) (x : X) (xs : List X)
-    → new ≡ done ++ one (length before) x ∷ [] → after ≡ before ++ outs_of x
-    → new ++ numbered_all one behind (length after) xs
-    ≡ done ++ numbered_all one behind (length before) (x ∷ xs)
-numbered_more {X} one behind outs_of counts done new before after x xs e f =
-    let count : length after ≡ behind (length before) x =
-    ap length f ∙ length-append before (outs_of x) ∙ sym (counts (length before) x) in
-    ap₂ (λ (ds : List X) (n : ℕ). ds ++ numbered_all one behind n xs) e count
-    ∙ append_assoc done (one (length before) x ∷ [])
-    (numbered_all one behind (behind (length before) x) xs)
+    → (before after : List ℕ) (x : X) → after ≡ before ++ outs_of x
+    → length after ≡ behind (length before) x
+counted behind outs_of counts before after x f =
+    ap length f ∙ length-append before (outs_of x) ∙ sym (counts (length before) x)
 
 pub outs_more : {X : Type 0} (outs_of : X → List ℕ) (before after : List ℕ) (x : X) (xs : List X)
     → after ≡ before ++ outs_of x

@@ -1,136 +1,78 @@
--- One turn more of the walks that look for an output.
-use Rattle.std.proofs.Common.{◌≡◌, ◌≤◌, ℕ, ◌+◌, ◌<◌, Bool, true, false, cond, ◌||◌, List, [], ◌∷◌, ◌++◌, map, set, take, drop, length, get_or, Option, None, sym, ap, ap₂, ◌∙◌, append_assoc, append-nil, suc, arith}
-use Rattle.std.proofs.lemmas.List.{drop_all, map-append, set_split, take_all}
+-- The walk that puts steps on the first output of a number: one turn more, and the end.
+use Rattle.std.proofs.Common.{◌≡◌, ◌≤◌, ◌<◌, ℕ, ◌+◌, Bool, true, false, cond, ◌||◌, List, [], ◌∷◌, ◌++◌, set, take, drop, length, get_or, Option, None, refl, sym, ap, ap₂, ◌∙◌, length-set}
+use Rattle.std.specs.List.{list_any}
 use Rattle.graph_laws.specs.of_exec_graph.Forests.{Branch, Forest, Twig, grown}
 use Rattle.graph_laws.specs.of_exec_graph.Meaning.{has_out, is_out}
-use Rattle.graph_laws.specs.of_exec_graph.Twigs.{twig}
-use Rattle.graph_laws.specs.of_exec_graph.declared.step.Output.{Output}
 use Rattle.graph_laws.specs.Joining.{beside}
-use Rattle.graph_walks.specs.inner.Plants.{on_branch, on_branches, on_twig, on_twigs, put_branch, put_branches, put_in, put_twig, put_twigs}
-use Rattle.graph_walks.proofs.InPlace.{left_here, set_done, set_left}
+use Rattle.graph_walks.specs.inner.Plants.{on_branch, on_branches, on_twig, on_twigs, put_branch, put_branches, put_first, put_in, put_twig, put_twigs}
+use Rattle.graph_walks.proofs.InPlace.{IsSeen, all_done, none_left, one_last, one_more, seen_here, seen_left}
 use Rattle.graph_walks.proofs.PlantLemmas.{grown_put, has_grown}
 use Rattle.graph_walks.proofs.Relabeling.{step_of, twig_of}
 
--- a list in which one is changed, in parts
-parts : {X : Type 0} (xs : List X) (i : ℕ) (y : X) → i < length xs
-    → set xs i y ≡ take i xs ++ y ∷ drop (i + 1) xs
-parts xs i y lt = set_split xs i y lt ∙ ap (λ n. take i xs ++ y ∷ drop n xs) (from_suc i)
-  where
-    from_suc : (n : ℕ) → suc n ≡ n + 1
-    from_suc n = omega arith
+-- none of the first i of the list has the output, and all others are still to be put there
+pub record IsPassed {X V : Type 0} (seen : List X → List V) (on : V → Bool)
+    (put : List Branch → V → V) (first now : List X) (others left : List Branch) (i : ℕ)
+    : Type 0 where
+  pub same : length now ≡ length first
+  pub kept : left ≡ others
+  pub found : list_any on (seen (drop i now)) ≡ list_any on (seen first)
+  pub done : seen (take i now) ++ put_first on (put others) (seen (drop i now))
+      ≡ put_first on (put others) (seen first)
 
--- ---- steps
+pub passed_none : {X V : Type 0} (seen : List X → List V) (one : X → V) → IsSeen seen one
+    → (on : V → Bool) (put : List Branch → V → V) (xs : List X) (others : List Branch)
+    → IsPassed seen on put xs xs others others 0
+passed_none seen one s on put xs others = record {
+  same = refl;
+  kept = refl;
+  found = refl;
+  done = ap (λ vs. vs ++ put_first on (put others) (seen xs)) s.none;
+}
 
-module _ (j : ℕ) (k : Bool) (g : Forest) (bs : List Branch) (i : ℕ) where
-  -- those without the output, and what becomes of those left
-  abbrev pub steps_far : List Branch
-  steps_far = take i bs ++ put_branches j k g (drop i bs)
+module _ {X V : Type 0} {on : V → Bool} {put : List Branch → V → V} {first now : List X}
+    {others left : List Branch} {i : ℕ} (seen : List X → List V) (one : X → V)
+    (s : IsSeen seen one) (p : IsPassed seen on put first now others left i) where
+  pub none_passed : length now ≤ i
+      → (false ≡ list_any on (seen first)) × (seen now ≡ put_first on (put others) (seen first))
+  none_passed past = (
+    sym (ap (list_any on) (none_left seen one s now i past)) ∙ p.found,
+    sym (all_done seen one s now i past (put_first on (put others)) refl) ∙ p.done,
+  )
 
-  module _ (b y : Branch) (lt : i < length bs) (is : b ≡ get_or bs i b)
-      (e : y ≡ put_branch j k g b) where
-    whole : steps_far ≡ take i bs ++ y ∷ cond (on_branch j b) (drop (i + 1) bs)
-        (put_branches j k g (drop (i + 1) bs))
-    whole =
-        ap (λ ls. take i bs ++ put_branches j k g ls) (left_here bs i b lt is)
-        ∙ ap (λ (z : Branch). take i bs ++ z ∷ cond (on_branch j b) (drop (i + 1) bs)
-        (put_branches j k g (drop (i + 1) bs))) (sym e)
+  module _ (x y : X) (found : Bool) (lt : i < length now) (is : x ≡ get_or now i x)
+      (f : found ≡ on (one x)) (e : one y ≡ put left (one x)) where
+    abbrev rest : List V
+    rest = seen (drop (i + 1) now)
 
-    pub steps_next : on_branch j b ≡ false
-        → take (i + 1) (set bs i y) ++ put_branches j k g (drop (i + 1) (set bs i y))
-        ≡ steps_far
-    steps_next off =
-        ap₂ (λ ds ls. ds ++ put_branches j k g ls) (set_done bs i y lt) (set_left bs i y)
-        ∙ append_assoc (take i bs) (y ∷ []) (put_branches j k g (drop (i + 1) bs))
-        ∙ ap (λ (x : Bool). take i bs ++ y ∷ cond x (drop (i + 1) bs)
-        (put_branches j k g (drop (i + 1) bs))) (sym off)
-        ∙ sym whole
+    -- what becomes of it and of those behind it
+    turned : (b : Bool) → found ≡ b → put_first on (put others) (one x ∷ rest)
+        ≡ one y ∷ cond b rest (put_first on (put others) rest)
+    turned b is_b =
+        ap₂ (λ (c : Bool) (v : V). v ∷ cond c rest (put_first on (put others) rest))
+        (sym f ∙ is_b) (sym (e ∙ ap (λ bs. put bs (one x)) p.kept))
 
-    pub steps_found : on_branch j b ≡ true → set bs i y ≡ steps_far
-    steps_found found =
-        parts bs i y lt
-        ∙ ap (λ (x : Bool). take i bs ++ y ∷ cond x (drop (i + 1) bs)
-        (put_branches j k g (drop (i + 1) bs))) (sym found)
-        ∙ sym whole
+    any_left : (b : Bool) → found ≡ b → (b || list_any on rest) ≡ list_any on (seen first)
+    any_left b is_b =
+        ap (λ (c : Bool). c || list_any on rest) (sym is_b ∙ f)
+        ∙ ap (list_any on) (sym (seen_here seen one s now i x y lt is)) ∙ p.found
 
-    pub none_next : on_branch j b ≡ false
-        → on_branches j (drop (i + 1) (set bs i y)) ≡ on_branches j (drop i bs)
-    none_next off =
-        ap (on_branches j) (set_left bs i y)
-        ∙ ap (λ (x : Bool). x || on_branches j (drop (i + 1) bs)) (sym off)
-        ∙ ap (on_branches j) (sym (left_here bs i b lt is))
+    pub passed_next : (after : List Branch) → found ≡ false → after ≡ left
+        → IsPassed seen on put first (set now i y) others after (i + 1)
+    passed_next after off stay = record {
+      same = length-set now i y ∙ p.same;
+      kept = stay ∙ p.kept;
+      found = ap (list_any on) (seen_left seen one s now i x y lt is) ∙ any_left false off;
+      done = one_more seen one s now i x y lt is (put_first on (put others))
+          (put_first on (put others)) (turned false off) ∙ p.done;
+    }
 
-    pub one_found : on_branch j b ≡ true → true ≡ on_branches j (drop i bs)
-    one_found found =
-        ap (λ (x : Bool). x || on_branches j (drop (i + 1) bs)) (sym found)
-        ∙ ap (on_branches j) (sym (left_here bs i b lt is))
-
-  pub steps_all : length bs ≤ i → steps_far ≡ bs
-  steps_all past =
-      ap₂ (λ ds ls. ds ++ put_branches j k g ls) (take_all i bs past) (drop_all i bs past)
-      ∙ append-nil bs
-
-  pub none_all : length bs ≤ i → on_branches j (drop i bs) ≡ false
-  none_all past = ap (on_branches j) (drop_all i bs past)
-
--- ---- outputs
-
-module _ (j : ℕ) (k : Bool) (g : Forest) (os : List Output) (i : ℕ) where
-  abbrev pub twigs_far : List Twig
-  twigs_far = map twig (take i os) ++ put_twigs j k g (map twig (drop i os))
-
-  module _ (o y : Output) (lt : i < length os) (is : o ≡ get_or os i o)
-      (e : twig y ≡ put_twig j k g (twig o)) where
-    abbrev rest : List Twig
-    rest = map twig (drop (i + 1) os)
-
-    here : map twig (drop i os) ≡ twig o ∷ rest
-    here = ap (λ ls. map twig ls) (left_here os i o lt is)
-
-    all : twigs_far ≡ map twig (take i os) ++ twig y ∷ cond (on_twig j (twig o)) rest
-        (put_twigs j k g rest)
-    all =
-        ap (λ ls. map twig (take i os) ++ put_twigs j k g ls) here
-        ∙ ap (λ (z : Twig). map twig (take i os) ++ z ∷ cond (on_twig j (twig o)) rest
-        (put_twigs j k g rest)) (sym e)
-
-    pub twigs_next : on_twig j (twig o) ≡ false
-        → map twig (take (i + 1) (set os i y))
-        ++ put_twigs j k g (map twig (drop (i + 1) (set os i y))) ≡ twigs_far
-    twigs_next off =
-        ap₂ (λ ds ls. map twig ds ++ put_twigs j k g (map twig ls)) (set_done os i y lt)
-        (set_left os i y)
-        ∙ ap (λ ds. ds ++ put_twigs j k g rest) (map-append twig (take i os) (y ∷ []))
-        ∙ append_assoc (map twig (take i os)) (twig y ∷ []) (put_twigs j k g rest)
-        ∙ ap (λ (x : Bool). map twig (take i os) ++ twig y ∷ cond x rest
-        (put_twigs j k g rest)) (sym off)
-        ∙ sym all
-
-    pub twigs_found : on_twig j (twig o) ≡ true → map twig (set os i y) ≡ twigs_far
-    twigs_found found =
-        ap (λ ls. map twig ls) (parts os i y lt)
-        ∙ map-append twig (take i os) (y ∷ drop (i + 1) os)
-        ∙ ap (λ (x : Bool). map twig (take i os) ++ twig y ∷ cond x rest
-        (put_twigs j k g rest)) (sym found)
-        ∙ sym all
-
-    pub no_next : on_twig j (twig o) ≡ false
-        → on_twigs j (map twig (drop (i + 1) (set os i y))) ≡ on_twigs j (map twig (drop i os))
-    no_next off =
-        ap (λ ls. on_twigs j (map twig ls)) (set_left os i y)
-        ∙ ap (λ (x : Bool). x || on_twigs j rest) (sym off)
-        ∙ ap (on_twigs j) (sym here)
-
-    pub on_found : on_twig j (twig o) ≡ true → true ≡ on_twigs j (map twig (drop i os))
-    on_found found =
-        ap (λ (x : Bool). x || on_twigs j rest) (sym found) ∙ ap (on_twigs j) (sym here)
-
-  pub twigs_all : length os ≤ i → twigs_far ≡ map twig os
-  twigs_all past =
-      ap₂ (λ ds ls. map twig ds ++ put_twigs j k g (map twig ls)) (take_all i os past)
-      (drop_all i os past) ∙ append-nil (map twig os)
-
-  pub no_all : length os ≤ i → on_twigs j (map twig (drop i os)) ≡ false
-  no_all past = ap (λ ls. on_twigs j (map twig ls)) (drop_all i os past)
+    pub passed_here : found ≡ true
+        → (true ≡ list_any on (seen first))
+        × (seen (set now i y) ≡ put_first on (put others) (seen first))
+    passed_here on_it = (
+      any_left true on_it,
+      one_last seen one s now i x y lt is (put_first on (put others)) (turned true on_it) ∙ p.done,
+    )
 
 -- ---- an output and a step, whose parts are done
 

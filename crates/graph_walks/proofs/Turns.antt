@@ -1,67 +1,57 @@
--- One turn more of the walks that number.
-use Rattle.std.proofs.Common.{◌≡◌, ℕ, ◌+◌, ◌<◌, List, [], ◌∷◌, ◌++◌, map, set, take, drop, length, get_or, sym, ap, ◌∙◌}
-use Rattle.std.proofs.lemmas.List.{map-append}
-use Rattle.graph_laws.specs.of_exec_graph.Forests.{Branch, Twig}
-use Rattle.graph_laws.specs.of_exec_graph.Twigs.{twig}
-use Rattle.graph_laws.specs.of_exec_graph.declared.step.Output.{Output}
-use Rattle.graph_walks.specs.inner.Numbering.{after_branch, after_twig, branch_outs, branches_outs, numbered_branch, numbered_branches, numbered_twig, numbered_twigs, twig_outs, twigs_outs}
-use Rattle.graph_walks.proofs.InPlace.{left_here, set_done, set_left}
-use Rattle.graph_walks.proofs.NumberLemmas.{branch_count, numbered_more, outs_more, twig_count}
+-- The walks that number: one turn more, and the end.
+use Rattle.std.proofs.Common.{◌≡◌, ◌≤◌, ◌<◌, ℕ, ◌+◌, List, [], ◌∷◌, ◌++◌, set, take, drop, length, get_or, refl, sym, ap, ap₂, ◌∙◌, append-nil, length-set}
+use Rattle.std.specs.List.{flat_map}
+use Rattle.graph_walks.specs.inner.Numbering.{numbered_all}
+use Rattle.graph_walks.proofs.InPlace.{IsSeen, all_done, none_left, one_more, seen_here, seen_left}
+use Rattle.graph_walks.proofs.NumberLemmas.{counted, outs_more}
 
-module _ (bs : List Branch) (i : ℕ) (b : Branch) (lt : i < length bs)
-    (is : b ≡ get_or bs i b) (y : Branch) where
-  pub steps_turn : (before after : List ℕ) (all : List Branch)
-      → y ≡ numbered_branch (length before) b → after ≡ before ++ branch_outs b
-      → take i bs ++ numbered_branches (length before) (drop i bs) ≡ all
-      → take (i + 1) (set bs i y)
-      ++ numbered_branches (length after) (drop (i + 1) (set bs i y)) ≡ all
-  steps_turn before after all e f done =
-      ap (λ l. take (i + 1) (set bs i y) ++ numbered_branches (length after) l)
-      (set_left bs i y)
-      ∙ numbered_more numbered_branch after_branch branch_outs branch_count (take i bs)
-      (take (i + 1) (set bs i y)) before after b (drop (i + 1) bs)
-      (set_done bs i y lt ∙ ap (λ (z : Branch). take i bs ++ z ∷ []) e) f
-      ∙ ap (λ l. take i bs ++ numbered_branches (length before) l) (sym (left_here bs i b lt is))
-      ∙ done
+-- the first i of the list have their numbers, and what these keep is noted
+pub record AreNumbered {X V : Type 0} (seen : List X → List V) (number : ℕ → V → V)
+    (behind : ℕ → V → ℕ) (outs_of : V → List ℕ) (first now : List X) (before noted : List ℕ)
+    (i : ℕ) : Type 0 where
+  pub same : length now ≡ length first
+  pub done : seen (take i now) ++ numbered_all number behind (length noted) (seen (drop i now))
+      ≡ numbered_all number behind (length before) (seen first)
+  pub outs : noted ++ flat_map outs_of (seen (drop i now))
+      ≡ before ++ flat_map outs_of (seen first)
 
-  pub outs_turn : (before after all : List ℕ) → after ≡ before ++ branch_outs b
-      → before ++ branches_outs (drop i bs) ≡ all
-      → after ++ branches_outs (drop (i + 1) (set bs i y)) ≡ all
-  outs_turn before after all f done =
-      ap (λ l. after ++ branches_outs l) (set_left bs i y)
-      ∙ outs_more branch_outs before after b (drop (i + 1) bs) f
-      ∙ ap (λ l. before ++ branches_outs l) (sym (left_here bs i b lt is))
-      ∙ done
+pub numbered_none : {X V : Type 0} (seen : List X → List V) (one : X → V) → IsSeen seen one
+    → (number : ℕ → V → V) (behind : ℕ → V → ℕ) (outs_of : V → List ℕ) (xs : List X)
+    (before : List ℕ) → AreNumbered seen number behind outs_of xs xs before before 0
+numbered_none seen one s number behind outs_of xs before = record {
+  same = refl;
+  done = ap (λ vs. vs ++ numbered_all number behind (length before) (seen xs)) s.none;
+  outs = refl;
+}
 
-module _ (os : List Output) (i : ℕ) (o : Output) (lt : i < length os)
-    (is : o ≡ get_or os i o) (y : Output) where
-  -- the outputs from a place on
-  here : map twig (drop i os) ≡ twig o ∷ map twig (drop (i + 1) os)
-  here = ap (λ l. map twig l) (left_here os i o lt is)
+module _ {X V : Type 0} {number : ℕ → V → V} {behind : ℕ → V → ℕ} {outs_of : V → List ℕ}
+    {first now : List X} {before noted : List ℕ} {i : ℕ} (seen : List X → List V)
+    (one : X → V) (s : IsSeen seen one)
+    (p : AreNumbered seen number behind outs_of first now before noted i)
+    (counts : (n : ℕ) (v : V) → behind n v ≡ n + length (outs_of v)) where
+  pub numbered_next : (x y : X) (after : List ℕ) → i < length now → x ≡ get_or now i x
+      → one y ≡ number (length noted) (one x) → after ≡ noted ++ outs_of (one x)
+      → AreNumbered seen number behind outs_of first (set now i y) before after (i + 1)
+  numbered_next x y after lt is e f =
+      let rest : List V = seen (drop (i + 1) now) in record {
+        same = length-set now i y ∙ p.same;
+        done = one_more seen one s now i x y lt is (numbered_all number behind (length noted))
+            (numbered_all number behind (length after))
+            (ap₂ (λ (v : V) (n : ℕ). v ∷ numbered_all number behind n rest) (sym e)
+            (sym (counted behind outs_of counts noted after (one x) f)))
+            ∙ p.done;
+        outs = ap (λ vs. after ++ flat_map outs_of vs) (seen_left seen one s now i x y lt is)
+            ∙ outs_more outs_of noted after (one x) rest f
+            ∙ ap (λ vs. noted ++ flat_map outs_of vs) (sym (seen_here seen one s now i x y lt is))
+            ∙ p.outs;
+      }
 
-  pub twigs_turn : (before after : List ℕ) (all : List Twig)
-      → twig y ≡ numbered_twig (length before) (twig o)
-      → after ≡ before ++ twig_outs (twig o)
-      → map twig (take i os) ++ numbered_twigs (length before) (map twig (drop i os))
-      ≡ all
-      → map twig (take (i + 1) (set os i y))
-      ++ numbered_twigs (length after) (map twig (drop (i + 1) (set os i y))) ≡ all
-  twigs_turn before after all e f done =
-      ap (λ l. map twig (take (i + 1) (set os i y))
-      ++ numbered_twigs (length after) (map twig l)) (set_left os i y)
-      ∙ numbered_more numbered_twig after_twig twig_outs twig_count (map twig (take i os))
-      (map twig (take (i + 1) (set os i y))) before after (twig o) (map twig (drop (i + 1) os))
-      (ap (λ l. map twig l) (set_done os i y lt) ∙ map-append twig (take i os) (y ∷ [])
-      ∙ ap (λ (z : Twig). map twig (take i os) ++ z ∷ []) e) f
-      ∙ ap (λ l. map twig (take i os) ++ numbered_twigs (length before) l) (sym here)
-      ∙ done
-
-  pub twig_outs_turn : (before after all : List ℕ)
-      → after ≡ before ++ twig_outs (twig o)
-      → before ++ twigs_outs (map twig (drop i os)) ≡ all
-      → after ++ twigs_outs (map twig (drop (i + 1) (set os i y))) ≡ all
-  twig_outs_turn before after all f done =
-      ap (λ l. after ++ twigs_outs (map twig l)) (set_left os i y)
-      ∙ outs_more twig_outs before after (twig o) (map twig (drop (i + 1) os)) f
-      ∙ ap (λ l. before ++ twigs_outs l) (sym here)
-      ∙ done
+  pub numbered_end : length now ≤ i
+      → (seen now ≡ numbered_all number behind (length before) (seen first))
+      × (noted ≡ before ++ flat_map outs_of (seen first))
+  numbered_end past = (
+    sym (all_done seen one s now i past (numbered_all number behind (length noted)) refl)
+        ∙ p.done,
+    sym (ap (λ vs. noted ++ flat_map outs_of vs) (none_left seen one s now i past)
+        ∙ append-nil noted) ∙ p.outs,
+  )

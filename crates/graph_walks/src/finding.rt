@@ -15,10 +15,16 @@ pub fn has_output(steps: &[Step], output: u32) -> bool
     on_steps(steps, output)
 }
 
+#[cycle(find)]
 fn on_steps(steps: &[Step], output: u32) -> bool
     ensures { result ≡ spec.on_branches output steps.now }
 {
-    steps.iter().any(|step| on_step(step, output))
+    for step in steps {
+        if on_step(step, output) {
+            return true;
+        }
+    }
+    false
 }
 
 #[cycle(find)]
@@ -50,12 +56,7 @@ fn on_output(one: &Output, output: u32) -> bool
     if is_out(one.number, output) {
         return true;
     }
-    for kid in &one.kids {
-        if on_step(kid, output) {
-            return true;
-        }
-    }
-    false
+    on_steps(one.kids.as_slice(), output)
 }
 
 /// Whether an output is kept, under that number.

@@ -19,6 +19,7 @@ pub trait Labels {
 }
 
 /// Gives the outputs of the steps these labels.
+#[cycle(relabel)]
 pub fn relabel<L: Labels>(by: &L, steps: &mut Vec<Step>) -> Result<(), AllocError>
     ensures { OnOk result
         (steps.new.items ≡ map (relabelled_branch (L.label_of by.now)) steps.old.items) }
@@ -55,9 +56,6 @@ fn relabel_output<L: Labels>(by: &L, output: &mut Output) -> Result<(), AllocErr
         ≡ relabelled_twig (L.label_of by.now) (twig output.old)) }
 {
     output.number = by.label(output.number)?;
-    let kids = &mut output.kids;
-    for i in 0..kids.len() {
-        relabel_step(by, &mut kids[i])?;
-    }
+    relabel(by, &mut output.kids)?;
     Ok(())
 }

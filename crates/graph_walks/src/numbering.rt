@@ -77,6 +77,7 @@ pub fn number_forest(alloc: Global, steps: &mut Vec<Step>) -> Result<Vec<u32>, A
     Ok(outs)
 }
 
+#[cycle(number)]
 fn number_steps(steps: &mut Vec<Step>, outs: &mut Vec<u32>) -> Result<(), AllocError>
     ensures steps { OnOk result (steps.new.items
         ≡ spec.numbered_branches (length outs.old.items) steps.old.items) }
@@ -121,10 +122,7 @@ fn number_output(output: &mut Output, outs: &mut Vec<u32>) -> Result<(), AllocEr
         (outs.new.items ≡ outs.old.items ++ spec.twig_outs (twig output.old)) }
 {
     output.number = next_number(output.number, outs)?;
-    let kids = &mut output.kids;
-    for i in 0..kids.len() {
-        number_step(&mut kids[i], outs)?;
-    }
+    number_steps(&mut output.kids, outs)?;
     Ok(())
 }
 

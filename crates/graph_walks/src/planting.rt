@@ -40,6 +40,7 @@ pub fn put_on(
 }
 
 /// Puts the others there, and tells whether there is one.
+#[cycle(put)]
 fn put_steps(
     steps: &mut Vec<Step>,
     output: u32,
@@ -116,13 +117,8 @@ fn put_output(
         one.kids.append(others)?;
         return Ok(true);
     }
-    let kids = &mut one.kids;
-    for i in 0..kids.len() {
-        if put_step(&mut kids[i], output, keep, others)? {
-            return Ok(true);
-        }
-    }
-    Ok(false)
+    let found = put_steps(&mut one.kids, output, keep, others)?;
+    Ok(found)
 }
 
 /// The label, if it is to be kept.

@@ -8,8 +8,8 @@ use Rattle.std.proofs.lemmas.List.{drop_all}
 use Rattle.written_types.specs.Named.{Named}
 use Rattle.script_program.specs.declared.made.Output.{Output}
 use Rattle.saved_meaning.proofs.of_direct_meaning.PlaceLemmas.{mapped}
+use Rattle.script_program.proofs.SourceSteps.{head_of}
 use Rattle.kept_results.specs.Asked.{name_read}
-use Rattle.kept_results.proofs.Steps.{front_of}
 
 module _ (outputs : Named Output) (number place : ℕ) (output : Output)
     (at : option_map (λ (entry : List ℕ × Output). entry.1) (slice_get outputs place)
@@ -21,7 +21,7 @@ module _ (outputs : Named Output) (number place : ℕ) (output : Output)
       let found =
       mapped (λ (entry : List ℕ × Output). entry.1) (slice_get outputs place) output at in
       let next : suc place ≡ place + 1 = omega arith in
-      ap (λ l. name_read l number) (front_of outputs place found.0 found.1)
+      ap (λ l. name_read l number) (head_of outputs place found.0 found.1)
       ∙ ap (λ (o : Output). if eqb o.reads number then Some o.name
       else name_read (drop (suc place) outputs) number) found.2
       ∙ (λ i. if is i then Some output.name else name_read (drop (next i) outputs) number)

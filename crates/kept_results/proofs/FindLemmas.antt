@@ -11,7 +11,7 @@ use Rattle.saved_results.specs.Saved.{saved_value}
 use Rattle.saved_results.specs.declared.saved.Saved.{Saved}
 use Rattle.outside.specs.Cause.{Rose}
 use Rattle.script_program.specs.Script.{Script}
-use Rattle.value_reading.specs.Written.{IsWritten}
+use Rattle.value_reading.specs.Written.{IsCanonical}
 use Rattle.saved_meaning.proofs.of_direct_meaning.PlaceLemmas.{zip_more}
 use Rattle.saved_meaning.specs.Found.{chosen}
 use Rattle.kept_results.specs.Kept.{AreFound, AreKept, Finds, FindsEach, IsFound, IsKeptOf}
@@ -21,10 +21,10 @@ use Rattle.kept_results.proofs.SameLemmas.{saved_same}
 
 module _ (script : Script) (number : ℕ) (bytes : List ℕ) where
   -- what they keep may not be kept
-  pub not_kept : ((v w : Value) (bytes : List ℕ) → IsWritten v bytes → IsWritten w bytes → v ≡ w)
-      → (saved : Saved) (is : Bool) → IsWritten (saved_value saved) bytes
+  pub not_kept : ((v w : Value) (bytes : List ℕ) → IsCanonical v bytes → IsCanonical w bytes
+      → v ≡ w) → (saved : Saved) (is : Bool) → IsCanonical (saved_value saved) bytes
       → (IsTrue is ↔ IsKeptOf script number saved) → is ≡ false → (other : Saved)
-      → IsWritten (saved_value other) bytes → IsKeptOf script number other → ⊥
+      → IsCanonical (saved_value other) bytes → IsKeptOf script number other → ⊥
   not_kept once saved is written tells no_ other own kept =
       let same =
       saved_same saved other (once (saved_value saved) (saved_value other) bytes written own) in

@@ -1,5 +1,5 @@
 -- One collection more, of those that a test picks, and what is told of each.
-use Rattle.std.proofs.Common.{◌≡◌, ℕ, zero, suc, ◌+◌, ◌<◌, ◌≤◌, Bool, true, false, cond, List, []}
+use Rattle.std.proofs.Common.{◌≡◌, ℕ, suc, ◌+◌, ◌<◌, ◌≤◌, Bool, true, false, cond, List, []}
 use Rattle.std.proofs.Common.{◌∷◌, ◌++◌, length, map, drop, get_or, Some, slice_get, refl, sym, ap}
 use Rattle.std.proofs.Common.{◌∙◌, arith, append_assoc, append-nil}
 use Rattle.std.specs.Prelude.{if◌then◌else◌}
@@ -7,21 +7,10 @@ use Rattle.std.specs.List.{filter, flat_map}
 use Rattle.std.proofs.lemmas.List.{drop_all, get_or_read}
 use Rattle.written_types.specs.Named.{Named}
 use Rattle.script_program.specs.declared.made.Output.{Output}
+use Rattle.script_program.proofs.SourceSteps.{found_below, head_of}
 use Rattle.script_program.specs.Needed.{numbered}
 use Rattle.script_program.specs.Script.{Node, Script}
 use Rattle.kept_results.specs.Asked.{asked_as, asked_nodes, name_read}
-
-entry_below : {A : Type 0} (xs : List A) (i : ℕ) → i < length xs
-    → (x : A) × (slice_get xs i ≡ Some x)
-entry_below [] i h = absurd (omega arith)
-entry_below (x ∷ xs) zero h = (x, refl)
-entry_below (x ∷ xs) (suc i) h = entry_below xs i (omega arith)
-
-pub front_of : {A : Type 0} (xs : List A) (i : ℕ) (x : A) → slice_get xs i ≡ Some x
-    → drop i xs ≡ x ∷ drop (suc i) xs
-front_of [] i x h = cc
-front_of (y ∷ xs) zero x h = ap (λ (z : _). z ∷ xs) cc
-front_of (y ∷ xs) (suc i) x h = front_of xs i x h
 
 -- what is told from a number on, where one more is told
 one_more : {X : Type 0} (nodes : Named Node) (told : ℕ → Named Node → List X)
@@ -38,16 +27,16 @@ one_more nodes told old new own whole number step pushed h =
     ∙ ap (λ l. old ++ l) (sym step)
     ∙ h
 
--- ---- by a flag
+-- nothing is left behind the last
+all_done : {X : Type 0} (nodes : Named Node) (told : ℕ → Named Node → List X)
+    (done whole : List X) (number : ℕ) → told number [] ≡ [] → length nodes ≤ number
+    → done ++ told number (drop number nodes) ≡ whole → done ≡ whole
+all_done nodes told done whole number none end h =
+    sym (append-nil done)
+    ∙ ap (λ l. done ++ l) (sym (ap (told number) (drop_all number nodes end) ∙ none))
+    ∙ h
 
--- a flag that is read is what the flags tell
-pub flag_read : (flags : List Bool) (i : ℕ) (flag told : Bool) → i < length flags
-    → flag ≡ get_or flags i flag → get_or flags i false ≡ told → flag ≡ told
-flag_read flags i flag told within is tells = get_or_read flags i flag within is false ∙ tells
-
-pub pushed_by : {X : Type 0} (old new own : List X) (flag told : Bool) → flag ≡ told
-    → new ≡ old ++ (if flag then own else []) → new ≡ old ++ (if told then own else [])
-pushed_by old new own flag told same is = is ∙ ap (λ b. old ++ (if b then own else [])) same
+-- ---- one of each
 
 map_if : {A B : Type 0} (f : A → B) (b : Bool) (x : A) (xs : List A)
     → map f (cond b (x ∷ xs) xs) ≡ (if b then f x ∷ [] else []) ++ map f xs
@@ -58,26 +47,39 @@ module _ {X : Type 0} (nodes : Named Node) (p : ℕ → Bool) (f : ℕ × (List 
   abbrev pub told_from : ℕ → Named Node → List X
   told_from number rest = map f (filter (λ it. p it.0) (numbered number rest))
 
-  pub told_next : (old new whole : List X) (number : ℕ) → number < length nodes
+  pub told_next : (old new whole : List X) (number : ℕ) (flag : Bool) → number < length nodes
+      → flag ≡ p number
       → ((entry : List ℕ × Node) → slice_get nodes number ≡ Some entry
-      → new ≡ old ++ (if p number then f (number, entry) ∷ [] else []))
+      → new ≡ old ++ (if flag then f (number, entry) ∷ [] else []))
       → old ++ told_from number (drop number nodes) ≡ whole
       → new ++ told_from (number + 1) (drop (number + 1) nodes) ≡ whole
-  told_next old new whole number below pushed h =
-      let (entry, found) = entry_below nodes number below in
+  told_next old new whole number flag below same pushed h =
+      let (entry, found) = found_below nodes number below in
       one_more nodes told_from old new (if p number then f (number, entry) ∷ [] else []) whole
       number
-      (ap (told_from number) (front_of nodes number entry found)
+      (ap (told_from number) (head_of nodes number entry found)
       ∙ map_if f (p number) (number, entry)
       (filter (λ it. p it.0) (numbered (suc number) (drop (suc number) nodes))))
-      (pushed entry found) h
+      (pushed entry found
+      ∙ ap (λ b. old ++ (if b then f (number, entry) ∷ [] else [])) same) h
+
+  -- a flag tells whether one is told
+  pub flagged_next : (flags : List Bool) (old new whole : List X) (number : ℕ) (flag : Bool)
+      → number < length nodes → length flags ≡ length nodes
+      → ((n : ℕ) → n < length flags → get_or flags n false ≡ p n)
+      → flag ≡ get_or flags number flag
+      → ((entry : List ℕ × Node) → slice_get nodes number ≡ Some entry
+      → new ≡ old ++ (if flag then f (number, entry) ∷ [] else []))
+      → old ++ told_from number (drop number nodes) ≡ whole
+      → new ++ told_from (number + 1) (drop (number + 1) nodes) ≡ whole
+  flagged_next flags old new whole number flag below many told is =
+      let within : number < length flags = omega (arith, below, many) in
+      told_next old new whole number flag below
+      (get_or_read flags number flag within is false ∙ told number within)
 
   pub told_all : (done whole : List X) (number : ℕ) → length nodes ≤ number
       → done ++ told_from number (drop number nodes) ≡ whole → done ≡ whole
-  told_all done whole number end h =
-      sym (append-nil done)
-      ∙ ap (λ l. done ++ told_from number l) (sym (drop_all number nodes end))
-      ∙ h
+  told_all done whole number = all_done nodes told_from done whole number refl
 
 -- ---- several of each
 
@@ -97,19 +99,16 @@ module _ {X : Type 0} (nodes : Named Node) (p : ℕ → Bool)
       → old ++ gathered_from number (drop number nodes) ≡ whole
       → new ++ gathered_from (number + 1) (drop (number + 1) nodes) ≡ whole
   gathered_next old new whole number below pushed h =
-      let (entry, found) = entry_below nodes number below in
+      let (entry, found) = found_below nodes number below in
       one_more nodes gathered_from old new (if p number then g (number, entry) else []) whole number
-      (ap (gathered_from number) (front_of nodes number entry found)
+      (ap (gathered_from number) (head_of nodes number entry found)
       ∙ flat_if g (p number) (number, entry)
       (filter (λ it. p it.0) (numbered (suc number) (drop (suc number) nodes))))
       (pushed entry found) h
 
   pub gathered_all : (done whole : List X) (number : ℕ) → length nodes ≤ number
       → done ++ gathered_from number (drop number nodes) ≡ whole → done ≡ whole
-  gathered_all done whole number end h =
-      sym (append-nil done)
-      ∙ ap (λ l. done ++ gathered_from number l) (sym (drop_all number nodes end))
-      ∙ h
+  gathered_all done whole number = all_done nodes gathered_from done whole number refl
 
 -- ---- what is asked for
 
@@ -124,17 +123,14 @@ pub asked_next : (script : Script) (old new : List (ℕ × List ℕ)) (number : 
     → new ++ asked_from script.outputs (number + 1) (drop (number + 1) script.nodes)
     ≡ asked_nodes script
 asked_next script old new number below pushed h =
-    let (entry, found) = entry_below script.nodes number below in
+    let (entry, found) = found_below script.nodes number below in
     one_more script.nodes (asked_from script.outputs) old new
     (asked_as number (name_read script.outputs number)) (asked_nodes script) number
-    (ap (asked_from script.outputs number) (front_of script.nodes number entry found)) pushed h
+    (ap (asked_from script.outputs number) (head_of script.nodes number entry found)) pushed h
 
 pub asked_all : (script : Script) (done : List (ℕ × List ℕ)) (number : ℕ)
     → length script.nodes ≤ number
     → done ++ asked_from script.outputs number (drop number script.nodes) ≡ asked_nodes script
     → done ≡ asked_nodes script
-asked_all script done number end h =
-    sym (append-nil done)
-    ∙ ap (λ l. done ++ asked_from script.outputs number l)
-    (sym (drop_all number script.nodes end))
-    ∙ h
+asked_all script done number =
+    all_done script.nodes (asked_from script.outputs) done (asked_nodes script) number refl

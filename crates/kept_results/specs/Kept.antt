@@ -12,7 +12,7 @@ use Rattle.saved_results.specs.declared.saved.Saved.{Saved}
 use Rattle.script_program.specs.Kinds.{gives_object}
 use Rattle.script_program.specs.Rested.{rested_names}
 use Rattle.script_program.specs.Script.{Node, Script}
-use Rattle.value_reading.specs.Written.{IsWritten}
+use Rattle.value_reading.specs.Written.{IsCanonical}
 
 -- these have the collection's type and ascend, and of an object there is just one
 pub record AreMembersOf (node : Node) (members : List Value) : Type 0 where
@@ -33,7 +33,7 @@ pub record IsKeptOf (script : Script) (number : ℕ) (saved : Saved) : Type 0 wh
 -- number
 abbrev pub IsFound : Script → ℕ → List ℕ → List CacheEntry → Saved → Type 0
 IsFound script number key entries saved =
-    (bytes : List ℕ) × (found_in entries key ≡ Some bytes) × IsWritten (saved_value saved) bytes
+    (bytes : List ℕ) × (found_in entries key ≡ Some bytes) × IsCanonical (saved_value saved) bytes
     × IsKeptOf script number saved
 
 -- just what may be kept is found: nothing else is, and it is where it stands under this key

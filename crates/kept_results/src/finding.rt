@@ -4,7 +4,7 @@ ghost use Rattle.kept_results.specs.Kept.{AreFound, AreKept, Finds, FindsEach, I
 ghost use Rattle.outside.specs.Cause.{Rose};
 ghost use Rattle.saved_results.specs.Saved.{saved_value};
 ghost use Rattle.saved_results.specs.declared.saved.Saved.{Saved as Kept};
-ghost use Rattle.value_reading.specs.Written.{IsWritten};
+ghost use Rattle.value_reading.specs.Written.{IsCanonical};
 
 use crate::fitting::is_kept_of;
 use cache_store::{Cache, FindFault};
@@ -96,9 +96,9 @@ fn kept_in(
 ) -> Result<Option<Saved>, AllocError>
     requires { number < length program.now.script.nodes }
     ensures some { IfOk result (λ found. IfSome found (λ saved.
-        IsWritten (saved_value saved) bytes.now × IsKeptOf program.now.script number saved)) }
+        IsCanonical (saved_value saved) bytes.now × IsKeptOf program.now.script number saved)) }
     ensures none { IfOk result (λ found. IfNone found ((saved : Kept) →
-        IsWritten (saved_value saved) bytes.now → IsKeptOf program.now.script number saved → ⊥)) }
+        IsCanonical (saved_value saved) bytes.now → IsKeptOf program.now.script number saved → ⊥)) }
 {
     reading_law();
     let Some(saved) = read_saved(alloc, bytes)? else {

@@ -22,7 +22,7 @@ use Rattle.key_meaning.proofs.Forms.{SameForm, function_, input_, let_, output_,
 use Rattle.key_meaning.proofs.Keeping.{Grown, alike_fewer, each_itself, each_more, has_left, has_right, input_grown, let_grown, type_grown}
 use Rattle.key_meaning.proofs.Functions.{function_grown}
 use Rattle.key_meaning.proofs.Lists.{along}
-use Rattle.key_meaning.proofs.Skipping.{Adds, is_type, left_alike, right_alike, rule_adds}
+use Rattle.key_meaning.proofs.Skipping.{Adds, is_type, keeps_all, keeps_others, rule_adds, still_alike}
 use Rattle.key_meaning.proofs.Standing.{or-later}
 use Rattle.key_meaning.proofs.Turning.{turning_grown, with_lets}
 
@@ -221,9 +221,10 @@ module _ (SameFile : List ℕ → Type 0) (name : List ℕ) where
       let unnamed = away_named (rested ss) (is_to_come ss) it away in
       go_on others pairs (with_statement next.part) r
       (left_counted (rested ss) pairs next.part r
-      (left_alike SameFile (rested ss) pairs s r next.part
+      (still_alike SameFile (rested ss) pairs s r next.part r
+      (keeps_others (rested ss) first.form s next.part unnamed adds) (keeps_all (rested ss) r)
       (subst (λ ns. IsAlike SameFile ns pairs s r)
-      (away_names (rested ss) (is_to_come ss) it away) alike) first.form unnamed adds))
+      (away_names (rested ss) (is_to_come ss) it away) alike)))
       (rises_more (length next.part.nodes) (length r.nodes) rises
       (longer first.form s next.part adds) (omega arith))
       (λ is. adds.types (type_away (rested ss) (is_to_come ss) first.form away is)
@@ -238,7 +239,8 @@ module _ (SameFile : List ℕ → Type 0) (name : List ℕ) where
       ∙ away_named (rested rs) (is_to_come rs) it away in
       go_on others pairs s (with_statement next.part)
       (right_counted (rested ss) pairs s next.part
-      (right_alike SameFile (rested ss) pairs s r next.part alike first.form unnamed adds))
+      (still_alike SameFile (rested ss) pairs s r s next.part (keeps_all (rested ss) s)
+      (keeps_others (rested ss) first.form r next.part unnamed adds) alike))
       (rises_more (length s.nodes) (length next.part.nodes) rises (omega arith)
       (longer first.form r next.part adds))
       (λ is. types is

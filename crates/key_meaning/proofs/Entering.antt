@@ -13,10 +13,11 @@ use Rattle.direct_meaning.specs.of_script_rules.Rules as spec
 use Rattle.direct_meaning.proofs.of_script_rules.StateLemmas.{nodes-hidden}
 use Rattle.direct_meaning.proofs.of_script_rules.FoundLemmas.{own}
 use Rattle.direct_meaning.specs.of_script_laws.Fitting.{AreInPlace, IsInPlace}
+use Rattle.direct_meaning.proofs.of_script_laws.RepeatLemmas.{functions-hidden}
 use Rattle.key_meaning.proofs.Adding.{Placed}
 use Rattle.key_meaning.proofs.Alike.{FunctionsMeet, IsAlike, MadeAlike, MakingAlike, Meet, NodeAlike, Paired, Pairs, flatten, number_for, place_of, stands, whole}
 use Rattle.key_meaning.proofs.Finding.{OperandAlike}
-use Rattle.key_meaning.proofs.Repeating.{functions_hidden, names_hidden}
+use Rattle.key_meaning.proofs.Repeating.{names_hidden}
 use Rattle.key_meaning.proofs.Standing.{hidden, none_given, stands_more}
 
 -- ---- what enters
@@ -46,9 +47,9 @@ module _ (SameFile : List ℕ → Type 0) (names : Names) (pairs : Pairs) (s r :
         (alike.collections name is));
     functions = λ name is.
         subst (λ fs. FunctionsMeet (find name (with_hidden own_ s).functions) (find name fs))
-        (sym (functions_hidden own_ r))
+        (sym (functions-hidden own_ r))
         (subst (λ fs. FunctionsMeet (find name fs) (find name r.functions))
-        (sym (functions_hidden own_ s)) (alike.functions name is));
+        (sym (functions-hidden own_ s)) (alike.functions name is));
     paired = λ a b among.
         subst (λ ns. NodeAlike SameFile pairs (with_hidden own_ s).functions
         (with_hidden own_ r).functions (with_hidden own_ s).nodes ns a b)
@@ -56,9 +57,9 @@ module _ (SameFile : List ℕ → Type 0) (names : Names) (pairs : Pairs) (s r :
         (subst (λ ns. NodeAlike SameFile pairs (with_hidden own_ s).functions
         (with_hidden own_ r).functions ns r.nodes a b) (sym (nodes-hidden own_ s))
         (subst (λ fs. NodeAlike SameFile pairs (with_hidden own_ s).functions fs s.nodes r.nodes
-        a b) (sym (functions_hidden own_ r))
+        a b) (sym (functions-hidden own_ r))
         (subst (λ fs. NodeAlike SameFile pairs fs r.functions s.nodes r.nodes a b)
-        (sym (functions_hidden own_ s)) (alike.paired a b among))));
+        (sym (functions-hidden own_ s)) (alike.paired a b among))));
   }
 
 module _ (SameFile : List ℕ → Type 0) (pairs : Pairs) (functions others : Named Function) where

@@ -1,5 +1,5 @@
 -- Lists of collections that are alike, one by one.
-use Rattle.std.proofs.Common.{◌≡◌, ℕ, zero, suc, ◌+◌, ◌<◌, List, [], ◌∷◌, ◌++◌, length, Some, slice_get, refl, sym, ap, ◌∙◌, subst, arith, ⊎_elim}
+use Rattle.std.proofs.Common.{◌≡◌, ℕ, zero, suc, ◌+◌, ◌<◌, List, [], ◌∷◌, ◌++◌, length, Option, Some, slice_get, refl, sym, ap, ◌∙◌, subst, arith, ⊎_elim}
 use Rattle.std.specs.Prelude.{⊤}
 use Rattle.std.proofs.lemmas.List.Elements.{Contains-append_cases}
 use Rattle.written_types.specs.Named.{Named}
@@ -19,47 +19,37 @@ module _ (SameFile : List ℕ → Type 0) (pairs : Pairs) (functions others : Na
       EntryAlike SameFile pairs functions others a b entry other
       × EntriesAlike (suc a) (suc b) nodes rest
 
-  pub record EntryAt (a b : ℕ) (nodes rest : Named Node) (i : ℕ) : Type 0 where
+  -- those of two places
+  pub record EntryAt (a b : ℕ) (o p : Option (List ℕ × Node)) : Type 0 where
     pub entry : List ℕ × Node
     pub other : List ℕ × Node
-    pub here : slice_get nodes i ≡ Some entry
-    pub there : slice_get rest i ≡ Some other
-    pub alike : EntryAlike SameFile pairs functions others (a + i) (b + i) entry other
+    pub here : o ≡ Some entry
+    pub there : p ≡ Some other
+    pub alike : EntryAlike SameFile pairs functions others a b entry other
+
+  -- under the same numbers
+  moved : (a b c d : ℕ) (o p : Option (List ℕ × Node)) → a ≡ c → b ≡ d → EntryAt a b o p
+      → EntryAt c d o p
+  moved a b c d o p here there_ it =
+      subst (λ (at : ℕ × ℕ). EntryAt at.0 at.1 o p) (λ i. (here i, there_ i)) it
 
   pub entry_at : (a b : ℕ) (nodes rest : Named Node) → EntriesAlike a b nodes rest → (i : ℕ)
-      → i < length nodes → EntryAt a b nodes rest i
+      → i < length nodes → EntryAt (a + i) (b + i) (slice_get nodes i) (slice_get rest i)
   entry_at a b [] [] alike i below = absurd (omega arith)
   entry_at a b [] (other ∷ rest) alike i below = absurd alike
   entry_at a b (entry ∷ nodes) [] alike i below = absurd alike
   entry_at a b (entry ∷ nodes) (other ∷ rest) alike zero below =
-      let here : a ≡ a + 0 = omega arith in
-      let there_ : b ≡ b + 0 = omega arith in
-      record {
+      moved a b (a + 0) (b + 0) (Some entry) (Some other) (omega arith) (omega arith) (record {
         entry = entry;
         other = other;
         here = refl;
         there = refl;
-        alike =
-            subst (λ n. EntryAlike SameFile pairs functions others n (b + 0) entry other) here
-            (subst (λ n. EntryAlike SameFile pairs functions others a n entry other) there_
-            alike.0);
-      }
+        alike = alike.0;
+      })
   entry_at a b (entry ∷ nodes) (other ∷ rest) alike (suc i) below =
-      let here : suc a + i ≡ a + suc i = omega arith in
-      let there_ : suc b + i ≡ b + suc i = omega arith in
-      let it = entry_at (suc a) (suc b) nodes rest alike.1 i (omega arith) in
-      record {
-        entry = it.entry;
-        other = it.other;
-        here = it.here;
-        there = it.there;
-        alike =
-            subst
-            (λ n. EntryAlike SameFile pairs functions others n (b + suc i) it.entry it.other) here
-            (subst
-            (λ n. EntryAlike SameFile pairs functions others (suc a + i) n it.entry it.other)
-            there_ it.alike);
-      }
+      moved (suc a + i) (suc b + i) (a + suc i) (b + suc i) (slice_get nodes i) (slice_get rest i)
+      (omega arith) (omega arith)
+      (entry_at (suc a) (suc b) nodes rest alike.1 i (omega arith))
 
   pub entries_long : (a b : ℕ) (nodes rest : Named Node) → EntriesAlike a b nodes rest
       → length nodes ≡ length rest
@@ -108,7 +98,10 @@ module _ (SameFile : List ℕ → Type 0) (pairs : Pairs) (functions others : Na
       })
       (λ (new : Paired (along (length nodes) (length rest) (length more)) a b).
       let at = along_from (length nodes) (length rest) (length more) a b new in
-      let it = entry_at (length nodes) (length rest) more others_more alike at.place at.below in
+      let it =
+      moved (length nodes + at.place) (length rest + at.place) a b (slice_get more at.place)
+      (slice_get others_more at.place) (sym at.here) (sym at.there)
+      (entry_at (length nodes) (length rest) more others_more alike at.place at.below) in
       record {
         entry = it.entry;
         other = it.other;
@@ -117,13 +110,7 @@ module _ (SameFile : List ℕ → Type 0) (pairs : Pairs) (functions others : Na
         there =
             ap (slice_get (rest ++ others_more)) at.there
             ∙ behind-is rest others_more at.place ∙ it.there;
-        alike =
-            subst (λ n. EntryAlike SameFile pairs functions others n b it.entry it.other)
-            (sym at.here)
-            (subst
-            (λ n. EntryAlike SameFile pairs functions others (length nodes + at.place) n it.entry
-            it.other)
-            (sym at.there) it.alike);
+        alike = it.alike;
       })
       (Contains-append_cases front (along (length nodes) (length rest) (length more)) (a, b)
       among)

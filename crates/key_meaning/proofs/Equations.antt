@@ -17,7 +17,7 @@ use Rattle.direct_meaning.specs.Direct.{collections, inputs_behind, made_as, mad
 use Rattle.direct_meaning.specs.Inputs.{Wanted, wanted_by}
 use Rattle.key_meaning.proofs.Ways.{Table}
 use Rattle.key_meaning.proofs.Sources.{ArePlain, IsPlain, rows_behind}
-use Rattle.key_meaning.specs.Keyed.{AllHaveRowsIn, HasRows}
+use Rattle.key_meaning.specs.Keyed.{AllHaveRowsIn, FilesHaveRows}
 
 abbrev pub Lists : Type 0
 Lists = List (List Value)
@@ -27,7 +27,7 @@ pub record IsFrom (files : List File) (wanted : Wanted) (left : Lists) : Type 0 
   pub rows : List Value
   pub rest : Lists
   pub is : left ≡ rows ∷ rest
-  pub has : HasRows files wanted rows
+  pub has : FilesHaveRows files wanted rows
 
 module _ (script : Script) (files : List File) where
   -- what the nodes from a number on want

@@ -1,6 +1,6 @@
 -- Collections with one key have one name, and stand behind statements that are the same side by
 -- side.
-use Rattle.std.proofs.Common.{◌≡◌, ℕ, suc, Bool, true, false, List, [], ◌∷◌, ◌++◌, length, map, codes, if◌then◌else◌, Some, slice_get, unwrap_or, refl, sym, ap, ◌∙◌, arith, append_assoc, length-append}
+use Rattle.std.proofs.Common.{◌≡◌, ℕ, suc, Bool, true, false, List, [], ◌∷◌, ◌++◌, drop, get_or, length, map, codes, if◌then◌else◌, Some, slice_get, unwrap_or, refl, sym, ap, ◌∙◌, arith, append_assoc, length-append}
 use Rattle.std.specs.List.{AllByRecursion as Each, flat_map}
 use Rattle.std.specs.Str.{bytes_eq}
 use Rattle.flume_value.proofs.ByteLemmas.{split_alike}
@@ -20,7 +20,7 @@ use Rattle.statement_law.specs.Outlined.{outlines_of}
 use Rattle.key_meaning.proofs.Aligning.{Aligned, HasSameFile, ended, is_kept, kept, left, right_}
 use Rattle.key_meaning.proofs.Forms.{SameForm, function_, input_, let_, output_, repeat_, same_form, type_}
 use Rattle.key_meaning.proofs.Pieces.{flat_push, same_pieces}
-use Rattle.key_meaning.specs.Keyed.{IsShort}
+use Rattle.key_meaning.specs.Keyed.{HasKeyLength}
 
 -- ---- what parts of a key are, as bytes
 
@@ -50,17 +50,17 @@ key_pieces files parts name =
 
 -- ---- what is short
 
-no_bytes : IsShort []
+no_bytes : HasKeyLength []
 no_bytes = omega arith
 
-file_short : (files : List File) → Each (λ (file : File). IsShort file.bytes) files
-    → (name : List ℕ) → IsShort (unwrap_or (bytes_of files name) [])
+file_short : (files : List File) → Each (λ (file : File). HasKeyLength file.bytes) files
+    → (name : List ℕ) → HasKeyLength (unwrap_or (bytes_of files name) [])
 file_short [] short name = no_bytes
 file_short (file ∷ files) short name =
     by (file_short files short.1 name) (bytes_eq file.name name)
   where
-    by : IsShort (unwrap_or (bytes_of files name) []) → (b : Bool)
-        → IsShort
+    by : HasKeyLength (unwrap_or (bytes_of files name) []) → (b : Bool)
+        → HasKeyLength
         (unwrap_or (if b then Some file.bytes else bytes_of files name) [])
     by later true = short.0
     by later false = later
@@ -70,11 +70,11 @@ each_append : (P : List ℕ → Type 0) (xs ys : List (List ℕ)) → Each P xs 
 each_append P [] ys here there = there
 each_append P (x ∷ xs) ys here there = (here.0, each_append P xs ys here.1 there)
 
-module _ (files : List File) (short : Each (λ (file : File). IsShort file.bytes) files)
+module _ (files : List File) (short : Each (λ (file : File). HasKeyLength file.bytes) files)
     (name : List ℕ) where
-  parts_short : (it : Outline) (text : List ℕ) (rest : List KeyPart) → IsShort text
-      → Each IsShort (map (content files) rest)
-      → Each IsShort (map (content files) (parts_of it text ++ rest))
+  parts_short : (it : Outline) (text : List ℕ) (rest : List KeyPart) → HasKeyLength text
+      → Each HasKeyLength (map (content files) rest)
+      → Each HasKeyLength (map (content files) (parts_of it text ++ rest))
   parts_short (outline.Input own file) text rest here others =
       (here, (file_short files short file, others))
   parts_short outline.Type text rest here others = (here, others)
@@ -82,15 +82,15 @@ module _ (files : List File) (short : Each (λ (file : File). IsShort file.bytes
   parts_short (outline.Let own reads calls) text rest here others = (here, others)
   parts_short outline.Output text rest here others = (here, others)
 
-  contents_short : (outlines : List Outline) (texts : List (List ℕ)) → Each IsShort texts
-      → Each IsShort (contents files name outlines texts)
+  contents_short : (outlines : List Outline) (texts : List (List ℕ)) → Each HasKeyLength texts
+      → Each HasKeyLength (contents files name outlines texts)
   contents_short [] texts here = tt
   contents_short (it ∷ others) [] here = tt
   contents_short (it ∷ others) (text ∷ texts) here =
       by (contents_short others texts here.1) (belongs name others it)
     where
-      by : Each IsShort (contents files name others texts) → (b : Bool)
-          → Each IsShort
+      by : Each HasKeyLength (contents files name others texts) → (b : Bool)
+          → Each HasKeyLength
           (map (content files)
           ((if b then parts_of it text else []) ++ parts_from name others texts))
       by later true = parts_short it text (parts_from name others texts) here.0 later
@@ -105,14 +105,6 @@ Tells ss ts rs us =
     → slice_get ss j ≡ Some s → slice_get us k ≡ Some text → slice_get rs k ≡ Some r
     → statement_lineless s ≡ statement_lineless r
 
-abbrev first_of : List (List ℕ) → List ℕ
-first_of [] = []
-first_of (x ∷ xs) = x
-
-abbrev rest_of : List (List ℕ) → List (List ℕ)
-rest_of [] = []
-rest_of (x ∷ xs) = xs
-
 -- a file has the same bytes among both, or none
 abbrev pub SameBytes : List File → List File → List ℕ → Type 0
 SameBytes files others file =
@@ -123,7 +115,7 @@ module _ (files others : List File) (name : List ℕ) where
   SameFile = SameBytes files others
 
   first_text : (all : List File) (it : Outline) (text : List ℕ) (rest : List KeyPart)
-      → first_of (map (content all) (parts_of it text ++ rest) ++ name ∷ []) ≡ text
+      → get_or (map (content all) (parts_of it text ++ rest) ++ name ∷ []) 0 [] ≡ text
   first_text all (outline.Input own file) text rest = refl
   first_text all outline.Type text rest = refl
   first_text all (outline.Function own) text rest = refl
@@ -152,13 +144,13 @@ module _ (files others : List File) (name : List ℕ) where
       ≡ map (content others) (parts_of (outline_of g) u ++ more) ++ name ∷ []
       → HasSameFile SameFile f
       × (map (content files) rest ++ name ∷ [] ≡ map (content others) more ++ name ∷ [])
-  same_parts type_ t u rest more e = (tt, ap rest_of e)
+  same_parts type_ t u rest more e = (tt, ap (drop 1) e)
   same_parts input_ t u rest more e =
-      (ap (λ l. first_of (rest_of l)) e, ap (λ l. rest_of (rest_of l)) e)
-  same_parts (function_ same) t u rest more e = (tt, ap rest_of e)
-  same_parts let_ t u rest more e = (tt, ap rest_of e)
-  same_parts (repeat_ same) t u rest more e = (tt, ap rest_of e)
-  same_parts output_ t u rest more e = (tt, ap rest_of e)
+      (ap (λ l. get_or l 1 []) e, ap (drop 2) e)
+  same_parts (function_ same) t u rest more e = (tt, ap (drop 1) e)
+  same_parts let_ t u rest more e = (tt, ap (drop 1) e)
+  same_parts (repeat_ same) t u rest more e = (tt, ap (drop 1) e)
+  same_parts output_ t u rest more e = (tt, ap (drop 1) e)
 
   abbrev left_parts : List Statement → List (List ℕ) → List (List ℕ)
   left_parts ss ts = contents files name (outlines_of ss) ts ++ name ∷ []
@@ -222,7 +214,7 @@ module _ (files others : List File) (name : List ℕ) where
             let more = parts_from name (outlines_of rs) us in
             let text : t ≡ u =
             sym (first_text files (outline_of s.form) t (parts_from name (outlines_of ss) ts))
-            ∙ ap first_of e ∙ first_text others (outline_of r.form) u more in
+            ∙ ap (λ l. get_or l 0 []) e ∙ first_text others (outline_of r.form) u more in
             let same = tells 0 0 s r t refl refl (ap Some (sym text)) refl in
             let both =
             same_parts (same_form s.form r.form (ap (λ (x : Statement). x.form) same)) t u
@@ -247,18 +239,19 @@ module _ (files others : List File) (name : List ℕ) where
 -- ---- keys
 
 -- what equal keys tell
-pub same_keys : (files others : List File) → Each (λ (file : File). IsShort file.bytes) files
-    → Each (λ (file : File). IsShort file.bytes) others → (n m : List ℕ) → IsShort n → IsShort m
-    → (os ps : List Outline) (ts us : List (List ℕ)) → Each IsShort ts → Each IsShort us
+pub same_keys : (files others : List File) → Each (λ (file : File). HasKeyLength file.bytes) files
+    → Each (λ (file : File). HasKeyLength file.bytes) others → (n m : List ℕ) → HasKeyLength n
+    → HasKeyLength m → (os ps : List Outline) (ts us : List (List ℕ)) → Each HasKeyLength ts
+    → Each HasKeyLength us
     → key_of files (parts_from n os ts) n ≡ key_of others (parts_from m ps us) m
     → contents files n os ts ++ n ∷ [] ≡ contents others m ps us ++ m ∷ []
 same_keys files others short short_ n m name_short name_short_ os ps ts us here there e =
     let first = contents files n os ts ++ n ∷ [] in
     let second = contents others m ps us ++ m ∷ [] in
     same_pieces first second
-    (each_append IsShort (contents files n os ts) (n ∷ []) (contents_short files short n os ts here)
-    (name_short, tt))
-    (each_append IsShort (contents others m ps us) (m ∷ [])
+    (each_append HasKeyLength (contents files n os ts) (n ∷ [])
+    (contents_short files short n os ts here) (name_short, tt))
+    (each_append HasKeyLength (contents others m ps us) (m ∷ [])
     (contents_short others short_ m ps us there) (name_short_, tt))
     (split_alike (codes "FLUME1") (codes "FLUME1") (flat_map piece first) (flat_map piece second)
     refl

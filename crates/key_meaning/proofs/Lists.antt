@@ -90,14 +90,10 @@ zip_among R (z ∷ xs) (w ∷ ys) zipped x among =
     (it.0, (at_tail w ys it.0 it.1.0, it.1.1)))
     (head_or_tail z xs x among)
 
-pub zip_among_back : {A B : Type 0} (R : A → B → Type 0) (xs : List A) (ys : List B)
-    → AllZip R xs ys → (y : B) → Contains ys y → (x : A) × (Contains xs x × R x y)
-zip_among_back R [] [] zipped y among = absurd (not_in_none y among)
-zip_among_back R [] (w ∷ ys) zipped y among = absurd zipped
-zip_among_back R (z ∷ xs) [] zipped y among = absurd zipped
-zip_among_back R (z ∷ xs) (w ∷ ys) zipped y among =
-    ⊎_elim (λ (e : w ≡ y). (z, (at_head z xs, subst (R z) e zipped.0)))
-    (λ (behind : Contains ys y).
-    let it = zip_among_back R xs ys zipped.1 y behind in
-    (it.0, (at_tail z xs it.0 it.1.0, it.1.1)))
-    (head_or_tail w ys y among)
+-- from the other side
+pub zip_back : {A B : Type 0} (R : A → B → Type 0) (xs : List A) (ys : List B) → AllZip R xs ys
+    → AllZip (λ y x. R x y) ys xs
+zip_back R [] [] zipped = tt
+zip_back R [] (w ∷ ys) zipped = absurd zipped
+zip_back R (z ∷ xs) [] zipped = absurd zipped
+zip_back R (z ∷ xs) (w ∷ ys) zipped = (zipped.0, zip_back R xs ys zipped.1)

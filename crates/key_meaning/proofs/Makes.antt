@@ -1,5 +1,5 @@
 -- Collections that are made alike are alike.
-use Rattle.std.proofs.Common.{◌≡◌, ℕ, ◌-◌, List, [], ◌∷◌, Option, Some, None, option_and_then, refl, sym, ap, subst}
+use Rattle.std.proofs.Common.{◌≡◌, ℕ, ◌-◌, List, [], ◌∷◌, Option, option_and_then, refl, sym, ap, subst}
 use Rattle.std.specs.List.{AllZip}
 use Rattle.std.specs.Option.{option_map}
 use Rattle.combine_table.specs.Combinations.{combined}
@@ -15,7 +15,7 @@ use Rattle.direct_meaning.specs.Calls.{answer_of}
 use Rattle.direct_meaning.specs.Direct.{all_made, combined_by, counted_by, done_at, done_beside_at, done_by, joined_by, made_as, made_at, operated_at, top_by}
 use Rattle.direct_meaning.specs.Objects.{combined_whole, done_beside, operated_by}
 use Rattle.key_meaning.proofs.Alike.{MadeAlike, Paired, Pairs, SameCallee, SameFunction, combine, count, do_, do_with, flatten, group, input, join, operate, place_of, top, whole}
-use Rattle.key_meaning.proofs.Ways.{CollectionAlike, ListsAlike, OptionAlike, Table, beside_alike, by_one, combined_alike, counts_alike, done_alike, if_any, joined_alike, key_alike, operated_alike, together_alike, top_alike, wholes_alike}
+use Rattle.key_meaning.proofs.Ways.{CollectionAlike, ListsAlike, OptionAlike, Table, beside_alike, by_one, combined_alike, counts_alike, done_alike, if_any, joined_alike, key_alike, none_or_both, operated_alike, together_alike, top_alike, wholes_alike}
 
 module _ (pairs : Pairs) where
   -- ---- several
@@ -30,40 +30,16 @@ module _ (pairs : Pairs) where
     all_alike [] (y ∷ ys) zipped = absurd zipped
     all_alike (x ∷ xs) [] zipped = absurd zipped
     all_alike (x ∷ xs) (y ∷ ys) zipped =
-        by (made_at here x) (made_at there y) (all_made here xs) (all_made there ys) zipped.0
-        (all_alike xs ys zipped.1)
-      where
-        by : (o p : Option Collection) (os ps : Option (List Collection)) → OptionAlike pairs o p
-            → ListsAlike pairs os ps
-            → ListsAlike pairs (option_and_then (λ c. option_map (λ cs. c ∷ cs) os) o)
-            (option_and_then (λ c. option_map (λ cs. c ∷ cs) ps) p)
-        by None None os ps alike lists = tt
-        by None (Some d) os ps alike lists = absurd alike
-        by (Some c) None os ps alike lists = absurd alike
-        by (Some c) (Some d) None None alike lists = tt
-        by (Some c) (Some d) None (Some ds) alike lists = absurd lists
-        by (Some c) (Some d) (Some cs) None alike lists = absurd lists
-        by (Some c) (Some d) (Some cs) (Some ds) alike lists = (alike, lists)
-
-    by_all : (f g : List Collection → Option Collection)
-        → ((cs ds : List Collection) → AllZip (CollectionAlike pairs) cs ds
-        → OptionAlike pairs (f cs) (g ds))
-        → (os ps : Option (List Collection)) → ListsAlike pairs os ps
-        → OptionAlike pairs (option_and_then f os) (option_and_then g ps)
-    by_all f g each None None alike = tt
-    by_all f g each None (Some ds) alike = absurd alike
-    by_all f g each (Some cs) None alike = absurd alike
-    by_all f g each (Some cs) (Some ds) alike = each cs ds alike
-
-    map_all : (f g : List Collection → Collection)
-        → ((cs ds : List Collection) → AllZip (CollectionAlike pairs) cs ds
-        → CollectionAlike pairs (f cs) (g ds))
-        → (os ps : Option (List Collection)) → ListsAlike pairs os ps
-        → OptionAlike pairs (option_map f os) (option_map g ps)
-    map_all f g each None None alike = tt
-    map_all f g each None (Some ds) alike = absurd alike
-    map_all f g each (Some cs) None alike = absurd alike
-    map_all f g each (Some cs) (Some ds) alike = each cs ds alike
+        none_or_both (CollectionAlike pairs)
+        (λ o p. ListsAlike pairs
+        (option_and_then (λ c. option_map (λ cs. c ∷ cs) (all_made here xs)) o)
+        (option_and_then (λ d. option_map (λ ds. d ∷ ds) (all_made there ys)) p))
+        tt
+        (λ c d first. none_or_both (AllZip (CollectionAlike pairs))
+        (λ os ps. ListsAlike pairs (option_map (λ cs. c ∷ cs) os) (option_map (λ ds. d ∷ ds) ps))
+        tt (λ cs ds rest. (first, rest)) (all_made here xs) (all_made there ys)
+        (all_alike xs ys zipped.1))
+        (made_at here x) (made_at there y) zipped.0
 
     -- ---- by the ways in which they are made
 
@@ -107,8 +83,9 @@ module _ (pairs : Pairs) where
           by_one pairs (combined_by a by) (combined_by b by) (combined_alike pairs a b own by)
           (made_at here x) (made_at there y) reads.0
       makes_alike (flatten {sources} {more} is) inputs first own reads =
-          map_all together together (together_alike pairs) (all_made here sources)
-          (all_made there more)
+          none_or_both (AllZip (CollectionAlike pairs))
+          (λ os ps. OptionAlike pairs (option_map together os) (option_map together ps)) tt
+          (together_alike pairs) (all_made here sources) (all_made there more)
           (all_alike sources more reads)
       makes_alike (count {a = x} {b = y} is) inputs first own reads =
           by_one pairs (counted_by a) (counted_by b)
@@ -135,9 +112,11 @@ module _ (pairs : Pairs) where
           by_functions f g by
           (λ function. operated_at a function objects here)
           (λ function. operated_at b function more there)
-          (λ p q same. by_all (operated_by a (answer_of p)) (operated_by b (answer_of q))
-          (operated_alike pairs a b own p q same) (all_made here objects) (all_made there more)
-          (all_alike objects more reads))
+          (λ p q same. none_or_both (AllZip (CollectionAlike pairs))
+          (λ os ps. OptionAlike pairs (option_and_then (operated_by a (answer_of p)) os)
+          (option_and_then (operated_by b (answer_of q)) ps))
+          tt (operated_alike pairs a b own p q same) (all_made here objects)
+          (all_made there more) (all_alike objects more reads))
       makes_alike (do_with {a = x} {b = y} {f} {g} {c = v} {d = w} is by also) inputs first own
           reads =
           by_functions f g by

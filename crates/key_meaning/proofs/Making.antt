@@ -1,20 +1,21 @@
 -- What an operation makes in two states that are alike is alike.
 use Rattle.std.proofs.Common.{◌≡◌, ℕ, true, List, [], Ok, refl}
 use Rattle.std.specs.List.{AllByRecursion as Each, AllZip}
+use Rattle.combine_table.specs.declared.comb.Comb.{Comb}
 use Rattle.flume_grammar.specs.declared.tree.Combiner.{Combiner}
 use Rattle.flume_grammar.specs.declared.tree.Operation.{Operation}
 use Rattle.flume_grammar.specs.declared.tree.Operation.TheVariants as operation
 use Rattle.flume_grammar.specs.declared.fault.ScriptKind.TheVariants.{BadNumber}
 use Rattle.expression_check.specs.Numbers.{number_within}
-use Rattle.written_types.specs.Answer.{Checked}
+use Rattle.written_types.specs.Answer.{Checked, ◌>>=◌}
 use Rattle.script_keys.specs.Outlines.{callees, operands}
 use Rattle.script_keys.specs.Rests.{has}
 use Rattle.script_keys.specs.declared.rests.Names.{Names}
-use Rattle.script_program.specs.Script.{Making, State}
+use Rattle.script_program.specs.Script.{Making, Operand, State}
 use Rattle.direct_meaning.specs.of_script_rules.Operations as spec
 use Rattle.direct_meaning.proofs.of_script_rules.CheckedLemmas.{both, ok-same}
 use Rattle.key_meaning.proofs.Alike.{IsAlike, MakingAlike, Pairs}
-use Rattle.key_meaning.proofs.Finding.{agree, all_alike, called_alike, found_alike}
+use Rattle.key_meaning.proofs.Finding.{OperandAlike, agree, all_alike, called_alike, found_alike}
 use Rattle.key_meaning.proofs.Operations.{alone_alike, as_same, combine_alike, count_alike, do_alike, do_with_alike, flatten_alike, group_alike, join_alike, operate_alike, same_comb, top_alike, whole_alike}
 
 -- ---- as they are written
@@ -53,16 +54,20 @@ module _ (SameFile : List ℕ → Type 0) (names : Names) (pairs : Pairs) (s r :
       (found_alike SameFile names pairs s r alike line other source reads one.part two.part
       one.first two.first) m n one.then two.then
 
-  combined : (source : List ℕ) (by : Combiner) → Asked source → (m n : Making)
-      → spec.combined line source by s ≡ Ok m → spec.combined other source by r ≡ Ok n
+  -- what is made of a collection by a combiner
+  combined : (of : ℕ → Operand → Comb → Checked Making)
+      → ((one two : Operand) (x y : Comb) → OperandAlike pairs one two → x ≡ y → (m n : Making)
+      → of line one x ≡ Ok m → of other two y ≡ Ok n → Makes m n)
+      → (source : List ℕ) (by : Combiner) → Asked source → (m n : Making)
+      → (spec.collection line source s >>= (λ one. spec.comb_of line by >>= of line one)) ≡ Ok m
+      → (spec.collection other source r >>= (λ two. spec.comb_of other by >>= of other two)) ≡ Ok n
       → Makes m n
-  combined source by reads m n e h =
+  combined of alike_of source by reads m n e h =
       let one = both (spec.collection line source s) _ m e in
       let two = both (spec.collection other source r) _ n h in
       let x = both (spec.comb_of line by) _ m one.then in
       let y = both (spec.comb_of other by) _ n two.then in
-      combine_alike SameFile pairs s.functions r.functions line other one.part two.part x.part
-      y.part
+      alike_of one.part two.part x.part y.part
       (found_alike SameFile names pairs s r alike line other source reads one.part two.part
       one.first two.first) (same_comb line other by x.part y.part x.first y.first) m n x.then
       y.then
@@ -124,20 +129,6 @@ module _ (SameFile : List ℕ → Type 0) (names : Names) (pairs : Pairs) (s r :
       (found_alike SameFile names pairs s r alike line other source reads one.part two.part
       one.first two.first))
 
-  combined_whole : (source : List ℕ) (by : Combiner) → Asked source → (m n : Making)
-      → spec.combined_whole line source by s ≡ Ok m
-      → spec.combined_whole other source by r ≡ Ok n → Makes m n
-  combined_whole source by reads m n e h =
-      let one = both (spec.collection line source s) _ m e in
-      let two = both (spec.collection other source r) _ n h in
-      let x = both (spec.comb_of line by) _ m one.then in
-      let y = both (spec.comb_of other by) _ n two.then in
-      whole_alike SameFile pairs s.functions r.functions line other one.part two.part x.part
-      y.part
-      (found_alike SameFile names pairs s r alike line other source reads one.part two.part
-      one.first two.first) (same_comb line other by x.part y.part x.first y.first) m n x.then
-      y.then
-
   operated : (objects : List (List ℕ)) (function : List ℕ) → Each Asked objects
       → AskedBy function → (m n : Making) → spec.operated line objects function s ≡ Ok m
       → spec.operated other objects function r ≡ Ok n → Makes m n
@@ -187,7 +178,9 @@ module _ (SameFile : List ℕ → Type 0) (names : Names) (pairs : Pairs) (s r :
       ms ns e h
   makes_alike (operation.Combine source by) reads calls ms ns e h =
       alone (spec.combined line source by s) (spec.combined other source by r)
-      (combined source by reads.0) ms ns e h
+      (combined spec.combine_of
+      (combine_alike SameFile pairs s.functions r.functions line other) source by reads.0) ms ns
+      e h
   makes_alike (operation.Flatten sources) reads calls ms ns e h =
       alone (spec.flattened line sources s) (spec.flattened other sources r)
       (flattened sources reads) ms ns e h
@@ -202,7 +195,8 @@ module _ (SameFile : List ℕ → Type 0) (names : Names) (pairs : Pairs) (s r :
       (greatest digits source reads.0) ms ns e h
   makes_alike (operation.CombineAll source by) reads calls ms ns e h =
       alone (spec.combined_whole line source by s) (spec.combined_whole other source by r)
-      (combined_whole source by reads.0) ms ns e h
+      (combined spec.combine_all_of
+      (whole_alike SameFile pairs s.functions r.functions line other) source by reads.0) ms ns e h
   makes_alike (operation.Operate objects function) reads calls ms ns e h =
       alone (spec.operated line objects function s) (spec.operated other objects function r)
       (operated objects function reads calls.0) ms ns e h

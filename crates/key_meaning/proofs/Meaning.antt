@@ -24,7 +24,7 @@ use Rattle.key_meaning.proofs.Makes.{AlikeAt, makes_alike}
 use Rattle.key_meaning.proofs.Ways.{OptionAlike, Table}
 use Rattle.key_meaning.proofs.Sources.{ArePlain}
 use Rattle.key_meaning.proofs.Traps.{no_traps}
-use Rattle.key_meaning.specs.Keyed.{AllHaveRowsIn, HasRows}
+use Rattle.key_meaning.specs.Keyed.{AllHaveRowsIn, FilesHaveRows}
 
 -- ---- what a collection reads
 
@@ -89,8 +89,8 @@ zip_if R Q (x ∷ xs) (y ∷ ys) zipped each = (
 
 same_rows : (files others : List File) (file : List ℕ) (type type_ : Ty) (rows rows_ : List Value)
     → SameBytes files others file → type ≡ type_
-    → HasRows files (record { file = file; type = type }) rows
-    → HasRows others (record { file = file; type = type_ }) rows_ → rows ≡ rows_
+    → FilesHaveRows files (record { file = file; type = type }) rows
+    → FilesHaveRows others (record { file = file; type = type_ }) rows_ → rows ≡ rows_
 same_rows files others file type type_ rows rows_ same types here there =
     let bytes : here.0 ≡ there.0 =
     sym (ap (λ o. unwrap_or o []) here.1) ∙ same ∙ ap (λ o. unwrap_or o []) there.1 in

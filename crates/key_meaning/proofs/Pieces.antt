@@ -5,7 +5,7 @@ use Rattle.std.proofs.lemmas.Bool.{lt-ltb}
 use Rattle.flume_value.proofs.ByteLemmas.{length_bytes-alike, split_alike}
 use Rattle.flume_value.specs.Canonical.{length_bytes}
 use Rattle.script_keys.specs.Keys.{piece}
-use Rattle.key_meaning.specs.Keyed.{IsShort}
+use Rattle.key_meaning.specs.Keyed.{HasKeyLength}
 
 eight : (n : ℕ) → length (length_bytes n) ≡ 8
 unfolding length_bytes
@@ -18,8 +18,8 @@ no_piece bytes more e =
     let own = length-append (length_bytes (length bytes)) bytes in
     omega (arith, long, all, own, eight (length bytes))
 
-one_piece : (a b rest more : List ℕ) → IsShort a → IsShort b → piece a ++ rest ≡ piece b ++ more
-    → (a ≡ b) × (rest ≡ more)
+one_piece : (a b rest more : List ℕ) → HasKeyLength a → HasKeyLength b
+    → piece a ++ rest ≡ piece b ++ more → (a ≡ b) × (rest ≡ more)
 one_piece a b rest more here there e =
     let lengths =
     length_bytes-alike (length a) (length b) (a ++ rest) (b ++ more)
@@ -28,7 +28,7 @@ one_piece a b rest more here there e =
     ∙ append_assoc (length_bytes (length b)) b more) in
     split_alike a b rest more lengths.0 lengths.1
 
-pub same_pieces : (xs ys : List (List ℕ)) → Each IsShort xs → Each IsShort ys
+pub same_pieces : (xs ys : List (List ℕ)) → Each HasKeyLength xs → Each HasKeyLength ys
     → flat_map piece xs ≡ flat_map piece ys → xs ≡ ys
 same_pieces [] [] here there e = refl
 same_pieces [] (y ∷ ys) here there e = absurd (no_piece y (flat_map piece ys) e)

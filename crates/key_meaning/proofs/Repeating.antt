@@ -1,26 +1,24 @@
 -- What the rules of a let with repeat have found, and the names behind it.
-use Rattle.std.proofs.Common.{◌≡◌, ℕ, zero, suc, ◌+◌, eqb, true, List, [], ◌∷◌, ◌++◌, length, map, take, drop, Some, None, Ok, refl, sym, ap, ◌∙◌, subst, arith, append_assoc, length-append}
+use Rattle.std.proofs.Common.{◌≡◌, ℕ, zero, suc, ◌+◌, true, List, [], ◌∷◌, ◌++◌, length, map, take, drop, None, Ok, refl, sym, ap, ◌∙◌, subst, arith, append_assoc}
 use Rattle.std.specs.List.{list_any}
 use Rattle.std.specs.Map.{keys_of}
 use Rattle.std.specs.Str.{bytes_eq}
-use Rattle.std.proofs.lemmas.Bool.{eqb-true}
 use Rattle.std.proofs.lemmas.List.{append-nil, drop_at, length-map, take_at}
-use Rattle.flume_value.proofs.BoolLemmas.{both_true}
 use Rattle.flume_grammar.specs.declared.tree.Operation.{Operation}
 use Rattle.flume_grammar.specs.declared.tree.Repeat.{Repeat as WrittenRepeat}
 use Rattle.flume_grammar.specs.declared.tree.TurnLet.{TurnLet}
-use Rattle.flume_grammar.specs.declared.fault.ScriptKind.TheVariants.{BadNumber, Mistyped}
-use Rattle.written_types.specs.Answer.{or_fault, unless}
+use Rattle.flume_grammar.specs.declared.fault.ScriptKind.TheVariants.{Mistyped}
+use Rattle.written_types.specs.Answer.{unless}
 use Rattle.written_types.specs.Named.{Named, find}
-use Rattle.expression_check.specs.Numbers.{number_within}
 use Rattle.script_program.specs.declared.made.Standing.{Standing}
 use Rattle.script_program.specs.declared.made.Standing.TheVariants.{Hidden}
 use Rattle.script_program.specs.Script.{Operand, State, given, with_hidden, with_name}
-use Rattle.direct_meaning.specs.of_script_rules.Operations.{collection, collections_behind, made_by, numbers}
+use Rattle.direct_meaning.specs.of_script_rules.Operations.{collections_behind, made_by, numbers}
 use Rattle.direct_meaning.specs.of_script_rules.Repeats.{Repeat, gives_left, last_gives, turn_gives, turn_to}
 use Rattle.direct_meaning.specs.of_script_rules.Rules as spec
-use Rattle.direct_meaning.proofs.of_script_rules.CheckedLemmas.{both, holds, ok-same, there}
+use Rattle.direct_meaning.proofs.of_script_rules.CheckedLemmas.{both, ok-same}
 use Rattle.direct_meaning.proofs.of_script_rules.FoundLemmas.{before, found, own}
+use Rattle.direct_meaning.proofs.of_script_laws.RepeatLemmas.{HasEntry, found-many, has-entry}
 use Rattle.key_meaning.proofs.Standing.{hidden, names_are, new_found, standing, types_are}
 
 -- ---- states in front of and behind a body
@@ -35,11 +33,6 @@ names_hidden (name ∷ names) s =
 types_hidden : (names : List (List ℕ)) (s : State) → (with_hidden names s).types ≡ s.types
 types_hidden [] s = refl
 types_hidden (name ∷ names) s = types_hidden names (with_name name Hidden s)
-
-pub functions_hidden : (names : List (List ℕ)) (s : State)
-    → (with_hidden names s).functions ≡ s.functions
-functions_hidden [] s = refl
-functions_hidden (name ∷ names) s = functions_hidden names (with_name name Hidden s)
 
 -- names more, and the same types
 pub record More (s after : State) : Type 0 where
@@ -80,58 +73,24 @@ all_more (it ∷ lets) s after e =
 
 -- ---- what is found
 
-found_many : (line : ℕ) (s : State) (found : List Operand) (names : List (List ℕ))
-    (all : List Operand) → collections_behind line found names s ≡ Ok all
-    → length all ≡ length found + length names
-found_many line s found [] all e =
-    let same = ap length (ok-same found all e) in
-    omega (arith, same)
-found_many line s found (name ∷ names) all e =
-    let one = both (collection line name s) _ all e in
-    let rest = found_many line s (found ++ one.part ∷ []) names all one.then in
-    omega (arith, rest, length-append found (one.part ∷ []))
-
 module _ (line : ℕ) (names : List (List ℕ)) (written : WrittenRepeat) (s : State) where
-  -- what enters a repeat
+  -- what enters a repeat, under names that stood for nothing
   pub record Enters (entry : spec.Entry) : Type 0 where
+    pub has : HasEntry line names written s entry
+    pub open has use *
     pub new : (name : List ℕ) → list_any (bytes_eq name) names ≡ true → find name s.names ≡ None
     pub free : (name : List ℕ) → list_any (bytes_eq name) written.entering ≡ true
         → find name (with_hidden names s).names ≡ None
-    pub from : collections_behind line [] written.from (with_hidden names s) ≡ Ok entry.from
-    pub turns : number_within 1 256 written.turns ≡ Some entry.turns
-    pub many : length entry.from ≡ length names
-    pub entering : length written.entering ≡ length names
-    pub gives : length written.gives ≡ length names
 
   pub enters : (entry : spec.Entry) → spec.entry_of line names written s ≡ Ok entry
       → Enters entry
   enters entry e =
-      let taken = with_hidden names s in
-      let new = both (spec.all_fresh line (keys_of s.names) names) _ entry e in
-      let free = both (spec.all_fresh line (keys_of taken.names) written.entering) _ entry
-      new.then in
-      let from = both (collections_behind line [] written.from taken) _ entry free.then in
-      let turns = both (or_fault line BadNumber (number_within 1 256 written.turns)) _ entry
-      from.then in
-      let many = both (unless line Mistyped (spec.as_many (length names) written)) _ entry
-      turns.then in
-      let counts = both_true (eqb (length written.from) (length names)) _
-      (holds line Mistyped _ many.part many.first) in
-      let others = both_true (eqb (length written.entering) (length names)) _ counts.1 in
-      subst Enters (ok-same _ entry many.then) (record {
-        new = new_found line s.names names new.part new.first;
-        free = new_found line taken.names written.entering free.part free.first;
-        from = from.first;
-        turns = there line BadNumber _ turns.part turns.first;
-        many =
-            omega (
-              arith,
-              found_many line taken [] written.from from.part from.first,
-              eqb-true (length written.from) (length names) counts.0,
-            );
-        entering = eqb-true (length written.entering) (length names) others.0;
-        gives = eqb-true (length written.gives) (length names) others.1;
-      })
+      let it = has-entry line names written s entry e in
+      record {
+        has = it;
+        new = new_found line s.names names it.outer it.outer_fresh;
+        free = new_found line (with_hidden names s).names written.entering it.inner it.inner_fresh;
+      }
 
   -- what its body gives
   pub record Gives (from : List Operand) (body : State) (gives : List ℕ) : Type 0 where
@@ -155,7 +114,7 @@ module _ (line : ℕ) (names : List (List ℕ)) (written : WrittenRepeat) (s : S
               arith,
               ap length (sym are),
               length-map given.part (λ (one : Operand). one.number),
-              found_many line body [] written.gives given.part given.first,
+              found-many line body [] written.gives given.part given.first,
             );
       }
 

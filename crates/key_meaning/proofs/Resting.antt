@@ -1,6 +1,6 @@
 -- What is paired rests on the same, in one order and of the same sizes.
 use Rattle.std.proofs.Common.{◌≡◌, ◌⊎◌, inl, inr, ℕ, suc, min, ◌^◌, ◌-◌, Bool, true, false, cond, List, [], ◌∷◌, ◌++◌, length, Option, Some, None, IsSomeAnd, if◌then◌else◌, slice_get, refl, sym, ap, ◌∙◌, subst, arith, append_assoc, length-append, ⊎_elim}
-use Rattle.std.specs.List.{Contains, filter, flat_map}
+use Rattle.std.specs.List.{AllZip, Contains, filter, flat_map}
 use Rattle.flume_collection.proofs.Members.{at_head, head_or_tail, not_in_none}
 use Rattle.flume_collection.specs.Collection.{Collection}
 use Rattle.written_types.specs.Named.{Named}
@@ -14,10 +14,10 @@ use Rattle.direct_meaning.specs.of_script_laws.WellFormed.{IsWellFormed}
 use Rattle.direct_meaning.specs.Direct.{made_at}
 use Rattle.key_meaning.proofs.Alike.{NodeAlike, Paired, Pairs, same_operands}
 use Rattle.key_meaning.proofs.Courses.{Rises}
-use Rattle.key_meaning.proofs.Lists.{zip_among, zip_among_back}
+use Rattle.key_meaning.proofs.Lists.{zip_among, zip_back}
 use Rattle.key_meaning.proofs.Ways.{OptionAlike, Table}
 use Rattle.key_meaning.proofs.Sources.{alone, alone_well}
-use Rattle.key_meaning.proofs.Pairing.{Covers, IsOf, by_left, by_right, gathered, left_of, right_of, rises_same, same_flat}
+use Rattle.key_meaning.proofs.Pairing.{Covers, by_left, by_right, gathered, left_of, right_of, rises_same, same_flat}
 use Rattle.script_program.specs.Rested.{rests}
 use Rattle.key_meaning.specs.Rested.{rested_sizes, sized}
 
@@ -38,6 +38,12 @@ bools_same : (x y : Bool) → (x ≡ true → y ≡ true) → (y ≡ true → x 
 bools_same true y first second = sym (first refl)
 bools_same false true first second = second refl
 bools_same false false first second = refl
+
+-- what is told where a test holds is nothing, or the test holds
+none_or : {A P : Type 0} (b : Bool) (l : List A) → (b ≡ true → P)
+    → P ⊎ ((if b then l else []) ≡ [])
+none_or true l found = inl (found refl)
+none_or false l found = inr refl
 
 -- ---- sizes, number by number
 
@@ -77,6 +83,54 @@ module _ (script : Script) (made_ : Table) (asked : ℕ) where
   pub sizes_are : rested_sizes script made_ asked ≡ gathered sizes_at 0 (length script.nodes)
   sizes_are = sizes_from [] script.nodes refl 0 refl
 
+-- ---- partners
+
+-- what two numbers of two scripts are made from is related, in order
+record ReadAlike (here there : Script) (R : ℕ → ℕ → Type 0) (n q : ℕ) : Type 0 where
+  pub made : Made
+  pub other : Made
+  pub at : slice_get (made_of here) n ≡ Some made
+  pub beside : slice_get (made_of there) q ≡ Some other
+  pub reads : AllZip R (operands made) (operands other)
+
+-- what is needed for one output has a partner that is needed for another, where the collections
+-- that the two read are partners and partners are made from partners
+module _ (here there : Script) (R : ℕ → ℕ → Type 0) (first last : ℕ) (own : R first last)
+    (ends : outputs_read here ≡ first ∷ []) (ends_there : outputs_read there ≡ last ∷ [])
+    (partners : (n q : ℕ) → R n q → ReadAlike here there R n q) where
+  partner : (path : List ℕ) (n : ℕ) → LeadsToOutput here n path
+      → (q : ℕ) × (R n q × IsNeeded there q)
+  partner [] n leads =
+      ⊎_elim
+      (λ (e : first ≡ n). (
+        last,
+        (
+          subst (λ m. R m last) e own,
+          ([], subst (λ l. Contains l last) (sym ends_there) (at_head last [])),
+        ),
+      ))
+      (λ (behind : Contains [] n). absurd (not_in_none n behind))
+      (head_or_tail first [] n (subst (λ l. Contains l n) ends leads))
+  partner (reader ∷ path) n leads =
+      let it = partner path reader leads.1 in
+      let both = partners reader it.0 it.1.0 in
+      let next =
+      zip_among R (operands both.made) (operands both.other) both.reads n
+      (subst (λ o. IsSomeAnd o (λ (m : Made). Contains (operands m) n)) both.at leads.0) in (
+        next.0,
+        (
+          next.1.1,
+          (
+            it.0 ∷ it.1.1.0,
+            (
+              subst (λ o. IsSomeAnd o (λ (m : Made). Contains (operands m) next.0))
+                  (sym both.beside) next.1.0,
+              it.1.1.1,
+            ),
+          ),
+        ),
+      )
+
 -- ---- two scripts
 
 module _ (SameFile : List ℕ → Type 0) (one other : Script) (well : IsWellFormed one)
@@ -100,81 +154,40 @@ module _ (SameFile : List ℕ → Type 0) (one other : Script) (well : IsWellFor
   abbrev PartnerBack : ℕ → Type 0
   PartnerBack q = (n : ℕ) × (Paired pairs n q × IsNeeded here n)
 
-  made_here : (n q : ℕ)
-      (node : NodeAlike SameFile pairs one.functions other.functions one.nodes other.nodes n q)
-      → slice_get (made_of here) n ≡ Some node.entry.1.made
-  made_here n q node =
-      of_mapped (λ (e : List ℕ × Node). e.1.made) one.nodes n node.entry node.here
+  paired_read : (n q : ℕ) → Paired pairs n q → ReadAlike here there (Paired pairs) n q
+  paired_read n q is =
+      let node = paired n q is in
+      record {
+        made = node.entry.1.made;
+        other = node.other.1.made;
+        at = of_mapped (λ (e : List ℕ × Node). e.1.made) one.nodes n node.entry node.here;
+        beside =
+            of_mapped (λ (e : List ℕ × Node). e.1.made) other.nodes q node.other node.there;
+        reads = same_operands SameFile pairs one.functions other.functions node.alike.how;
+      }
 
-  made_there : (n q : ℕ)
-      (node : NodeAlike SameFile pairs one.functions other.functions one.nodes other.nodes n q)
-      → slice_get (made_of there) q ≡ Some node.other.1.made
-  made_there n q node =
-      of_mapped (λ (e : List ℕ × Node). e.1.made) other.nodes q node.other node.there
+  read_back : (q n : ℕ) → Paired pairs n q
+      → ReadAlike there here (λ q n. Paired pairs n q) q n
+  read_back q n is =
+      let it = paired_read n q is in
+      record {
+        made = it.other;
+        other = it.made;
+        at = it.beside;
+        beside = it.at;
+        reads = zip_back (Paired pairs) (operands it.made) (operands it.other) it.reads;
+      }
 
   forth : (path : List ℕ) (n : ℕ) → LeadsToOutput here n path → Partner n
-  forth [] n leads =
-      ⊎_elim
-      (λ (e : output.1.reads ≡ n). (
-        output_.1.reads,
-        (subst (λ m. Paired pairs m output_.1.reads) e own, ([], at_head output_.1.reads [])),
-      ))
-      (λ (behind : Contains [] n). absurd (not_in_none n behind))
-      (head_or_tail output.1.reads [] n leads)
-  forth (reader ∷ path) n leads =
-      let it = forth path reader leads.1 in
-      let node = paired reader it.0 it.1.0 in
-      let reads =
-      subst (λ o. IsSomeAnd o (λ (m : Made). Contains (operands m) n))
-      (made_here reader it.0 node) leads.0 in
-      let next =
-      zip_among (Paired pairs) (operands node.entry.1.made) (operands node.other.1.made)
-      (same_operands SameFile pairs one.functions other.functions node.alike.how) n reads in (
-        next.0,
-        (
-          next.1.1,
-          (
-            it.0 ∷ it.1.1.0,
-            (
-              subst (λ o. IsSomeAnd o (λ (m : Made). Contains (operands m) next.0))
-                  (sym (made_there reader it.0 node)) next.1.0,
-              it.1.1.1,
-            ),
-          ),
-        ),
-      )
+  forth =
+      partner here there (Paired pairs) output.1.reads output_.1.reads own refl refl paired_read
 
   back : (path : List ℕ) (q : ℕ) → LeadsToOutput there q path → PartnerBack q
-  back [] q leads =
-      ⊎_elim
-      (λ (e : output_.1.reads ≡ q). (
-        output.1.reads,
-        (subst (Paired pairs output.1.reads) e own, ([], at_head output.1.reads [])),
-      ))
-      (λ (behind : Contains [] q). absurd (not_in_none q behind))
-      (head_or_tail output_.1.reads [] q leads)
-  back (reader ∷ path) q leads =
-      let it = back path reader leads.1 in
-      let node = paired it.0 reader it.1.0 in
-      let reads =
-      subst (λ o. IsSomeAnd o (λ (m : Made). Contains (operands m) q))
-      (made_there it.0 reader node) leads.0 in
-      let next =
-      zip_among_back (Paired pairs) (operands node.entry.1.made) (operands node.other.1.made)
-      (same_operands SameFile pairs one.functions other.functions node.alike.how) q reads in (
-        next.0,
-        (
-          next.1.1,
-          (
-            it.0 ∷ it.1.1.0,
-            (
-              subst (λ o. IsSomeAnd o (λ (m : Made). Contains (operands m) next.0))
-                  (sym (made_here it.0 reader node)) next.1.0,
-              it.1.1.1,
-            ),
-          ),
-        ),
-      )
+  back =
+      partner there here (λ q n. Paired pairs n q) output_.1.reads output.1.reads own refl refl
+      read_back
+
+  -- ---- what the outputs rest on
 
   abbrev rests_here : ℕ → Bool
   rests_here n = rests one output.1.reads n
@@ -194,16 +207,20 @@ module _ (SameFile : List ℕ → Type 0) (one other : Script) (well : IsWellFor
   from_there : (n : ℕ) → IsNeeded there n → rests_there n ≡ true
   from_there n is = (needed_law there (alone_well other output_ among_ well_) n).1 is
 
+  partner_here : (n : ℕ) → rests_here n ≡ true → Partner n
+  partner_here n is = let path = path_here n is in forth path.0 n path.1
+
+  partner_there : (q : ℕ) → rests_there q ≡ true → PartnerBack q
+  partner_there q is = let path = path_there q is in back path.0 q path.1
+
   rests_same : (n q : ℕ) → Paired pairs n q → rests_here n ≡ rests_there q
   rests_same n q is =
       bools_same (rests_here n) (rests_there q)
       (λ r.
-      let path = path_here n r in
-      let it = forth path.0 n path.1 in
+      let it = partner_here n r in
       ap rests_there ((rises_same rises n q n it.0 is it.1.0).0 refl) ∙ from_there it.0 it.1.1)
       (λ r.
-      let path = path_there q r in
-      let it = back path.0 q path.1 in
+      let it = partner_there q r in
       ap rests_here ((rises_same rises n q it.0 q is it.1.0).1 refl) ∙ from_here it.0 it.1.1)
 
   -- ---- sizes
@@ -220,29 +237,14 @@ module _ (SameFile : List ℕ → Type 0) (one other : Script) (well : IsWellFor
     there_sizes = sizes_at other whole_ output_.1.reads
 
     covers : Covers left_of here_sizes pairs (length one.nodes)
-    covers n below = by (rests_here n) refl
-      where
-        by : (b : Bool) → rests_here n ≡ b
-            → IsOf left_of here_sizes pairs n ⊎ (here_sizes n ≡ [])
-        by true is =
-            let path = path_here n is in
-            let it = forth path.0 n path.1 in
-            inl ((n, it.0), it.1.0, refl)
-        by false is =
-            inr (ap (λ b. if b then sized_by (slice_get one.nodes n) (made_at whole n) else []) is)
+    covers n below =
+        none_or (rests_here n) (sized_by (slice_get one.nodes n) (made_at whole n))
+        (λ is. let it = partner_here n is in ((n, it.0), it.1.0, refl))
 
     covers_back : Covers right_of there_sizes pairs (length other.nodes)
-    covers_back q below = by (rests_there q) refl
-      where
-        by : (b : Bool) → rests_there q ≡ b
-            → IsOf right_of there_sizes pairs q ⊎ (there_sizes q ≡ [])
-        by true is =
-            let path = path_there q is in
-            let it = back path.0 q path.1 in
-            inl ((it.0, q), it.1.0, refl)
-        by false is =
-            inr
-            (ap (λ b. if b then sized_by (slice_get other.nodes q) (made_at whole_ q) else []) is)
+    covers_back q below =
+        none_or (rests_there q) (sized_by (slice_get other.nodes q) (made_at whole_ q))
+        (λ is. let it = partner_there q is in ((it.0, q), it.1.0, refl))
 
     sized_alike : (o p : Option Collection) (name other_name : List ℕ) → name ≡ other_name
         → OptionAlike pairs o p → sized name o ≡ sized other_name p

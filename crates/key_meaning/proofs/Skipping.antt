@@ -259,32 +259,47 @@ not_function names (form.Output own file) away name is = refl
 
 -- ---- behind what a statement adds
 
-module _ (form : Form) (s after : State) (adds : Adds form s after) where
-  pub stands_kept : (name : List ℕ) → list_any (bytes_eq name) (own_names form) ≡ false
+-- a state behind another, in which these names stand for what they stood for
+pub record Keeps (names : Names) (s after : State) : Type 0 where
+  pub collections : (name : List ℕ) → has names.collections name ≡ true
       → stands name after.names ≡ stands name s.names
-  stands_kept name away =
-      ap (stands name) adds.names ∙ stands_more name s.names adds.rest (adds.none name away)
-
-  pub function_kept : (name : List ℕ) → list_any (bytes_eq name) (own_functions form) ≡ false
+  pub functions : (name : List ℕ) → has names.functions name ≡ true
       → find name after.functions ≡ find name s.functions
-  function_kept name away = ap (find name) adds.functions ∙ by (find name s.functions) refl
-    where
-      by : (o : Option Function) → find name s.functions ≡ o
-          → find name (s.functions ++ adds.added) ≡ find name s.functions
-      by (Some x) is = found_first name s.functions adds.added x is ∙ sym is
-      by None is =
-          found_later name s.functions adds.added is ∙ adds.none_function name away ∙ sym is
-
-  pub node_kept : (k : ℕ) (entry : List ℕ × Node) → slice_get s.nodes k ≡ Some entry
+  pub nodes : (k : ℕ) (entry : List ℕ × Node) → slice_get s.nodes k ≡ Some entry
       → slice_get after.nodes k ≡ Some entry
-  node_kept k entry is =
-      ap (λ ns. slice_get ns k) adds.nodes ∙ front-kept s.nodes adds.more k entry is
-
-  pub called_kept : (k : ℕ) (function : Function) → function_at s.functions k ≡ Some function
+  pub called : (k : ℕ) (function : Function) → function_at s.functions k ≡ Some function
       → function_at after.functions k ≡ Some function
-  called_kept k function is =
+
+pub keeps_all : (names : Names) (s : State) → Keeps names s s
+keeps_all names s = record {
+  collections = λ name is. refl;
+  functions = λ name is. refl;
+  nodes = λ k entry at. at;
+  called = λ k function at. at;
+}
+
+-- behind a statement that defines none of the names
+pub keeps_others : (names : Names) (form : Form) (s after : State)
+    → is_named names (outline_of form) ≡ false → Adds form s after → Keeps names s after
+keeps_others names form s after away adds = record {
+  collections = λ name is.
+      ap (stands name) adds.names
+      ∙ stands_more name s.names adds.rest (adds.none name (not_own names form away name is));
+  functions = λ name is. ap (find name) adds.functions ∙ by name is (find name s.functions) refl;
+  nodes = λ k entry is.
+      ap (λ ns. slice_get ns k) adds.nodes ∙ front-kept s.nodes adds.more k entry is;
+  called = λ k function is.
       ap (λ fs. function_at fs k) adds.functions
-      ∙ mapped-kept (λ (entry : List ℕ × Function). entry.1) s.functions adds.added k function is
+      ∙ mapped-kept (λ (entry : List ℕ × Function). entry.1) s.functions adds.added k function is;
+}
+  where
+    by : (name : List ℕ) → has names.functions name ≡ true → (o : Option Function)
+        → find name s.functions ≡ o
+        → find name (s.functions ++ adds.added) ≡ find name s.functions
+    by name own (Some x) is = found_first name s.functions adds.added x is ∙ sym is
+    by name own None is =
+        found_later name s.functions adds.added is
+        ∙ adds.none_function name (not_function names form away name own) ∙ sym is
 
 -- callees are the same still
 pub callee_more : (functions others functions_more others_more : Named Function)
@@ -302,47 +317,23 @@ callee_more functions others functions_more others_more keep keep_others f g sam
   same = same.same;
 }
 
--- a statement of the one script, which defines none of the names
-pub left_alike : (SameFile : List ℕ → Type 0) (names : Names) (pairs : Pairs) (s r after : State)
-    → IsAlike SameFile names pairs s r → (it : Form) → is_named names (outline_of it) ≡ false
-    → Adds it s after → IsAlike SameFile names pairs after r
-left_alike SameFile names pairs s r after alike it away adds = record {
+-- states are alike still where both keep what the names stand for
+pub still_alike : (SameFile : List ℕ → Type 0) (names : Names) (pairs : Pairs)
+    (s r after behind : State) → Keeps names s after → Keeps names r behind
+    → IsAlike SameFile names pairs s r → IsAlike SameFile names pairs after behind
+still_alike SameFile names pairs s r after behind one other alike = record {
   collections = λ name is.
-      subst (λ o. Meet pairs o (stands name r.names))
-      (sym (stands_kept it s after adds name (not_own names it away name is)))
-      (alike.collections name is);
+      subst (λ o. Meet pairs o (stands name behind.names)) (sym (one.collections name is))
+      (subst (Meet pairs (stands name s.names)) (sym (other.collections name is))
+      (alike.collections name is));
   functions = λ name is.
-      subst (λ o. FunctionsMeet o (find name r.functions))
-      (sym (function_kept it s after adds name (not_function names it away name is)))
-      (alike.functions name is);
+      subst (λ o. FunctionsMeet o (find name behind.functions)) (sym (one.functions name is))
+      (subst (FunctionsMeet (find name s.functions)) (sym (other.functions name is))
+      (alike.functions name is));
   paired = λ a b among.
-      node_more SameFile pairs pairs s.functions r.functions after.functions r.functions
+      node_more SameFile pairs pairs s.functions r.functions after.functions behind.functions
       (λ c d same. same)
-      (callee_more s.functions r.functions after.functions r.functions
-      (called_kept it s after adds) (λ k function at. at))
-      s.nodes after.nodes r.nodes r.nodes (node_kept it s after adds) (λ k entry at. at) a b
-      (alike.paired a b among);
-}
-
--- and of the other
-pub right_alike : (SameFile : List ℕ → Type 0) (names : Names) (pairs : Pairs)
-    (s r after : State) → IsAlike SameFile names pairs s r → (it : Form)
-    → is_named names (outline_of it) ≡ false → Adds it r after
-    → IsAlike SameFile names pairs s after
-right_alike SameFile names pairs s r after alike it away adds = record {
-  collections = λ name is.
-      subst (λ o. Meet pairs (stands name s.names) o)
-      (sym (stands_kept it r after adds name (not_own names it away name is)))
-      (alike.collections name is);
-  functions = λ name is.
-      subst (λ o. FunctionsMeet (find name s.functions) o)
-      (sym (function_kept it r after adds name (not_function names it away name is)))
-      (alike.functions name is);
-  paired = λ a b among.
-      node_more SameFile pairs pairs s.functions r.functions s.functions after.functions
-      (λ c d same. same)
-      (callee_more s.functions r.functions s.functions after.functions
-      (λ k function at. at) (called_kept it r after adds))
-      s.nodes s.nodes r.nodes after.nodes (λ k entry at. at) (node_kept it r after adds) a b
-      (alike.paired a b among);
+      (callee_more s.functions r.functions after.functions behind.functions one.called
+      other.called)
+      s.nodes after.nodes r.nodes behind.nodes one.nodes other.nodes a b (alike.paired a b among);
 }

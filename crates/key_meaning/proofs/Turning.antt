@@ -18,14 +18,14 @@ use Rattle.direct_meaning.proofs.of_script_rules.CheckedLemmas.{both, ok-same}
 use Rattle.direct_meaning.proofs.of_script_rules.StateLemmas.{nodes-hidden}
 use Rattle.direct_meaning.proofs.of_script_rules.FoundLemmas.{HasFound, before, found, own}
 use Rattle.direct_meaning.proofs.of_script_laws.MemberLemmas.{within}
-use Rattle.direct_meaning.proofs.of_script_laws.RepeatLemmas.{has-turns, turns-long}
+use Rattle.direct_meaning.proofs.of_script_laws.RepeatLemmas.{functions-hidden, has-turns, turns-long}
 use Rattle.key_meaning.proofs.Adding.{Added, Asked, SameLet, all_added, nodes_added, with_nodes_long}
 use Rattle.key_meaning.proofs.Entries.{entries_long, with_entries}
 use Rattle.key_meaning.proofs.Alike.{FunctionsMeet, IsAlike, MadeAlike, Meet, NodeAlike, Paired, Pairs, meet_more, node_more, place_of, stands}
 use Rattle.key_meaning.proofs.Finding.{OperandAlike, all_alike, numbers_alike, some_same}
 use Rattle.key_meaning.proofs.Keeping.{Grown, grown_at}
 use Rattle.key_meaning.proofs.Lists.{Behind, along, along_at, along_from}
-use Rattle.key_meaning.proofs.Repeating.{Enters, Gives, NamesBehind, after_repeat, enters, functions_hidden, gives_found, names_behind}
+use Rattle.key_meaning.proofs.Repeating.{Enters, Gives, NamesBehind, after_repeat, enters, gives_found, names_behind}
 use Rattle.key_meaning.proofs.Standing.{hidden, none_given, stands_later, stands_more}
 use Rattle.key_meaning.proofs.Turns.{LetAlike, Matches, last_alike, unrolled_alike}
 use Rattle.key_meaning.proofs.Entering.{drop_get, entered_alike, entered_placed, given_meet, hidden_alike, in_place_at, mapped_at}
@@ -163,10 +163,10 @@ module _ (SameFile : List ℕ → Type 0) (names : Names) (pairs : Pairs) (s r :
         omega (arith, long, body.there)
 
     functions_here : here.body.functions ≡ s.functions
-    functions_here = body.functions ∙ entered.functions ∙ functions_hidden own_ s
+    functions_here = body.functions ∙ entered.functions ∙ functions-hidden own_ s
 
     functions_there : there.body.functions ≡ r.functions
-    functions_there = body.functions_there ∙ entered.functions_there ∙ functions_hidden own_ r
+    functions_there = body.functions_there ∙ entered.functions_there ∙ functions-hidden own_ r
 
     let_alike : (j : ℕ) (entry more : List ℕ × Node) → slice_get repeat.body j ≡ Some entry
         → slice_get repeat_.body j ≡ Some more

@@ -39,6 +39,22 @@ calls_same f g same (x ∷ bag) =
     (λ called. option_map (λ calls. called ∷ calls) (calls_same f g same bag i))
     (same x i)
 
+-- neither is there, or both are, and are related
+abbrev pub NoneOrBoth : {A : Type 0} → (A → A → Type 0) → Option A → Option A → Type 0
+NoneOrBoth R None None = ⊤
+NoneOrBoth R None (Some y) = ⊥
+NoneOrBoth R (Some x) None = ⊥
+NoneOrBoth R (Some x) (Some y) = R x y
+
+-- what is so of none, and of two that are related
+pub none_or_both : {A : Type 0} (R : A → A → Type 0) (P : Option A → Option A → Type 0)
+    → P None None → ((x y : A) → R x y → P (Some x) (Some y)) → (o p : Option A)
+    → NoneOrBoth R o p → P o p
+none_or_both R P none both None None related = none
+none_or_both R P none both None (Some y) related = absurd related
+none_or_both R P none both (Some x) None related = absurd related
+none_or_both R P none both (Some x) (Some y) related = both x y related
+
 module _ (pairs : Pairs) where
   -- the same members, and traps that are the same by pairs
   pub record CollectionAlike (c d : Collection) : Type 0 where
@@ -46,35 +62,26 @@ module _ (pairs : Pairs) where
     pub traps : TrapsAlike pairs c.traps d.traps
 
   abbrev pub OptionAlike : Option Collection → Option Collection → Type 0
-  OptionAlike None None = ⊤
-  OptionAlike None (Some d) = ⊥
-  OptionAlike (Some c) None = ⊥
-  OptionAlike (Some c) (Some d) = CollectionAlike c d
+  OptionAlike = NoneOrBoth CollectionAlike
 
   abbrev pub ListsAlike : Option (List Collection) → Option (List Collection) → Type 0
-  ListsAlike None None = ⊤
-  ListsAlike None (Some ds) = ⊥
-  ListsAlike (Some cs) None = ⊥
-  ListsAlike (Some cs) (Some ds) = AllZip CollectionAlike cs ds
+  ListsAlike = NoneOrBoth (AllZip CollectionAlike)
 
   -- what is made of one collection
   pub by_one : (f g : Collection → Collection)
       → ((c d : Collection) → CollectionAlike c d → CollectionAlike (f c) (g d))
       → (o p : Option Collection) → OptionAlike o p
       → OptionAlike (option_map f o) (option_map g p)
-  by_one f g each None None alike = tt
-  by_one f g each None (Some d) alike = absurd alike
-  by_one f g each (Some c) None alike = absurd alike
-  by_one f g each (Some c) (Some d) alike = each c d alike
+  by_one f g =
+      none_or_both CollectionAlike (λ o p. OptionAlike (option_map f o) (option_map g p)) tt
 
   pub if_any : (f g : Collection → Option Collection)
       → ((c d : Collection) → CollectionAlike c d → OptionAlike (f c) (g d))
       → (o p : Option Collection) → OptionAlike o p
       → OptionAlike (option_and_then f o) (option_and_then g p)
-  if_any f g each None None alike = tt
-  if_any f g each None (Some d) alike = absurd alike
-  if_any f g each (Some c) None alike = absurd alike
-  if_any f g each (Some c) (Some d) alike = each c d alike
+  if_any f g =
+      none_or_both CollectionAlike
+      (λ o p. OptionAlike (option_and_then f o) (option_and_then g p)) tt
 
   -- ---- one equation for each way
 

@@ -27,8 +27,8 @@ use Rattle.key_meaning.specs.Same.{IsSameCollection}
 -- ---- rows
 
 -- the file of an input has these rows
-abbrev pub HasRows : List File → Wanted → List Value → Type 0
-HasRows files wanted rows =
+abbrev pub FilesHaveRows : List File → Wanted → List Value → Type 0
+FilesHaveRows files wanted rows =
     (bytes : List ℕ) × (bytes_of files wanted.file ≡ Some bytes)
     × (rows_of bytes wanted.type ≡ Some (Ok rows))
 
@@ -38,13 +38,13 @@ AllHaveRowsIn files [] [] = ⊤
 AllHaveRowsIn files [] (rows ∷ others) = ⊥
 AllHaveRowsIn files (wanted ∷ inputs) [] = ⊥
 AllHaveRowsIn files (wanted ∷ inputs) (rows ∷ others) =
-    HasRows files wanted rows × AllHaveRowsIn files inputs others
+    FilesHaveRows files wanted rows × AllHaveRowsIn files inputs others
 
 -- ---- what is keyed
 
 -- bytes whose length a key can say
-abbrev pub IsShort : List ℕ → Type 0
-IsShort bytes = length bytes < 2 ^ 64
+abbrev pub HasKeyLength : List ℕ → Type 0
+HasKeyLength bytes = length bytes < 2 ^ 64
 
 -- A script that is accepted, over files: what it means over the rows of the inputs that it needs.
 pub record Working : Type 0 where
@@ -53,11 +53,11 @@ pub record Working : Type 0 where
   pub cut : tokens_of bytes ≡ Ok tokens
   pub statements : List Statement
   pub spelled : IsScript the_limits tokens.items statements
-  pub texts_short : AllByRecursion IsShort (texts_of tokens.items)
+  pub texts_short : AllByRecursion HasKeyLength (texts_of tokens.items)
   pub script : Script
   pub checked : script_of statements ≡ Ok script
   pub files : List File
-  pub files_short : AllByRecursion (λ file. IsShort file.bytes) files
+  pub files_short : AllByRecursion (λ file. HasKeyLength file.bytes) files
   pub rows : List (List Value)
   pub read : AllHaveRowsIn files (inputs_of script) rows
   pub made : List (Option Collection)
@@ -69,7 +69,7 @@ pub record Keyed : Type 0 where
   pub file : List ℕ
   pub output : Output
   pub asked : Contains work.script.outputs (file, output)
-  pub short : IsShort output.name
+  pub short : HasKeyLength output.name
 
 -- the key of the collection that it reads
 abbrev pub key : Keyed → List ℕ

@@ -4,6 +4,7 @@ ghost use Rattle.bag_groups.specs.Pairs.{IsPair, key_of, pair as pair_of, value_
 ghost use Rattle.flume_value.specs.Order.{value_cmp};
 ghost use Rattle.flume_value.specs.declared.value.Value.TheVariants as values;
 ghost use Rattle.key_order.specs.inner.Numbered.{key_in};
+ghost use Rattle.key_order.specs.inner.Sides.{boxed};
 
 use crate::sides::{Side, Sided, on_side, unboxed};
 use bag_groups::{into_parts, pair};
@@ -55,10 +56,7 @@ impl Couple {
     pub fn of(key: Value, value: Value) -> Couple
         ensures { result ≡ pair_of key value }
     {
-        Couple {
-            key,
-            value: unboxed(value),
-        }
+        Couple::with(key, unboxed(value))
     }
 
     /// The pair of the key and an int. It takes no memory.
@@ -66,10 +64,7 @@ impl Couple {
     pub fn of_int(key: Value, value: i64) -> Couple
         ensures { result ≡ pair_of key (values.Int value) }
     {
-        Couple {
-            key,
-            value: Sided::Int(Side::Plain, value),
-        }
+        Couple::with(key, Sided::Int(Side::Plain, value))
     }
 
     /// The pair of the key and the left of the value. It takes no memory.
@@ -77,10 +72,7 @@ impl Couple {
     pub fn of_left(key: Value, value: Value) -> Couple
         ensures { result ≡ pair_of key (values.Left value) }
     {
-        Couple {
-            key,
-            value: on_side(Side::Left, value),
-        }
+        Couple::with(key, on_side(Side::Left, value))
     }
 
     /// The pair of the key and the right of the value. It takes no memory.
@@ -88,10 +80,14 @@ impl Couple {
     pub fn of_right(key: Value, value: Value) -> Couple
         ensures { result ≡ pair_of key (values.Right value) }
     {
-        Couple {
-            key,
-            value: on_side(Side::Right, value),
-        }
+        Couple::with(key, on_side(Side::Right, value))
+    }
+
+    #[inline(always)]
+    fn with(key: Value, value: Sided) -> Couple
+        ensures { result ≡ pair_of key (boxed value) }
+    {
+        Couple { key, value }
     }
 
     /// The key.

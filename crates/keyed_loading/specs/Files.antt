@@ -1,12 +1,10 @@
 -- The files of inputs, as they are loaded.
-use Rattle.std.specs.Prelude.{◌≡◌, ◌++◌, ℕ, List, Option}
+use Rattle.std.specs.Prelude.{◌≡◌, List, Option}
 use Rattle.std.specs.List.{AllZip}
 use Rattle.script_loading.specs.of_direct_meaning.Inputs.{Wanted}
 use Rattle.outside.specs.declared.file.File.{File}
 use Rattle.script_loading.specs.Limits.{input_limit}
 use Rattle.script_loading.specs.Loads.{Loads}
-use Rattle.script_loading.specs.inner.Reading.{inputs_at}
-use Rattle.script_program.specs.Script.{Script}
 
 -- the file of an input
 pub record IsFileOf (told : Option (List File)) (wanted : Wanted) (file : File) : Type 0 where
@@ -16,8 +14,3 @@ pub record IsFileOf (told : Option (List File)) (wanted : Wanted) (file : File) 
 -- these are the files of inputs, in order
 abbrev pub AreFilesOf : Option (List File) → List Wanted → List File → Type 0
 AreFilesOf told inputs files = AllZip (IsFileOf told) inputs files
-
--- behind these files stands that of the node of that number, where it is an input that is needed
-abbrev pub AddsFiles : Option (List File) → Script → ℕ → List File → List File → Type 0
-AddsFiles told script number files more =
-    (own : List File) × (more ≡ files ++ own) × AreFilesOf told (inputs_at script number) own

@@ -1,6 +1,6 @@
 // Why the lists of groups were not combined.
 use flume_value::{Kind, Value};
-use std::alloc::{AllocError, AllocFailed};
+use std::alloc::AllocError;
 
 /// Why the lists of some pairs were not combined.
 #[derive(PartialEq, Eq, Drop)]
@@ -18,17 +18,6 @@ impl From<AllocError> for KeyFault {
     ghost from_gives = { λ _ e. e ≡ Memory };
 
     fn from(_e: AllocError) -> KeyFault {
-        KeyFault::Memory
-    }
-}
-
-impl<T: Drop> From<AllocFailed<T>> for KeyFault {
-    ghost use Rattle.std.specs.Prelude.{◌≡◌};
-    ghost use Rattle.keyed_steps.specs.declared.fault.KeyFault.TheVariants.{Memory};
-
-    ghost from_gives = { λ _ e. e ≡ Memory };
-
-    fn from(_e: AllocFailed<T>) -> KeyFault {
         KeyFault::Memory
     }
 }

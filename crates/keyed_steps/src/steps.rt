@@ -15,23 +15,23 @@ use crate::fault::KeyFault;
 use crate::parts::parts;
 use bag_groups::pair;
 use combine_table::{Comb, combine};
-use flume_value::{CallFault, Value};
+use flume_value::{CallFault, Items, Pile, Value};
 use std::alloc::Global;
 
 /// Each pair of a key and a list with its list combined, in order; or the first trap in order.
 /// It copies keys, and of the lists no more than the combiner keeps.
-pub fn combine_each(alloc: Global, comb: Comb, groups: &[Value]) -> Result<Vec<Value>, KeyFault>
+pub fn combine_each(alloc: Global, comb: Comb, groups: &[Value]) -> Result<Items, KeyFault>
     requires { All (IsGroup comb) groups.now }
     ensures combined { IfOk result (λ values.
-        bag_of values.items ≡ combined_each (combined comb) groups.now) }
+        bag_of values ≡ combined_each (combined comb) groups.now) }
     ensures through { IfOk result (λ values. traps_of_each (combined comb) groups.now ≡ []) }
     ensures trap { IfErr result (IsFirst (traps_of_each (combined comb) groups.now)) }
-    ensures count { IfOk result (λ values. length values.items ≡ length groups.now) }
-    ensures keys { IfOk result (λ values. map key_of values.items ≡ map key_of groups.now) }
+    ensures count { IfOk result (λ values. length values ≡ length groups.now) }
+    ensures keys { IfOk result (λ values. map key_of values ≡ map key_of groups.now) }
     ensures typed { (key value : Ty) → AllHave (table_of key (ty.List value)) groups.now →
-        IfOk result (λ values. AllHave (table_of key (gives_type comb value)) values.items) }
+        IfOk result (λ values. AllHave (table_of key (gives_type comb value)) values) }
 {
-    let mut values = Vec::with_capacity(alloc, groups.len())?;
+    let mut values = Pile::new(alloc);
     for group in groups {
         values.push(combine_group(alloc, comb, group)?)?;
     }

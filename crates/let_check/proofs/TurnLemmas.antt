@@ -13,14 +13,7 @@ use Rattle.script_rules.specs.Repeats.{turn_nodes, turn_to}
 
 copies-more : (nodes more : Named Node) (s : State)
     → with_copies more (with_copies nodes s) ≡ with_copies (nodes ++ more) s
-copies-more nodes more s = λ i. record {
-  types = s.types;
-  functions = s.functions;
-  nodes = append_assoc s.nodes nodes more i;
-  names = s.names;
-  outputs = s.outputs;
-  statements = s.statements;
-}
+copies-more nodes more s = λ i. record s { nodes = append_assoc s.nodes nodes more i }
 
 -- ---- numbers that follow one another
 

@@ -253,7 +253,9 @@ fn add_turn_let(alloc: Global, it: TurnLet, state: &mut State) -> Result<(), Scr
     ensures extends { Extends state.old.types state.new.types }
 {
     let TurnLet { line, names, by } = it;
-    add_let(alloc, line, names, &by, state)
+    let added = add_let(alloc, line, names, &by, state);
+    drop(by);
+    added
 }
 
 /// The repeat whose body stands behind so many collections, and is taken out.

@@ -142,8 +142,8 @@ fn add_copy(
     ensures types { state.new.types ≡ state.old.types }
 {
     let (name, node) = entry;
-    let made = renumbered(alloc, outside, seen, &node.made)?;
     let name = in_turn(alloc, name, turn)?;
+    let made = renumbered(alloc, outside, seen, &node.made)?;
     state.add_copy(
         name,
         Node {

@@ -11,7 +11,7 @@ use Rattle.exec_graph.specs.Calls.{of_combine}
 use Rattle.exec_graph.specs.Forests.{Branch}
 use Rattle.exec_graph.specs.World.{World}
 use Rattle.forest_steps.specs.Functions.{IsTrapOf}
-use Rattle.forest_steps.specs.Running.{Given, run_twigs, IsRunFault, SafeTwigs}
+use Rattle.forest_steps.specs.Running.{Given, run_twigs, IsStepsFault, SafeTwigs}
 use Rattle.forest_steps.specs.declared.fault.StepFault.{StepFault}
 use Rattle.forest_steps.specs.declared.fault.StepFault.TheVariants as fault
 use Rattle.lifted_root.specs.Lifted.{run_called, SafeCalled}
@@ -41,13 +41,13 @@ module _ (w : World) (sizes : List ℕ) (b : Branch) where
       ap (λ a. run_called w sizes b a old) e ∙ ran
 
   pub root_ended : (answer : Called) (answers : List (List Value)) (old : Given) (t : StepFault)
-      → answer ≡ Ok answers → IsRunFault (run_twigs w sizes 0 answers (b.first ∷ b.more) old) t
-      → IsRunFault (run_called w sizes b answer old) t
+      → answer ≡ Ok answers → IsStepsFault (run_twigs w sizes 0 answers (b.first ∷ b.more) old) t
+      → IsStepsFault (run_called w sizes b answer old) t
   root_ended answer answers old t e ran =
-      subst (λ a. IsRunFault (run_called w sizes b a old) t) (sym e) ran
+      subst (λ a. IsStepsFault (run_called w sizes b a old) t) (sym e) ran
 
   pub root_trapped : (answer : Called) (old : Given) (t : StepFault)
-      → IsTrapOf b.origin answer t → IsRunFault (run_called w sizes b answer old) t
+      → IsTrapOf b.origin answer t → IsStepsFault (run_called w sizes b answer old) t
   root_trapped answer old fault.Memory h = tt
   root_trapped (Ok answers) old (fault.Trap e) h = cc h
   root_trapped (Err trap) old (fault.Trap e) h =

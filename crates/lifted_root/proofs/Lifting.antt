@@ -25,13 +25,7 @@ pub record IsRoot (c : Comb) (bs : List Branch) : Type 0 where
 
 does_combine : (d : Does) (c : Comb) → comb_of d ≡ Some c → d ≡ does.Combine c
 does_combine (does.Combine k) c e = let same : k ≡ c = cc in ap does.Combine same
-does_combine (does.Call f) c e = cc
-does_combine does.Pair c e = cc
-does_combine does.TagLeft c e = cc
-does_combine does.TagRight c e = cc
-does_combine does.Split c e = cc
-does_combine does.Solo c e = cc
-does_combine does.Spread c e = cc
+does_combine _ c e = cc
 
 root_with : (c : Comb) (b : Branch) (more : List Twig) (bs : List Branch)
     → root_comb (Grow (label_at b 0 b.first) b.first.kids (twigs b 1 more (grown bs))) ≡ Some c

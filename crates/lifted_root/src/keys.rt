@@ -1,9 +1,5 @@
 // Accumulators in place of groups: the root of a lifted reducer finishes each, and the steps on the
 // root's outputs go on with what comes of it.
-ghost use Rattle.forest_steps.specs.Functions.{world_of};
-ghost use Rattle.forest_steps.specs.Running.{IsRun};
-ghost use Rattle.lifted_root.specs.Lifted.{run_partial, SafePartial};
-
 use crate::finish::finish_root;
 use combine_table::Comb;
 use exec_graph::Step;
@@ -44,35 +40,12 @@ impl<'a, F: Functions> Elements for Keys<'a, F> {
     fn step(&mut self, alloc: Global, outputs: &mut Outputs) -> Result<(), StepFault> {
         match self.partials.next() {
             None => Ok(()),
-            Some(partial) => run_root(
-                alloc,
-                self.functions,
-                self.sizes,
-                self.root,
-                self.comb,
-                partial,
-                outputs,
-            ),
+            Some(partial) => {
+                let root = self.root;
+                let emitted = finish_root(alloc, root.origin, self.comb, partial)?;
+                visit_one(alloc, self.functions, self.sizes, root, 0, emitted, outputs)?;
+                Ok(())
+            }
         }
     }
-}
-
-// What the root answers of a key, by its accumulator, goes to the steps on its outputs.
-fn run_root<F: Functions>(
-    alloc: Global,
-    functions: &F,
-    sizes: &[usize],
-    root: &Step,
-    comb: Comb,
-    partial: Partial,
-    outputs: &mut Outputs,
-) -> Result<(), StepFault>
-    requires { SafePartial (world_of (F.called functions.now)) (F.can_call functions.now)
-        root.now comb partial }
-    ensures { IsRun (run_partial (world_of (F.called functions.now)) sizes.now root.now comb partial
-        outputs.old) outputs.new result }
-{
-    let emitted = finish_root(alloc, root.origin, comb, partial)?;
-    visit_one(alloc, functions, sizes, root, 0, emitted, outputs)?;
-    Ok(())
 }

@@ -8,7 +8,7 @@ use Rattle.run_course.specs.inner.Course.{Delivers}
 use Rattle.run_texts.specs.Lines.{line_of}
 use Rattle.run_texts.specs.declared.status.Place.TheVariants.{File, Screen}
 use Rattle.run_texts.specs.declared.status.Status.{Status}
-use Rattle.run_texts.specs.declared.status.Status.TheVariants.{Done, GaveUp, Usage, ScriptRefused, InputRefused, Trap, ReadFault, WriteFault, WantOfMemory, TooLong, NoFile, PlanRefused}
+use Rattle.run_texts.specs.declared.status.Status.TheVariants.{Done, GaveUp, WriteFault, WantOfMemory}
 use Rattle.made_course.specs.Answers.{Answers}
 use Rattle.made_course.specs.Files.{files_for, line_for}
 use Rattle.made_course.specs.Runs.{WasSummed}
@@ -23,16 +23,7 @@ by_status w before after (WriteFault (File name)) ran is =
     record { files = is.0; line = is.1; ran = ran }
 by_status w before after (WriteFault Screen) ran is =
     record { files = is.0; text = is.1; ran = ran }
-by_status w before after Usage ran is = absurd is
-by_status w before after (ScriptRefused line kind) ran is = absurd is
-by_status w before after (InputRefused name row column kind) ran is = absurd is
-by_status w before after (Trap origin kind element) ran is = absurd is
-by_status w before after (ReadFault name) ran is = absurd is
-by_status w before after (GaveUp stage phase task) ran is = absurd is
-by_status w before after WantOfMemory ran is = absurd is
-by_status w before after (TooLong name limit) ran is = absurd is
-by_status w before after (NoFile name) ran is = absurd is
-by_status w before after (PlanRefused step kind) ran is = absurd is
+by_status w before after _ ran is = absurd is
 
 -- the files and the line that were written are those of the workload
 pub delivered : (w : Workload) (before after : World) (files : List NamedBytes) (text : List ℕ)
@@ -56,13 +47,4 @@ pub stopped : (w : Workload) (before after : World) (status : Status)
 stopped w before after WantOfMemory is same line = record { shelf = same; line = line }
 stopped w before after (GaveUp stage phase task) is same line =
     record { lost = is; refused = record { shelf = same; line = line } }
-stopped w before after Done is same line = absurd is
-stopped w before after (WriteFault place) is same line = absurd is
-stopped w before after Usage is same line = absurd is
-stopped w before after (ScriptRefused number kind) is same line = absurd is
-stopped w before after (InputRefused name row column kind) is same line = absurd is
-stopped w before after (Trap origin kind element) is same line = absurd is
-stopped w before after (ReadFault name) is same line = absurd is
-stopped w before after (TooLong name limit) is same line = absurd is
-stopped w before after (NoFile name) is same line = absurd is
-stopped w before after (PlanRefused step kind) is same line = absurd is
+stopped w before after _ is same line = absurd is

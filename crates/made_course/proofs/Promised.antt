@@ -12,26 +12,19 @@ use Rattle.run_course.specs.World.{Keeps, World}
 use Rattle.run_settings.specs.Settings.{standard}
 use Rattle.run_texts.specs.declared.status.Place.TheVariants.{File, Screen}
 use Rattle.run_texts.specs.declared.status.Status.{Status}
-use Rattle.run_texts.specs.declared.status.Status.TheVariants.{Done, GaveUp, Usage, ScriptRefused, InputRefused, Trap, ReadFault, WriteFault, WantOfMemory, TooLong, NoFile, PlanRefused}
+use Rattle.run_texts.specs.declared.status.Status.TheVariants.{Done, GaveUp, WriteFault, WantOfMemory}
 use Rattle.made_course.specs.Answers.{Answers}
 use Rattle.made_course.specs.Files.{files_for}
-use Rattle.made_course.specs.Makes.{CanMake, IsAnswer, Makes}
+use Rattle.made_course.specs.Makes.{CanEndMake, IsMakeAnswer, Makes}
 use Rattle.made_course.specs.Runs.{AsksHosts, WasGivenUp}
 
 only : (w : Workload) (before after : World) (status : Status) → Answers w before after status
-    → IsAnswer status
+    → IsMakeAnswer status
 only w before after Done is = tt
 only w before after (WriteFault place) is = tt
 only w before after (GaveUp stage phase task) is = tt
 only w before after WantOfMemory is = tt
-only w before after Usage is = absurd is
-only w before after (ScriptRefused line kind) is = absurd is
-only w before after (InputRefused name row column kind) is = absurd is
-only w before after (Trap origin kind element) is = absurd is
-only w before after (ReadFault name) is = absurd is
-only w before after (TooLong name limit) is = absurd is
-only w before after (NoFile name) is = absurd is
-only w before after (PlanRefused step kind) is = absurd is
+only w before after _ is = absurd is
 
 -- hosts that are down less than twice lose no task
 not_given_up : (w : Workload) (olds news : List Account) (stage : ℕ) (phase : Phase) (task : ℕ)
@@ -44,21 +37,14 @@ not_given_up w olds news stage phase task it calm =
     lost.risen)
 
 complete : (w : Workload) (before after : World) (status : Status) → Answers w before after status
-    → CanMake before after → (status ≡ WantOfMemory) ⊎ (status ≡ Done)
+    → CanEndMake before after → (status ≡ WantOfMemory) ⊎ (status ≡ Done)
 complete w before after Done is can = inr refl
 complete w before after WantOfMemory is can = inl refl
 complete w before after (WriteFault (File name)) is can = absurd (can.shelf is.files.4.faults)
 complete w before after (WriteFault Screen) is can = absurd (can.screen is.text.faults)
 complete w before after (GaveUp stage phase task) is can =
     absurd (not_given_up w before.hosts after.hosts stage phase task is.lost can.hosts)
-complete w before after Usage is can = absurd is
-complete w before after (ScriptRefused line kind) is can = absurd is
-complete w before after (InputRefused name row column kind) is can = absurd is
-complete w before after (Trap origin kind element) is can = absurd is
-complete w before after (ReadFault name) is can = absurd is
-complete w before after (TooLong name limit) is can = absurd is
-complete w before after (NoFile name) is can = absurd is
-complete w before after (PlanRefused step kind) is can = absurd is
+complete w before after _ is can = absurd is
 
 ended : (w : Workload) (before after : World) (status : Status) → before.shelf.begun ≡ false
     → Answers w before after status → IsEnded status after.shelf
@@ -70,14 +56,7 @@ ended w before after (WriteFault Screen) none is =
     begun_then (files_for w) before.shelf after.shelf none is.files.begun
 ended w before after (GaveUp stage phase task) none is =
     same_begun before.shelf after.shelf none is.refused.shelf
-ended w before after Usage none is = absurd is
-ended w before after (ScriptRefused line kind) none is = absurd is
-ended w before after (InputRefused name row column kind) none is = absurd is
-ended w before after (Trap origin kind element) none is = absurd is
-ended w before after (ReadFault name) none is = absurd is
-ended w before after (TooLong name limit) none is = absurd is
-ended w before after (NoFile name) none is = absurd is
-ended w before after (PlanRefused step kind) none is = absurd is
+ended w before after _ none is = absurd is
 
 left : (w : Workload) (before after : World) (status : Status) → before.shelf.begun ≡ false
     → Answers w before after status → after.shelf.left ≡ before.shelf.left
@@ -90,14 +69,7 @@ left w before after (WriteFault Screen) none is =
     left_then (files_for w) before.shelf after.shelf none is.files.left
 left w before after (GaveUp stage phase task) none is =
     same_left before.shelf after.shelf is.refused.shelf
-left w before after Usage none is = absurd is
-left w before after (ScriptRefused line kind) none is = absurd is
-left w before after (InputRefused name row column kind) none is = absurd is
-left w before after (Trap origin kind element) none is = absurd is
-left w before after (ReadFault name) none is = absurd is
-left w before after (TooLong name limit) none is = absurd is
-left w before after (NoFile name) none is = absurd is
-left w before after (PlanRefused step kind) none is = absurd is
+left w before after _ none is = absurd is
 
 pub makes : (w : Workload) (before after : World) (status : Status)
     → Answers w before after status → Keeps before after → after.source ≡ before.source

@@ -18,7 +18,7 @@ use Rattle.run_course.specs.Lent.{lent}
 use Rattle.run_settings.specs.Settings.{RunSettings, standard}
 use Rattle.run_course.specs.of_script_plans.Plans.{IsScriptPlan}
 use Rattle.script_program.specs.Script.{Script}
-use Rattle.run_course.specs.of_script_run.Comes.{AreMembers}
+use Rattle.run_course.specs.of_script_run.Comes.{AreMembersOf}
 use Rattle.run_course.specs.of_script_run.Runs.{AsksSomePhases, IsFirstTrap, IsRan, IsRunFault, phases_of}
 use Rattle.run_course.specs.of_script_run.declared.run.Ran.{Ran}
 use Rattle.made_rows.specs.Means.{MeansSums}
@@ -58,11 +58,12 @@ module _ (w : Workload) (means : MeansSums w.start w.rows) where
 
   first_output : (lists : List (List Value)) (made : List (Option Collection))
       → made ≡ means.table
-      → AllZip (λ output members. AreMembers made output.1.reads members) sums_script.outputs lists
+      → AllZip (λ output members. AreMembersOf made output.1.reads members) sums_script.outputs
+      lists
       → lists ≡ sums_for w ∷ []
   first_output [] made same all = absurd all
   first_output (members ∷ []) made same all =
-      let own = subst (λ (t : List (Option Collection)). AreMembers t 3 members) same all.0 in
+      let own = subst (λ (t : List (Option Collection)). AreMembersOf t 3 members) same all.0 in
       ap (λ l. l ∷ []) (members_are (made_at means.table 3) members means.sums own)
   first_output (members ∷ more ∷ lists) made same all = absurd all.1
 

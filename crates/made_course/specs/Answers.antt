@@ -4,7 +4,7 @@ use Rattle.command_words.specs.declared.workload.Workload.{Workload}
 use Rattle.outside.specs.Saves.{HasFiles}
 use Rattle.outside.specs.Says.{HasLine}
 use Rattle.outside.specs.declared.host.Phase.{Phase}
-use Rattle.run_course.specs.Answers.{FailsAtFile, HasText, IsCutOff, IsRefused}
+use Rattle.run_course.specs.Answers.{FailsAtFile, HasShown, IsCutOff, IsRefused}
 use Rattle.run_course.specs.World.{World}
 use Rattle.run_texts.specs.Lines.{line_of}
 use Rattle.run_texts.specs.declared.status.Place.{Place}
@@ -18,7 +18,7 @@ use Rattle.made_course.specs.Runs.{WasGivenUp, WasSummed}
 -- the sums was run
 pub record IsDone (w : Workload) (before after : World) : Type 0 where
   pub files : HasFiles (files_for w) before.shelf after.shelf
-  pub text : HasText (line_for w) before.screen after.screen
+  pub text : HasShown (line_for w) before.screen after.screen
   pub ran : WasSummed w before.hosts after.hosts
 
 -- WriteFault of a file: the sums were worked out, and the shelf failed at the file of this name

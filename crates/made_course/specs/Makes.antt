@@ -16,15 +16,15 @@ use Rattle.made_course.specs.Answers.{IsDone, IsFileFault, IsGaveUp, IsScreenFau
 use Rattle.made_course.specs.Runs.{AsksHosts}
 
 -- the answers that there are
-abbrev pub IsAnswer : Status → Type 0
-IsAnswer Done = ⊤
-IsAnswer (WriteFault place) = ⊤
-IsAnswer (GaveUp stage phase task) = ⊤
-IsAnswer WantOfMemory = ⊤
-IsAnswer status = ⊥
+abbrev pub IsMakeAnswer : Status → Type 0
+IsMakeAnswer Done = ⊤
+IsMakeAnswer (WriteFault place) = ⊤
+IsMakeAnswer (GaveUp stage phase task) = ⊤
+IsMakeAnswer WantOfMemory = ⊤
+IsMakeAnswer status = ⊥
 
 -- neither the shelf nor the screen fails, and the lent hosts are down less than twice
-pub record CanMake (before after : World) : Type 0 where
+pub record CanEndMake (before after : World) : Type 0 where
   pub shelf : Rose before.shelf.faults after.shelf.faults → ⊥
   pub screen : Rose before.screen.faults after.screen.faults → ⊥
   pub hosts : HaveRisen 2 (lent standard before.hosts) (lent standard after.hosts) → ⊥
@@ -42,9 +42,9 @@ pub record Makes (w : Workload) (before after : World) (status : Status) : Type 
   pub screen_fault : status ≡ WriteFault Screen → IsScreenFault w before after
   pub no_memory : status ≡ WantOfMemory → IsRefused WantOfMemory before after
   -- there is no other answer
-  pub only : IsAnswer status
+  pub only : IsMakeAnswer status
   -- where nothing fails twice it is done, or no memory was found
-  pub complete : CanMake before after → (status ≡ WantOfMemory) ⊎ (status ≡ Done)
+  pub complete : CanEndMake before after → (status ≡ WantOfMemory) ⊎ (status ≡ Done)
   -- the source is asked for nothing
   pub source : after.source ≡ before.source
   -- what hosts were asked for: nothing, or some front of the phases of the plan of the sums

@@ -1,7 +1,7 @@
 // The course of `make`: every growth comes first, then the files, then the screen.
 ghost use Rattle.std.specs.Prelude.{◌≡◌, ◌≤◌, IfErr, IfOk, Some, codes, drop, length, map, slice_get};
 ghost use Rattle.std.specs.List.{AllZip};
-ghost use Rattle.command_words.specs.Workloads.{IsWithin};
+ghost use Rattle.command_words.specs.Workloads.{IsWithinLimits};
 ghost use Rattle.crew.specs.Hosts.{Grew};
 ghost use Rattle.made_course.specs.Files.{files_for, line_for, sums_for};
 ghost use Rattle.made_course.specs.Makes.{Makes};
@@ -37,7 +37,7 @@ pub fn make<X: Threads + Sync, H: Host + Send, K: Shelf, P: Screen>(
     shelf: &mut K,
     screen: &mut P,
 ) -> Status
-    requires within { IsWithin workload }
+    requires within { IsWithinLimits workload }
     requires sixteen { length hosts.old ≡ 16 }
     ensures promises { (source : SeenSource) → Makes workload
         (world source (K.seen shelf.old) (P.seen screen.old) (map H.account hosts.old))
@@ -54,13 +54,14 @@ pub fn make<X: Threads + Sync, H: Host + Send, K: Shelf, P: Screen>(
 }
 
 // Does all but the writing. Every growth of a call is here.
+#[tactic(auto, using(crew::proofs::Accounts::all_grew_not))]
 fn prepare<X: Threads + Sync, H: Host + Send>(
     rt: &X,
     alloc: Global,
     workload: Workload,
     hosts: &mut [H],
 ) -> Result<Written, Status>
-    requires within { IsWithin workload }
+    requires within { IsWithinLimits workload }
     requires sixteen { length hosts.old ≡ 16 }
     ensures files { IfOk result (λ it. map output_file it.outputs.items ≡ files_for workload) }
     ensures line { IfOk result (λ it. it.screen.items ≡ line_for workload) }
@@ -73,35 +74,24 @@ fn prepare<X: Threads + Sync, H: Host + Send>(
     ensures hosts { drop standard.workers hosts.new ≡ drop standard.workers hosts.old }
 {
     let program = sums_ready(alloc)?;
-    summed(rt, alloc, &program, workload, hosts)
-}
-
-// What is written, by a run of the script of the sums.
-fn summed<X: Threads + Sync, H: Host + Send>(
-    rt: &X,
-    alloc: Global,
-    program: &ReadyProgram,
-    workload: Workload,
-    hosts: &mut [H],
-) -> Result<Written, Status>
-    requires script { program.now.script ≡ sums_script }
-    requires within { IsWithin workload }
-    requires sixteen { length hosts.old ≡ 16 }
-    ensures files { IfOk result (λ it. map output_file it.outputs.items ≡ files_for workload) }
-    ensures line { IfOk result (λ it. it.screen.items ≡ line_for workload) }
-    ensures ran { IfOk result (λ it. WasSummed workload
-        (map H.account hosts.old) (map H.account hosts.new)) }
-    ensures stop { IfErr result (IsStop workload (map H.account hosts.old)
-        (map H.account hosts.new)) }
-    ensures asked { AsksHosts workload (map H.account hosts.old) (map H.account hosts.new) }
-    ensures grew { AllZip Grew (map H.account hosts.old) (map H.account hosts.new) }
-    ensures hosts { drop standard.workers hosts.new ≡ drop standard.workers hosts.old }
-{
-    match sums_run(rt, alloc, program, workload, hosts) {
-        Ok(ran) => Ok(written_out(alloc, program, workload, first_of(outputs_of(ran)))?),
-        Err(RunFault::GaveUp { stage, phase, task }) => Err(Status::GaveUp { stage, phase, task }),
-        Err(RunFault::Memory) => Err(Status::WantOfMemory),
-        Err(RunFault::Trap(_)) => unreachable!(),
+    match sums_run(rt, alloc, &program, workload, hosts) {
+        Ok(ran) => {
+            let sums = first_of(outputs_of(ran));
+            let written = written_out(alloc, &program, workload, &sums);
+            program.let_go();
+            let out = written?;
+            Ok(out)
+        }
+        Err(fault) => {
+            program.let_go();
+            match fault {
+                RunFault::GaveUp { stage, phase, task } => {
+                    Err(Status::GaveUp { stage, phase, task })
+                }
+                RunFault::Memory => Err(Status::WantOfMemory),
+                RunFault::Trap(_) => unreachable!(),
+            }
+        }
     }
 }
 
@@ -130,11 +120,11 @@ fn written_out(
     alloc: Global,
     program: &ReadyProgram,
     workload: Workload,
-    sums: Items,
+    sums: &Items,
 ) -> Result<Written, AllocError>
-    requires within { IsWithin workload }
+    requires within { IsWithinLimits workload }
     requires script { program.now.script ≡ sums_script }
-    requires sums { sums ≡ sums_for workload }
+    requires sums { sums.now ≡ sums_for workload }
     ensures files { IfOk result (λ it. map output_file it.outputs.items ≡ files_for workload) }
     ensures line { IfOk result (λ it. it.screen.items ≡ line_for workload) }
 {
@@ -148,7 +138,7 @@ fn written_out(
 
 // The file of the made input.
 fn made_file(alloc: Global, workload: Workload) -> Result<Output, AllocError>
-    requires { IsWithin workload }
+    requires { IsWithinLimits workload }
     ensures { IfOk result (λ file. output_file file ≡ record {
       name = codes "made.csv";
       bytes = made_text workload.start workload.rows;

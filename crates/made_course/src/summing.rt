@@ -1,7 +1,7 @@
 // The run of the script of the sums over made rows.
 ghost use Rattle.std.specs.Prelude.{◌≡◌, ◌∷◌, [], IfOk, drop, length, map};
 ghost use Rattle.std.specs.List.{AllZip};
-ghost use Rattle.command_words.specs.Workloads.{IsWithin};
+ghost use Rattle.command_words.specs.Workloads.{IsWithinLimits};
 ghost use Rattle.crew.specs.Hosts.{Grew};
 ghost use Rattle.made_course.specs.Files.{rows_of};
 ghost use Rattle.made_course.specs.Runs.{AsksHosts};
@@ -34,6 +34,7 @@ pub fn sums_ready(alloc: Global) -> Result<ReadyProgram, AllocError>
 }
 
 /// The run of the script over the rows of a workload, by the usual settings.
+#[tactic(auto, using(crew::proofs::Accounts::all_grew_not))]
 pub fn sums_run<X: Threads + Sync, H: Host + Send>(
     rt: &X,
     alloc: Global,
@@ -42,39 +43,7 @@ pub fn sums_run<X: Threads + Sync, H: Host + Send>(
     hosts: &mut [H],
 ) -> Result<Ran, RunFault>
     requires script { program.now.script ≡ sums_script }
-    requires within { IsWithin workload }
-    requires sixteen { length hosts.old ≡ 16 }
-    ensures comes { ComesTo workload (map H.account hosts.old) (map H.account hosts.new) result }
-    ensures asked { AsksHosts workload (map H.account hosts.old) (map H.account hosts.new) }
-    ensures grew { AllZip Grew (map H.account hosts.old) (map H.account hosts.new) }
-    ensures hosts { drop standard.workers hosts.new ≡ drop standard.workers hosts.old }
-{
-    let plan = sums_plan(alloc, program)?;
-    plan_run(rt, alloc, program, &plan, workload, hosts)
-}
-
-// The plan of the script.
-fn sums_plan(alloc: Global, program: &ReadyProgram) -> Result<Plan, AllocError>
-    ensures optimised { IfOk result (λ plan. IsScriptPlan program.now.script plan) }
-    ensures of_script { IfOk result (λ plan. IsPlanOf program.now.script plan) }
-{
-    let ShownPlan { plan, text: _ } = plan_shown(alloc, program)?;
-    Ok(plan)
-}
-
-// The run of the script's plan over the rows of a workload, by the usual settings.
-fn plan_run<X: Threads + Sync, H: Host + Send>(
-    rt: &X,
-    alloc: Global,
-    program: &ReadyProgram,
-    plan: &Plan,
-    workload: Workload,
-    hosts: &mut [H],
-) -> Result<Ran, RunFault>
-    requires script { program.now.script ≡ sums_script }
-    requires optimised { IsScriptPlan program.now.script plan.now }
-    requires of_script { IsPlanOf program.now.script plan.now }
-    requires within { IsWithin workload }
+    requires within { IsWithinLimits workload }
     requires sixteen { length hosts.old ≡ 16 }
     ensures comes { ComesTo workload (map H.account hosts.old) (map H.account hosts.new) result }
     ensures asked { AsksHosts workload (map H.account hosts.old) (map H.account hosts.new) }
@@ -83,17 +52,27 @@ fn plan_run<X: Threads + Sync, H: Host + Send>(
 {
     made_rows_law();
     sums_law();
-    let inputs = inputs_made(alloc, workload)?;
+    let (inputs, plan) = to_run(alloc, program, workload)?;
     let settings = Settings::standard(alloc);
-    ran_on(rt, alloc, program, plan, inputs, hosts, &settings)
+    let ran = ran_on(rt, alloc, program, &plan, inputs, hosts, &settings);
+    drop(plan);
+    ran
 }
 
-// The rows of the script's one input.
-fn inputs_made(alloc: Global, workload: Workload) -> Result<Pile<Items>, AllocError>
-    requires { IsWithin workload }
-    ensures { IfOk result (λ inputs. inputs ≡ rows_of workload ∷ []) }
+// The rows of the script's one input, and its plan.
+fn to_run(
+    alloc: Global,
+    program: &ReadyProgram,
+    workload: Workload,
+) -> Result<(Pile<Items>, Plan), AllocError>
+    requires { IsWithinLimits workload }
+    ensures inputs { IfOk result (λ it. it.0 ≡ rows_of workload ∷ []) }
+    ensures optimised { IfOk result (λ it. IsScriptPlan program.now.script it.1) }
+    ensures of_script { IfOk result (λ it. IsPlanOf program.now.script it.1) }
 {
     let mut inputs = Pile::new(alloc);
     inputs.push(rows_made(alloc, workload.start, workload.rows)?)?;
-    Ok(inputs)
+    let ShownPlan { plan, text } = plan_shown(alloc, program)?;
+    drop(text);
+    Ok((inputs, plan))
 }

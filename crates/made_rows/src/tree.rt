@@ -7,7 +7,8 @@
 //     let g = group p
 //     let s = combine g by sum
 //     output s to "sums.csv"
-ghost use Rattle.std.specs.Prelude.{◌≡◌, ◌≤◌, IfOk, length};
+ghost use Rattle.std.specs.Prelude.{◌≡◌, ◌≤◌, ◌∷◌, [], IfOk, length};
+ghost use Rattle.flume_grammar.specs.declared.tree.Form.TheVariants as form;
 ghost use Rattle.made_rows.specs.Sums as spec;
 
 use flume_grammar::{Ast, Body, Combiner, Expr, Form, Function, Operation, Statement, Type};
@@ -22,12 +23,15 @@ pub(crate) fn sums_tree(alloc: Global) -> Result<Ast, AllocError>
     statements.push(type_statement(alloc)?)?;
     statements.push(input_statement(alloc))?;
     statements.push(function_statement(alloc)?)?;
+    let names = only(alloc, b"p")?;
     let pairs = Operation::Do(word(alloc, b"made"), word(alloc, b"pair"));
-    statements.push(let_statement(alloc, 4, b"p", pairs)?)?;
+    statements.push(let_statement(4, names, pairs))?;
+    let names = only(alloc, b"g")?;
     let groups = Operation::Group(word(alloc, b"p"));
-    statements.push(let_statement(alloc, 5, b"g", groups)?)?;
+    statements.push(let_statement(5, names, groups))?;
+    let names = only(alloc, b"s")?;
     let sums = Operation::Combine(word(alloc, b"g"), Combiner::Sum);
-    statements.push(let_statement(alloc, 6, b"s", sums)?)?;
+    statements.push(let_statement(6, names, sums))?;
     statements.push(output_statement(alloc))?;
     Ok(Ast { statements })
 }
@@ -129,21 +133,23 @@ fn field(alloc: Global, name: Str) -> Result<Expr, AllocError>
     Ok(Expr::Field(of, name))
 }
 
-// A `let` of the script, of one name.
-fn let_statement(
-    alloc: Global,
-    line: u32,
-    name: &[u8],
-    by: Operation,
-) -> Result<Statement, AllocError>
+// The one name that a `let` of the script has.
+fn only(alloc: Global, name: &[u8]) -> Result<Pile<Str>, AllocError>
     requires { length name.now ≤ 22 }
-    ensures { IfOk result (λ statement. statement ≡ spec.let_statement line name.now by) }
+    ensures { IfOk result (λ names. names ≡ name.now ∷ []) }
 {
     let names = Vec::from_array(alloc, [word(alloc, name)])?;
-    Ok(Statement {
+    Ok(Pile::from_vec(names))
+}
+
+// A `let` of the script.
+fn let_statement(line: u32, names: Pile<Str>, by: Operation) -> Statement
+    ensures { result ≡ record { line = line; form = form.Let names by } }
+{
+    Statement {
         line,
-        form: Form::Let(Pile::from_vec(names), by),
-    })
+        form: Form::Let(names, by),
+    }
 }
 
 // `output s to "sums.csv"`

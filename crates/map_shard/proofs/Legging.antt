@@ -22,7 +22,7 @@ use Rattle.exec_plan.specs.declared.plan.Take.{Take}
 use Rattle.task_safety.specs.of_task_lists.Runs.{all_given, counts_of, gives, kept_count, output_at, traps_of, visits_of}
 use Rattle.task_safety.specs.of_task_lists.Typing.{AreGroupable}
 use Rattle.task_safety.proofs.of_forest_courses.Counting.{emits, emits_length, emits_more, plus}
-use Rattle.task_safety.specs.of_forest_courses.Courses.{IsCourse, IsMade}
+use Rattle.task_safety.specs.of_forest_courses.Courses.{IsCourse, IsUntrapped}
 use Rattle.forest_steps.specs.Running.{Given}
 use Rattle.forest_steps.specs.Safety.{SafeOf}
 use Rattle.map_shard.specs.declared.filling.Filling.{Filling}
@@ -185,7 +185,7 @@ pub given_fit : (w : World) (m : ℕ) (does : Option Forest) (os : List OutChann
     → came ≡ Ok given → AllByRecursion (CanSend m (all_given w does xs)) os
     → AllByRecursion (CanSend m given.lists) os
 given_fit w m does os xs came given course is =
-    let made : IsMade w does xs given = subst (IsCourse w does xs) is course in
+    let made : IsUntrapped w does xs given = subst (IsCourse w does xs) is course in
     subst (λ (ls : List (List Value)). AllByRecursion (CanSend m ls) os) (sym made.lists)
 
 -- ---- the first leg

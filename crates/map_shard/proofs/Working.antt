@@ -22,7 +22,7 @@ use Rattle.forest_steps.specs.Safety.{SafeOf}
 use Rattle.task_safety.proofs.of_forest_courses.Worlds.{same_counts, same_gives, same_traps}
 use Rattle.task_safety.specs.Taking.{taking}
 use Rattle.task_safety.proofs.Taken.{same_beside}
-use Rattle.map_shard.specs.Work.{Work, CanWork, IsReady, IsWorkValue, lists_of, shard_task, split_of, task_at, work_count}
+use Rattle.map_shard.specs.Work.{Work, CanWork, CanRunShard, IsWorkValue, lists_of, shard_task, split_of, task_at, work_count}
 use Rattle.map_shard.specs.declared.legs.Steps.{Steps}
 use Rattle.map_shard.specs.inner.Legs.{CanRunIn, IsWholeOr}
 use Rattle.map_shard.specs.inner.Sending.{CanSend}
@@ -94,7 +94,7 @@ module _ {F : Type 0} {w : World} {takes : ℕ → Value → Type 0} {work : Wor
       let same : work.shards ≤ work.shards = omega arith in
       (row_below_turned k work.shards (length work.stage.inputs) work.shards is_task same).1
 
-  ready : IsReady w takes work (k / work.shards) (k % work.shards)
+  ready : CanRunShard w takes work (k / work.shards) (k % work.shards)
   ready = can.ready (k / work.shards) (k % work.shards) channel_below (mod-lt k can.shards)
 
   -- the channel that it reads, its elements, and the value beside which its steps are called

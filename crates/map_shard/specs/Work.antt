@@ -94,7 +94,8 @@ IsFit ins given (Group g) =
 
 -- the steps of shard i of input channel m may be called on its elements, beside the value of its
 -- object where there is one, and what they give is fit for the output channels
-pub record IsReady {F : Type 0} (w : World) (takes : ℕ → Value → Type 0) (work : Work F) (m i : ℕ)
+pub record CanRunShard {F : Type 0} (w : World) (takes : ℕ → Value → Type 0) (work : Work F)
+    (m i : ℕ)
     : Type 0 where
   pub safe : AllByRecursion (SafeOf (world_for w (shard_task work m i))
       (taking (shard_task work m i).beside takes) (shard_task work m i).does)
@@ -109,7 +110,7 @@ pub record CanWork {F : Type 0} (w : World) (takes : ℕ → Value → Type 0) (
   pub few : length work.stage.inputs * work.shards < 2 ^ 32
   pub steps : AllByRecursion (λ c. IsNumbered c.does) work.stage.inputs
   pub ready : (m i : ℕ) → m < length work.stage.inputs → i < work.shards
-      → IsReady w takes work m i
+      → CanRunShard w takes work m i
 
 -- ---- what is right to give
 

@@ -7,7 +7,7 @@ ghost use Rattle.partial_tables.specs.Lifted.{IsLifted};
 ghost use Rattle.partial_tables.specs.Merges.{IsCombinable};
 ghost use Rattle.shuffle_parts.specs.Partitions.{parted};
 ghost use Rattle.task_safety.specs.of_task_lists.Typing.{AreGroupable};
-ghost use Rattle.map_shard.specs.inner.Fillings.{AreFilled, AreLifted, AreParted, ArePassed, IsFilling, sent_of};
+ghost use Rattle.map_shard.specs.inner.Fillings.{AreFilled, AreParted, ArePassed, IsFilling, sent_of};
 ghost use Rattle.map_shard.specs.inner.Sending.{IsSendable};
 
 use combine_table::Comb;
@@ -103,7 +103,14 @@ fn fill_groups(
 {
     match lifted {
         None => fill_parts(filling, pairs, partitions),
-        Some(comb) => fill_lifted(alloc, comb, filling, pairs, partitions),
+        Some(comb) => match filling {
+            Filling::Combined(parts) => {
+                let parts = lift_emitted(alloc, comb, parts, pairs, partitions)?;
+                Ok(Filling::Combined(parts))
+            }
+            Filling::Passed(_) => unreachable!(),
+            Filling::Grouped(_) => unreachable!(),
+        },
     }
 }
 
@@ -121,29 +128,6 @@ fn fill_parts(filling: Filling, pairs: Emitted, partitions: u32) -> Result<Filli
         }
         Filling::Passed(_) => unreachable!(),
         Filling::Combined(_) => unreachable!(),
-    }
-}
-
-fn fill_lifted(
-    alloc: Global,
-    comb: Comb,
-    filling: Filling,
-    pairs: Emitted,
-    partitions: u32,
-) -> Result<Filling, AllocError>
-    requires some { 0 < partitions }
-    requires stands { (done : List GhostValue) × AreLifted comb partitions filling done }
-    requires pairs { AreGroupable (Some comb) pairs }
-    ensures { (done : List GhostValue) → AreLifted comb partitions filling done →
-        IfOk result (λ more. AreLifted comb partitions more (done ++ pairs)) }
-{
-    match filling {
-        Filling::Combined(parts) => {
-            let parts = lift_emitted(alloc, comb, parts, pairs, partitions)?;
-            Ok(Filling::Combined(parts))
-        }
-        Filling::Passed(_) => unreachable!(),
-        Filling::Grouped(_) => unreachable!(),
     }
 }
 

@@ -153,8 +153,5 @@ fn next_list(alloc: Global, given: &mut IntoIter<Emitted>) -> Emitted
     ensures next { result ≡ or_none (slice_get given.old.rest.items 0) }
     ensures rest { given.new.rest.items ≡ drop 1 given.old.rest.items }
 {
-    match given.next() {
-        Some(list) => list,
-        None => Emitted::new(alloc),
-    }
+    given.next().unwrap_or(Emitted::new(alloc))
 }

@@ -1,6 +1,7 @@
 -- The operations by the roles of a graph's nodes are those of the graph.
-use Rattle.std.proofs.Common.{◌≡◌, ◌+◌, ◌*◌, ◌<◌, ℕ, Bool, true, false, cond, eqb, ◌&&◌, ◌||◌, List, [], ◌∷◌, map, length, Option, Some, None, suc, refl, sym, ap, ◌∙◌, subst, arith}
+use Rattle.std.proofs.Common.{◌≡◌, ◌+◌, ◌*◌, ◌<◌, ℕ, Bool, true, false, cond, eqb, ◌&&◌, ◌||◌, List, [], ◌∷◌, ◌++◌, map, length, Option, Some, None, suc, refl, sym, ap, ap₂, ◌∙◌, subst, arith}
 use Rattle.std.proofs.lemmas.Bool.{eqb-true}
+use Rattle.std.proofs.lemmas.List.Concat.{flat_map_single}
 use Rattle.std.specs.List.{flat_map, AllByRecursion as Each}
 use Rattle.flume_value.proofs.EachLemmas.{Each-append}
 use Rattle.exec_graph.specs.Forests.{Forest}
@@ -100,13 +101,17 @@ passes_same b (Mapper n) h =
     ap passes_in_role (role_is b n) ∙ passes_by b n (node_at b.graph.nodes n) h
 passes_same b (Whole c) h = refl
 
+-- the same lists of the same elements
+each_same : {X A : Type 0} (P : X → Type 0) (f g : X → List A) → ((x : X) → P x → f x ≡ g x)
+    → (xs : List X) → Each P xs → flat_map f xs ≡ flat_map g xs
+each_same P f g h [] a = refl
+each_same P f g h (x ∷ xs) a =
+    ap₂ (λ ys zs. ys ++ zs) (h x a.0) (each_same P f g h xs a.1)
+
 all_passes_same : (b : Blocked) (ks : List Key) → Each (IsMapperKey b) ks
     → flat_map (key_passes_with (roles b)) ks ≡ flat_map (key_passes b) ks
-all_passes_same b [] a = refl
-all_passes_same b (k ∷ ks) a =
-    let i = all_passes_same b ks a.1 in
-    let j = passes_same b k a.0 in
-    cc
+all_passes_same b ks a =
+    each_same (IsMapperKey b) (key_passes_with (roles b)) (key_passes b) (passes_same b) ks a
 
 reducer_by : (b : Blocked) (n : ℕ) (o : Option Node) → IsGbkAt o
     → reducer_in_role (role_at_node b n o) ≡ reducer_of b n
@@ -120,11 +125,11 @@ grouped_same b n h =
 
 groups_same : (b : Blocked) (ns : List ℕ) → Each (IsGbk b) ns
     → map (grouped_with (roles b)) ns ≡ map (grouped b) ns
-groups_same b [] a = refl
-groups_same b (n ∷ ns) a =
-    let i = groups_same b ns a.1 in
-    let j = grouped_same b n a.0 in
-    cc
+groups_same b ns a =
+    sym (flat_map_single (grouped_with (roles b)) ns)
+    ∙ each_same (IsGbk b) (λ n. grouped_with (roles b) n ∷ []) (λ n. grouped b n ∷ [])
+    (λ n h. ap (λ (g : Grouped). g ∷ []) (grouped_same b n h)) ns a
+    ∙ flat_map_single (grouped b) ns
 
 level_by : (b : Blocked) (n : ℕ) (o : Option Node) → IsGbkAt o
     → level_in_role (role_at_node b n o) ≡ level b.graph.nodes n

@@ -23,7 +23,7 @@ use Rattle.exec_graph.specs.Calls.{called, emitted, of_combine, of_group}
 use Rattle.exec_graph.specs.Derived.{left_tagged, right_tagged, split, spread, under_zero, with_one}
 use Rattle.exec_graph.specs.Forests.{Label, Forest, Bare, Grow}
 use Rattle.exec_graph.specs.Meaning.{IsSound, IsThere, collection, reads, through}
-use Rattle.exec_graph.specs.Typing.{Answers, ForestTyped, IsTypedBy, IsWorldTyped, NodeTyped, Signatures, StepTyped}
+use Rattle.exec_graph.specs.Typing.{EmitsTyped, ForestTyped, IsTypedBy, IsWorldTyped, NodeTyped, Signatures, StepTyped}
 use Rattle.exec_graph.specs.World.{World}
 use Rattle.exec_graph.specs.declared.graph.Entry.{Entry}
 use Rattle.exec_graph.specs.declared.graph.Graph.{Graph}
@@ -35,12 +35,12 @@ use Rattle.exec_graph.specs.declared.step.Does.TheVariants as does
 use Rattle.exec_graph.proofs.Typed.{members_have, step_typed}
 use Rattle.script_laws.proofs.MemberLemmas.{within, zip_length}
 use Rattle.no_defaults.specs.Readings.{HasOutput, IsListed}
-use Rattle.no_defaults.specs.Steps.{ForestFinds, IsTaken, NodeFinds, StepFinds}
+use Rattle.no_defaults.specs.Steps.{ForestFinds, SuitsStep, NodeFinds, StepFinds}
 
 -- ---- answers
 
 call_has : (gives : List Ty) (at : ℕ) (u : Ty) → slice_get gives at ≡ Some u → (answer : Called)
-    → Answers gives answer → HasOutput at answer
+    → EmitsTyped gives answer → HasOutput at answer
 call_has gives at u is (Ok outputs) have =
     subst (λ n. at < n) (zip_length AllHave gives outputs have) (within gives at u is)
 call_has gives at u is (Err trap) have = tt
@@ -75,7 +75,7 @@ is_listed key value t is x h =
 -- ---- steps
 
 step_finds : (s : Signatures) (w : World) → IsWorldTyped s w → (d : Does) (at : ℕ) (t u : Ty)
-    → StepTyped s d at t u → (x : Value) → Has t x → IsTaken d x × HasOutput at (called w d x)
+    → StepTyped s d at t u → (x : Value) → Has t x → SuitsStep d x × HasOutput at (called w d x)
 unfolding called
 step_finds s w world (does.Call f) at t u a x h = (
   tt,

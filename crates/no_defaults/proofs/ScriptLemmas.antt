@@ -24,7 +24,7 @@ use Rattle.script_program.specs.declared.made.Emitted.{Emitted}
 use Rattle.script_program.specs.declared.made.Made.{Made}
 use Rattle.script_program.specs.declared.made.Made.TheVariants as made
 use Rattle.script_program.specs.declared.made.Output.{Output}
-use Rattle.script_laws.specs.WellFormed.{HasColumns, IsArgument, IsCallOf, IsDone, IsNameOf, IsWellFormed, function_at, members_at, object_at}
+use Rattle.script_laws.specs.WellFormed.{HasColumns, IsArgument, IsCallOf, ComesOfDo, IsNameOf, IsWellFormed, function_at, members_at, object_at}
 use Rattle.script_laws.specs.WellFormed.{IsDoneWith as DoesWith, IsOperated as Operates}
 use Rattle.bag_laws.specs.of_direct_meaning.Calls.{answer_of}
 use Rattle.bag_laws.specs.of_direct_meaning.Direct.{all_made, made_at}
@@ -148,7 +148,7 @@ module _ (script : Script) (well : IsWellFormed script) (table : List (Option Co
         → slice_get (made_of script) number ≡ Some (made.Do source called output)
         → IsCalled script table number source called output
     is_called source called output f found =
-        let fit : IsDone script.functions f.before source called output f.type = f.fit in
+        let fit : ComesOfDo script.functions f.before source called output f.type = f.fit in
         let call : IsCallOf script number (emission called output) =
         well.calls number (made.Do source called output) (emission called output) found refl in
         let function = fit.function in

@@ -16,17 +16,17 @@ use Rattle.exec_graph.specs.declared.step.Does.TheVariants as does
 use Rattle.no_defaults.specs.Readings.{HasOutput, IsListed}
 
 -- the member is of the form that the step reads
-abbrev pub IsTaken : Does → Value → Type 0
-IsTaken (does.Combine c) member = IsGroup c member
-IsTaken does.TagLeft member = IsPair member
-IsTaken does.TagRight member = IsPair member
-IsTaken does.Split member = IsListed member
-IsTaken does.Spread member = IsListed member
-IsTaken _ member = Unit {0}
+abbrev pub SuitsStep : Does → Value → Type 0
+SuitsStep (does.Combine c) member = IsGroup c member
+SuitsStep does.TagLeft member = IsPair member
+SuitsStep does.TagRight member = IsPair member
+SuitsStep does.Split member = IsListed member
+SuitsStep does.Spread member = IsListed member
+SuitsStep _ member = Unit {0}
 
 -- and the answer has a list for the output that the label stands for
 abbrev pub StepFinds : World → Label → Value → Type 0
-StepFinds w l member = IsTaken l.does member × HasOutput l.at (called w l.does member)
+StepFinds w l member = SuitsStep l.does member × HasOutput l.at (called w l.does member)
 
 -- so it is with each step of a forest, on all that it is given
 abbrev pub ForestFinds : World → Collection → Forest → Type 0

@@ -68,8 +68,13 @@ fn call_on<F: Functions>(
 {
     match functions.call(alloc, function, &x) {
         Ok(answer) => answered(alloc, origin, x, answer),
-        Err(CallFault::Trap(kind)) => Ok(Err(trap(origin, x, kind))),
-        Err(CallFault::Memory) => Err(AllocError),
+        Err(fault) => match fault {
+            CallFault::Trap(kind) => Ok(Err(trap(origin, x, kind))),
+            CallFault::Memory => {
+                drop(x);
+                Err(AllocError)
+            }
+        },
     }
 }
 
@@ -92,9 +97,18 @@ fn answered(
 ) -> Result<Result<Value, Trap>, AllocError>
     ensures { IfOk result (λ made. one_answer origin x (Ok (lists_of answer)) ≡ object_of made) }
 {
-    match only_emission(alloc, answer)? {
-        Some(value) => Ok(Ok(value)),
-        None => Ok(Err(trap(origin, x, Kind::NotOne))),
+    match only_emission(alloc, answer) {
+        Ok(one) => match one {
+            Some(value) => {
+                drop(x);
+                Ok(Ok(value))
+            }
+            None => Ok(Err(trap(origin, x, Kind::NotOne))),
+        },
+        Err(fault) => {
+            drop(x);
+            Err(fault)
+        }
     }
 }
 

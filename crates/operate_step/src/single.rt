@@ -66,11 +66,13 @@ fn made_of_nothing(alloc: Global, origin: u32, by: Comb) -> Result<Result<Value,
 {
     match combine(alloc, by, &Pile::new(alloc)) {
         Ok(value) => Ok(Ok(value)),
-        Err(CallFault::Trap(kind)) => Ok(Err(Trap {
-            origin,
-            element: Value::Int(0),
-            kind,
-        })),
-        Err(CallFault::Memory) => Err(AllocError),
+        Err(fault) => match fault {
+            CallFault::Trap(kind) => Ok(Err(Trap {
+                origin,
+                element: Value::Int(0),
+                kind,
+            })),
+            CallFault::Memory => Err(AllocError),
+        },
     }
 }

@@ -21,14 +21,14 @@ use Rattle.optimise.proofs.Passes.{fusible}
 use Rattle.graph_bounds.specs.of_pardo_fuse.Fusing.{fused}
 use Rattle.graph_bounds.proofs.of_pardo_fuse.Fused.{IsBlockedOk-fused}
 use Rattle.graph_bounds.proofs.of_pardo_fuse.SameMarks.{fused_graphs, fused_marks}
-use Rattle.flatten_sink.specs.of_sink_laws.Kept.{IsKept}
+use Rattle.flatten_sink.specs.of_sink_laws.Kept.{KeepsTypesAndSteps}
 use Rattle.flatten_sink.proofs.of_sink_laws.Nexts.{kept_sunk}
 use Rattle.sink_weights.proofs.Ending.{ends_once, ends_somewhere}
 
 -- ---- before fusing
 
 sunk_kept : (scales : List ℕ) (g : Graph) (a : Blocked) → IsGraphOk g
-    → (r : IsRefined scales g a) → IsKept g r.sunk
+    → (r : IsRefined scales g a) → KeepsTypesAndSteps g r.sunk
 sunk_kept scales g a ok r = kept_sunk g r.sunk ok r.is_sunk.leads
 
 lifted_ok : (scales : List ℕ) (g : Graph) (a : Blocked) → IsGraphOk g

@@ -8,11 +8,11 @@ use Rattle.plan_tracing.specs.of_plan_check.Checked.{Forms, IsChecked}
 use Rattle.plan_tracing.specs.of_plan_file_law.Files.{text_of, told_by}
 use Rattle.plan_tracing.proofs.of_plan_file_law.Ended.{line_feed}
 use Rattle.plan_tracing.proofs.of_plan_file_law.Files.{line_read}
-use Rattle.plan_tracing.specs.of_plan_files.Written.{IsSmall}
+use Rattle.plan_tracing.specs.of_plan_files.Written.{HasSmallNumbers}
 use Rattle.plan_writing.specs.Naming.{Naming}
 
 pub line_taken : (names : Naming) (g : Graph) (rewrites : List Rewrite) (plan : Plan)
-    → AllByRecursion IsSmall rewrites → Forms g rewrites plan
+    → AllByRecursion HasSmallNumbers rewrites → Forms g rewrites plan
     → IsChecked names g (text_of names plan rewrites ++ line_feed) (Ok plan)
 line_taken names g rewrites plan small forms = (
   record {

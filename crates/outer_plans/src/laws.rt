@@ -3,7 +3,7 @@ ghost use Rattle.std.specs.Prelude.{◌++◌, List, codes};
 ghost use Rattle.std.specs.List.{AllByRecursion};
 ghost use Rattle.exec_plan.specs.declared.plan.Plan.{Plan};
 ghost use Rattle.graph_rewrites.specs.declared.rewrite.Rewrite.{Rewrite};
-ghost use Rattle.plan_tracing.specs.of_plan_files.Written.{IsSmall};
+ghost use Rattle.plan_tracing.specs.of_plan_files.Written.{HasSmallNumbers};
 ghost use Rattle.plan_texts.specs.of_script_program.Script.{Script};
 ghost use Rattle.outer_plans.specs.Plans.{IsTaken, LeadTo, file_text_of};
 
@@ -11,6 +11,6 @@ ghost use Rattle.outer_plans.specs.Plans.{IsTaken, LeadTo, file_text_of};
 /// line feed, is taken as a plan of the script: as that very plan.
 pub fn line_law()
     ensures { (script : Script) (rewrites : List Rewrite) (plan : Plan) →
-        AllByRecursion IsSmall rewrites → LeadTo script rewrites plan →
+        AllByRecursion HasSmallNumbers rewrites → LeadTo script rewrites plan →
         IsTaken script (file_text_of script rewrites plan ++ codes "\n") plan }
 {}

@@ -3,7 +3,7 @@ ghost use Rattle.std.specs.Prelude.{◌≡◌, IfOk};
 ghost use Rattle.std.specs.List.{AllByRecursion};
 ghost use Rattle.exec_graph.specs.Wellformed.{IsGraphOk};
 ghost use Rattle.plan_texts.specs.of_graph_build.Graphs.{graph_of};
-ghost use Rattle.plan_tracing.specs.of_plan_files.Written.{IsSmall};
+ghost use Rattle.plan_tracing.specs.of_plan_files.Written.{HasSmallNumbers};
 ghost use Rattle.script_plans.specs.of_script_laws.WellFormed.{IsWellFormed};
 ghost use Rattle.script_plans.specs.Plans.{IsScriptPlan};
 ghost use Rattle.outer_plans.specs.Plans.{LeadTo};
@@ -23,7 +23,7 @@ pub fn traced_plan(alloc: Global, program: &Program, graph: Graph) -> Result<Tra
     requires ok { IsGraphOk graph }
     ensures optimised { IfOk result (λ it. IsScriptPlan program.now.script it.plan) }
     ensures leads { IfOk result (λ it. LeadTo program.now.script it.rewrites it.plan) }
-    ensures small { IfOk result (λ it. AllByRecursion IsSmall it.rewrites) }
+    ensures small { IfOk result (λ it. AllByRecursion HasSmallNumbers it.rewrites) }
 {
     one_step_law();
     let scales = scales_of(alloc, program)?;

@@ -7,9 +7,9 @@ use Rattle.std.specs.Option.{option_map}
 use Rattle.std.specs.declared.option.Option.{Option}
 use Rattle.std.proofs.lemmas.Slice.Eq.{bytes_eq-Decides}
 use Rattle.outside.specs.declared.file.File.{File}
-use Rattle.outside.specs.declared.memory.slots.Slot.{Slot}
+use Rattle.outside.specs.declared.slots.Slot.{Slot}
 use Rattle.outside.specs.Files.{bytes_of, with_file, with_piece}
-use Rattle.outside.specs.inner.Slots.{name_at, bytes_at, place_of, IsPlace, files_of, file_of}
+use Rattle.outside.specs.Slots.{name_at, bytes_at, place_of, IsPlace, files_of, file_of}
 use Rattle.std.proofs.lemmas.Option.{same_Some}
 
 -- what holds of a file at its place

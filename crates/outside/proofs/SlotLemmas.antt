@@ -1,10 +1,12 @@
 -- Writes to a slot, as writes to the list of files.
-use Rattle.std.proofs.Common.{◌≡◌, ℕ, ◌<◌, List, [], refl, ap, sym, ◌∙◌, length, get_or, set, Vec, Global}
+use Rattle.std.proofs.Common.{◌≡◌, ℕ, ◌+◌, ◌<◌, List, [], refl, ap, sym, ◌∙◌, length, get_or, set, sum_by, Vec, Global, arith}
 use Rattle.std.specs.Option.{option_map, option_map_or}
 use Rattle.std.proofs.lemmas.Option.{slice_get-map, slice_get_read}
-use Rattle.std.proofs.lemmas.List.{map-set}
-use Rattle.outside.specs.declared.memory.slots.Slot.{Slot}
-use Rattle.outside.specs.inner.Slots.{name_at, bytes_at, files_of, file_of}
+use Rattle.std.proofs.lemmas.List.{map-set, length-map}
+use Rattle.outside.specs.declared.slots.Slot.{Slot}
+use Rattle.outside.specs.Files.{file_size}
+use Rattle.outside.specs.Slots.{name_at, bytes_at, files_of, file_of, slot_size}
+use Rattle.outside.proofs.RoomLemmas.{sizes, sum_set}
 
 module _ (slots : List Slot) (k : ℕ) (x : Slot) (below : k < length slots)
     (is : x ≡ get_or slots k x) where
@@ -26,3 +28,15 @@ module _ (slots : List Slot) (k : ℕ) (x : Slot) (below : k < length slots)
       ∙ ap (λ file. set (files_of slots) k file)
       (ap (λ b. record { name = x.name.items; bytes = b }) e
       ∙ ap (λ n. record { name = n; bytes = bytes }) (sym slot_name))
+
+  pub total_emptied : (v : Vec ℕ Global) → v.items ≡ []
+      → sum_by slot_size (set slots k (record { name = x.name; bytes = v }))
+      + length (bytes_at (files_of slots) k) ≡ sum_by slot_size slots
+  total_emptied v e =
+      let new = sizes (set slots k (record { name = x.name; bytes = v })) in
+      let old = sizes slots in
+      let few : k < length (files_of slots)
+      = omega (arith, below, length-map slots file_of) in
+      let file = sum_set (files_of slots) k [] few in
+      let same = ap (sum_by file_size) (slot_written v [] e) in
+      omega (arith, new, old, file, same)

@@ -10,5 +10,6 @@ pub mod Notes
 pub mod Saves
 pub mod Says
 pub mod Seen
+pub mod Slots
 pub mod Told
 pub mod inner

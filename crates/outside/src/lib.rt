@@ -24,6 +24,7 @@ mod saves;
 mod says;
 mod screen;
 mod shelf;
+pub mod slots;
 mod source;
 
 pub use file::File;

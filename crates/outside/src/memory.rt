@@ -3,7 +3,6 @@ mod calls;
 mod host;
 mod screen;
 mod shelf;
-mod slots;
 mod source;
 
 pub use calls::Fail;

@@ -1,5 +1,5 @@
 -- The fused graph with its marks is ok.
-use Rattle.std.proofs.Common.{◌≡◌, ℕ, ◌<◌, ◌≤◌, Bool, true, false, cond, ◌||◌, ◌&&◌, List, [], ◌∷◌, ◌++◌, map, length, Option, Some, None, refl, sym, ap, ◌∙◌, arith}
+use Rattle.std.proofs.Common.{◌≡◌, ℕ, ◌<◌, ◌≤◌, Bool, true, false, cond, ◌||◌, ◌&&◌, List, [], ◌∷◌, map, length, Option, Some, None, refl, sym, ap, ◌∙◌, arith}
 use Rattle.std.proofs.lemmas.Bool.{false≢true}
 use Rattle.std.specs.List.{flat_map, AllByRecursion}
 use Rattle.exec_graph.specs.Forests.{Label, Forest, Bare, Grow, steps, numbered, new_label, new_out, after, after_out, with_out}
@@ -10,7 +10,7 @@ use Rattle.exec_graph.specs.declared.graph.Entry.{Entry}
 use Rattle.exec_graph.specs.Meaning.{node_at, gives_at, IsThere, IsSound}
 use Rattle.graph_laws.specs.Joining.{reread}
 use Rattle.exec_graph.proofs.Entries.{all_found, all_map}
-use Rattle.flume_value.proofs.EachLemmas.{Each-weaker, Each-both, Each-append}
+use Rattle.flume_value.proofs.EachLemmas.{Each-weaker, Each-both}
 use Rattle.exec_graph.proofs.Solving.{each_found, there_found}
 use Rattle.exec_graph.specs.declared.graph.Blocked.{Blocked}
 use Rattle.pardo_fuse.specs.Readers.{Cut, cut_of, is_outer, among, calls_on, collects, any_node, is_pdo, is_marked, is_kept}
@@ -24,7 +24,7 @@ use Rattle.pardo_fuse.proofs.Once.{AllGrown}
 use Rattle.pardo_fuse.proofs.Levels.{all_grown}
 use Rattle.pardo_fuse.proofs.Few.{joined_size}
 use Rattle.pardo_fuse.proofs.Places.{pdo_is}
-use Rattle.pardo_fuse.proofs.Naming.{all_joined, all_cond, differ_joined}
+use Rattle.pardo_fuse.proofs.Naming.{all_joined, all_cond, differ_joined, joined_more}
 use Rattle.pardo_fuse.proofs.Finding.{search_place, any_joined, not_new, no_joined, IsSeen, IsNew}
 use Rattle.pardo_fuse.proofs.Seeing.{all_among, seen_left}
 use Rattle.pardo_fuse.proofs.Wellness.{at_finished, done_node, well, well_kept, others_left, IsSound-fused}
@@ -242,35 +242,9 @@ left_objects b can g fu n (Barrier ins o l d) at = (
 left_objects b can g fu n _ at = (refl, tt)
 
 -- ---- numbers
-left_all : (b : Cut) (P : ℕ → Type 0) (n : ℕ) (x : Node) → P n
-    → AllByRecursion (λ h. P h.number) (left_of b n x)
-left_all b P n (Pdo c f) p = all_cond (λ h. P h.number) (leads b n c)
-    (record { number = n; node = Pdo c (forest_of b c) }) (λ l. p)
-left_all b P n _ p = (p, tt)
-
-pub all_numbers : (b : Cut) (P : ℕ → Type 0) (es : List Entry) → AllByRecursion (λ e. P e.number) es
-    → AllByRecursion (λ h. P h.number) (flat_map (λ e. left_of b e.number e.node) es)
-all_numbers b P [] a = tt
-all_numbers b P (e ∷ es) a = Each-append (λ h. P h.number) (left_of b e.number e.node)
-    (flat_map (λ e. left_of b e.number e.node) es) (left_all b P e.number e.node a.0)
-    (all_numbers b P es a.1)
-
-left_ascends : (b : Cut) (n : ℕ) (x : Node) (hs : List Entry)
-    → AllByRecursion (λ d. n < d.number) hs → Ascends hs → Ascends (left_of b n x ++ hs)
-left_ascends b n (Pdo c f) hs a u = by (leads b n c)
-  where
-    by : (r : Bool)
-        → Ascends (cond r ((record { number = n; node = Pdo c (forest_of b c) }) ∷ []) [] ++ hs)
-    by true = (a, u)
-    by false = u
-left_ascends b n _ hs a u = (a, u)
-
 pub joined_ascends : (b : Cut) (es : List Entry) → Ascends es
     → Ascends (flat_map (λ e. left_of b e.number e.node) es)
-joined_ascends b [] u = tt
-joined_ascends b (e ∷ es) u = left_ascends b e.number e.node
-    (flat_map (λ e. left_of b e.number e.node) es)
-    (all_numbers b (λ m. e.number < m) es u.0) (joined_ascends b es u.1)
+joined_ascends = joined_more (λ n m. n < m) Ascends tt (λ e es a u. (a, u)) (λ e es u. u)
 
 done_ascends : (r : Place → Place) (hs : List Entry) → Ascends hs
     → Ascends (map (finished r) hs)

@@ -10,7 +10,6 @@ use Rattle.exec_graph.specs.of_flume_collection.Sets.{gather, put_new}
 use Rattle.exec_graph.specs.of_flume_collection.Traps.{trap_le}
 use Rattle.exec_graph.proofs.of_flume_collection.Bagging.{Swaps}
 use Rattle.exec_graph.proofs.of_flume_collection.Orders.{bags, one_bag, sets}
-use Rattle.flume_types.specs.declared.types.Ty.{Ty}
 use Rattle.flume_value.proofs.EachLemmas.{Each-both, Each-weaker}
 use Rattle.flume_value.specs.Bag.{put}
 use Rattle.exec_graph.specs.Meaning.{AllDiffer, HasOuts, Holds, IsSound, IsThere, KeepsMeaning, node_at, own, place, reads, traps}
@@ -134,43 +133,50 @@ module _ (g : Graph) (l o : ℕ → ℕ) (es : List Entry) (ok : IsSound g)
         );
       }
 
+  -- ---- what is said of the places
+  abbrev carried : {X : Type 0} → (Place → X) → Place → X
+  carried m y = m (place (o y.node) y.out)
+
+  said : {X : Type 0} (m : Place → X) (ys : List Place) → Each (IsThere g.nodes) ys
+      → Each (λ y. carried m (x y) ≡ m y) ys
+  said m ys a = Each-weaker (IsThere g.nodes) (λ y. carried m (x y) ≡ m y)
+      (λ y t. ap (λ (i : ℕ). m (place i y.out)) (back_there y t)) ys a
+
+  -- what is said of a node is said of it where it is now
+  each_carried : {X : Type 0} (m : Place → X) (P : (Place → X) → ℕ → Node → Type 0)
+      → ((n q : ℕ) (z : Node) → Each (λ y. carried m (x y) ≡ m y) (reads z)
+      → ((j : ℕ) → carried m (place q j) ≡ m (place n j)) → P m n z
+      → P (carried m) q (reread x z))
+      → Each (λ e. P m e.number e.node) g.nodes → Each (λ e. P (carried m) e.number e.node) es
+  each_carried m P step all =
+      moves.each_new (λ e. P (carried m) e.number e.node)
+      (λ n z at. step n (l n) z (said m (reads z) (reads_there n z at))
+      (λ j. ap (λ (i : ℕ). m (place i j)) (moves.back n z at))
+      (all_found (λ e. P m e.number e.node) g.nodes n z at all))
+
   -- ---- the same meaning
   keeps : KeepsMeaning g new
   keeps w m meets =
-      let k : Place → Collection = λ y. m (place (o y.node) y.out) in
-      let B : Place → Type 0 = λ y. k (x y) ≡ m y in
-      let same : (y : Place) → IsThere g.nodes y → B y =
-      λ y t. ap (λ (i : ℕ). m (place i y.out)) (back_there y t) in (
+      let k : Place → Collection = carried m in (
         k,
-        moves.each_new (λ e. Holds w k e.number e.node)
-            (λ n z at. holds_moved w k m x n (l n) z (reads_all B same n z at)
-            (λ j. ap (λ (i : ℕ). m (place i j)) (moves.back n z at))
-            (all_found (λ e. Holds w m e.number e.node) g.nodes n z at meets)),
+        each_carried m (Holds w) (λ n q z. holds_moved w k m x n q z) meets,
         record {
-          outputs = sym (map_reread k m x g.outputs
-              (Each-weaker (IsThere g.nodes) B same g.outputs ok.told));
+          outputs = sym (map_reread k m x g.outputs (said m g.outputs ok.told));
           own = λ i. one_bag (flat_map (λ (e : Entry). own w m i e.node) g.nodes)
               (flat_map (λ (e : Entry). own w k i e.node) es)
               (moves.sum put bags (own w m i) (own w k i)
-              (λ n z at. own-reread w k m x i z (reads_all B same n z at)) []);
+              (λ n z at. own-reread w k m x i z (said m (reads z) (reads_there n z at))) []);
           traps = moves.sum (put_new trap_le) sets (traps w m) (traps w k)
-              (λ n z at. traps-reread w k m x z (reads_all B same n z at)) [];
+              (λ n z at. traps-reread w k m x z (said m (reads z) (reads_there n z at))) [];
         },
       )
 
   -- ---- the same types
   types_kept : KeepsTypes g new
-  types_kept s (types, fits) =
-      let k : Place → Ty = λ y. types (place (o y.node) y.out) in
-      let B : Place → Type 0 = λ y. k (x y) ≡ types y in
-      let same : (y : Place) → IsThere g.nodes y → B y =
-      λ y t. ap (λ (i : ℕ). types (place i y.out)) (back_there y t) in (
-        k,
-        moves.each_new (λ e. NodeTyped s k e.number e.node)
-            (λ n z at. typed_at s types k x n (l n) z (reads_all B same n z at)
-            (λ j. ap (λ (i : ℕ). types (place i j)) (moves.back n z at))
-            (all_found (λ e. NodeTyped s types e.number e.node) g.nodes n z at fits)),
-      )
+  types_kept s (types, fits) = (
+    carried types,
+    each_carried types (NodeTyped s) (λ n q z. typed_at s types (carried types) x n q z) fits,
+  )
 
   -- ---- as well-formed
   read_still : (y : Place) → is_read g y ≡ true → is_read new (x y) ≡ true

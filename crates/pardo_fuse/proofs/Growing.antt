@@ -105,12 +105,13 @@ growing_begun lead s all first before made e f = record {
   few = f;
 }
 
-pub growing_step : (lead s : ℕ) (all rest one more : Forest) (next last : ℕ)
-    (first now new : List Name) (before made grew : Forest)
+pub growing_step : {lead s next last : ℕ} {all rest : Forest} {first now new : List Name}
+    {before made grew : Forest} (one more : Forest)
     → IsGrowing lead s all rest next first now before made → rest ≡ beside one more
     → IsNamed lead one next last now new → grew ≡ beside made (numbered next one)
     → IsGrowing lead s all more last first new before grew
-growing_step lead s all rest one more next last first now new before made grew w split named g =
+growing_step {lead} {s} {next} {last} {all} {rest} {first} {now} {new} {before} {made} {grew}
+    one more w split named g =
     let e : last ≡ after next one = named.next in
     record {
       trees = ap (λ (x : Forest). beside x (numbered last more)) g
@@ -134,24 +135,25 @@ growing_step lead s all rest one more next last first now new before made grew w
     }
 
 -- What the next one may take.
-pub growing_few : (lead s : ℕ) (all rest one more : Forest) (next : ℕ) (first now : List Name)
-    (before made : Forest) → IsGrowing lead s all rest next first now before made
-    → rest ≡ beside one more → next + labels one < 2 ^ 32
-growing_few lead s all rest one more next first now before made w split =
+pub growing_few : {lead s next : ℕ} {all rest : Forest} {first now : List Name}
+    {before made : Forest} (one more : Forest)
+    → IsGrowing lead s all rest next first now before made → rest ≡ beside one more
+    → next + labels one < 2 ^ 32
+growing_few {rest = rest} one more w split =
     let u = w.few in
     let l : labels rest ≡ labels one + labels more = ap labels split ∙ labels_beside one more in
     omega arith
 
-pub growing_made : (lead s : ℕ) (all rest : Forest) (next : ℕ) (first now : List Name)
-    (before made : Forest) → IsGrowing lead s all rest next first now before made → rest ≡ Bare
+pub growing_made : {lead s next : ℕ} {all rest : Forest} {first now : List Name}
+    {before made : Forest} → IsGrowing lead s all rest next first now before made → rest ≡ Bare
     → made ≡ beside before (numbered s all)
-growing_made lead s all rest next first now before made w e =
+growing_made {next = next} {made = made} w e =
     sym (beside_bare made) ∙ ap (λ (x : Forest). beside made (numbered next x)) (sym e) ∙ w.trees
 
-pub growing_named : (lead s : ℕ) (all rest : Forest) (next : ℕ) (first now : List Name)
-    (before made : Forest) → IsGrowing lead s all rest next first now before made → rest ≡ Bare
+pub growing_named : {lead s next : ℕ} {all rest : Forest} {first now : List Name}
+    {before made : Forest} → IsGrowing lead s all rest next first now before made → rest ≡ Bare
     → IsNamed lead all s next first now
-growing_named lead s all rest next first now before made w e = record {
+growing_named {lead} {next = next} {now = now} w e = record {
   next = ap (after next) (sym e) ∙ w.last;
   names = sym (append-nil now) ∙ ap (λ (x : Forest). now ++ names_from lead next x) (sym e)
       ∙ w.names;

@@ -25,24 +25,6 @@ abbrev pub former : (ℕ → ℕ) → List Entry → ℕ → ℕ
 former l [] n = n
 former l (e ∷ es) n = cond (eqb (l e.number) n) e.number (former l es n)
 
-pub former_is : (l : ℕ → ℕ) (all es : List Entry) → AreApart l all → StandIn all es
-    → (m : ℕ) (z : Node) → node_at all m ≡ Some z → node_at es m ≡ Some z
-    → former l es (l m) ≡ m
-former_is l all [] far a m z at h = let no : ⊥ = cc in absurd no
-former_is l all (e ∷ es) far a m z at h =
-    by (eqb (l e.number) (l m)) (eqb e.number m) refl refl h
-    (λ i. former_is l all es far a.1 m z at i)
-  where
-    by : (r s : Bool) → eqb (l e.number) (l m) ≡ r → eqb e.number m ≡ s
-        → cond s (Some e.node) (node_at es m) ≡ Some z
-        → (node_at es m ≡ Some z → former l es (l m) ≡ m)
-        → cond r e.number (former l es (l m)) ≡ m
-    by true s i j h rest =
-        far e.number m e.node z a.0 at (eqb-true (l e.number) (l m) i)
-    by false true i j h rest =
-        absurd (false≢true (sym i ∙ eq-eqb (l e.number) (l m) (ap l (eqb-true e.number m j))))
-    by false false i j h rest = rest h
-
 pub moved_differ : (l : ℕ → ℕ) (all es : List Entry) → AreApart l all → StandIn all es
     → AllDiffer es → AllDiffer (map (renumbered_entry l) es)
 moved_differ l all [] far a u = tt
@@ -55,9 +37,13 @@ moved_differ l all (e ∷ es) far a u = (
   moved_differ l all es far a.1 u.1,
 )
 
+-- Under its new number a node is found, and that number tells the former one.
+abbrev pub IsMovedIn : (ℕ → ℕ) → List Entry → ℕ → Node → Type 0
+IsMovedIn l es n z = (former l es (l n) ≡ n)
+    × (node_at (map (renumbered_entry l) es) (l n) ≡ Some (reread (at_number l) z))
+
 pub moved_at : (l : ℕ → ℕ) (all es : List Entry) → AreApart l all → StandIn all es → (n : ℕ)
-    (z : Node) → node_at all n ≡ Some z → node_at es n ≡ Some z
-    → node_at (map (renumbered_entry l) es) (l n) ≡ Some (reread (at_number l) z)
+    (z : Node) → node_at all n ≡ Some z → node_at es n ≡ Some z → IsMovedIn l es n z
 moved_at l all [] far a n z at h = let no : ⊥ = cc in absurd no
 moved_at l all (e ∷ es) far a n z at h =
     by (eqb (l e.number) (l n)) (eqb e.number n) refl refl h
@@ -65,12 +51,15 @@ moved_at l all (e ∷ es) far a n z at h =
   where
     by : (r s : Bool) → eqb (l e.number) (l n) ≡ r → eqb e.number n ≡ s
         → cond s (Some e.node) (node_at es n) ≡ Some z
-        → (node_at es n ≡ Some z
-        → node_at (map (renumbered_entry l) es) (l n) ≡ Some (reread (at_number l) z))
-        → cond r (Some (reread (at_number l) e.node)) (node_at (map (renumbered_entry l) es) (l n))
-        ≡ Some (reread (at_number l) z)
+        → (node_at es n ≡ Some z → IsMovedIn l es n z)
+        → (cond r e.number (former l es (l n)) ≡ n)
+        × (cond r (Some (reread (at_number l) e.node)) (node_at (map (renumbered_entry l) es) (l n))
+        ≡ Some (reread (at_number l) z))
     by true true i j h rest =
-        let same : e.node ≡ z = cc in ap (λ (y : Node). Some (reread (at_number l) y)) same
+        let same : e.node ≡ z = cc in (
+          eqb-true e.number n j,
+          ap (λ (y : Node). Some (reread (at_number l) y)) same,
+        )
     by true false i j h rest =
         absurd (false≢true (sym j ∙ eq-eqb e.number n
         (far e.number n e.node z a.0 at (eqb-true (l e.number) (l n) i))))

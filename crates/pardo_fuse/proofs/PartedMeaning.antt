@@ -9,7 +9,7 @@ use Rattle.exec_graph.specs.of_flume_collection.Collection.{Collection}
 use Rattle.exec_graph.specs.of_flume_collection.Traps.{trap_set}
 use Rattle.exec_graph.specs.World.{World}
 use Rattle.exec_graph.specs.Forests.{Label, Forest, Bare, Grow, new_label, new_out}
-use Rattle.exec_graph.specs.Meaning.{through, place, node_at, reads, total, step_own, step_traps, own, traps, IsKept, FitsForest, Holds, IsThere, KeepsMeaning}
+use Rattle.exec_graph.specs.Meaning.{through, place, node_at, reads, total, step_own, step_traps, own, traps, IsGivenToKept, FitsForest, Holds, IsThere, KeepsMeaning}
 use Rattle.exec_graph.specs.Typing.{ActTyped, Signatures, StepTyped, OutTyped, ForestTyped, NodeTyped, KeepsTypes}
 use Rattle.exec_graph.specs.declared.graph.Place.{Place}
 use Rattle.exec_graph.specs.declared.graph.Node.{Node}
@@ -43,36 +43,36 @@ pub there_node : (g : Graph) → CanPart g → (n : ℕ) (x : Node) → node_at 
 there_node g can n x at = all_found (λ (e : Entry). AllByRecursion (IsThere g.nodes) (reads e.node))
     g.nodes n x at can.ok.there
 
+-- what the Pdo n read is read by its parts
+before_read : {X : Type 0} (g : Graph) (m : Place → X) (can : CanPart g) (n : ℕ) (c : Place)
+    (f : Forest) → node_at g.nodes n ≡ Some (Pdo c f) → before g m (part_place g c) ≡ m c
+before_read g m can n c f at = ap m (is_parted g can c (there_node g can n (Pdo c f) at).0).back
+
+-- what holds of the Pdo of each output holds of all parts
+parts_hold : (g : Graph) → CanPart g → (n : ℕ) (c : Place) (f : Forest)
+    → node_at g.nodes n ≡ Some (Pdo c f) → (P : Entry → Type 0) (Q : Label → Type 0)
+    → ((l : Label) → back g (place (part_number g.next n l.at) 0) ≡ place n (label_old l.out)
+    → Q l → P (record { number = part_number g.next n l.at; node = Pdo (part_place g c) (sole l) }))
+    → EachLabel Q f → AllByRecursion P (parts_of g.next n (reread (part_place g) (Pdo c f)))
+parts_hold g can n c f at P Q holds a =
+    let q : Label → ℕ = λ l. part_number g.next n l.at in
+    parts_each P g.next n (part_place g c) f
+    (label_both (λ l. back g (place (q l) 0) ≡ place n (label_old l.out)) Q
+    (λ l. P (record { number = q l; node = Pdo (part_place g c) (sole l) })) holds f
+    (back_label g can n c f at) a)
+
 -- ---- each node holds
 
 fits_labels : (w : World) (m : Place → Collection) (n : ℕ) (v : Collection) (f : Forest)
-    → FitsForest w m n v f → EachLabel (λ l. IsKept m n l.out (through w l v)) f
+    → FitsForest w m n v f → EachLabel (λ l. IsGivenToKept m n l.out (through w l v)) f
 fits_labels w m n v Bare a = tt
 fits_labels w m n v (Grow l kids rest) a = (a.0, fits_labels w m n v rest a.2)
 
 kept_sole : (m k : Place → Collection) (n q : ℕ) (o : Option ℕ) (u : Collection)
-    → k (place q 0) ≡ m (place n (label_old o)) → IsKept m n o u → IsKept k q (new_out 0 o) u
+    → k (place q 0) ≡ m (place n (label_old o)) → IsGivenToKept m n o u
+    → IsGivenToKept k q (new_out 0 o) u
 kept_sole m k n q None u e h = tt
 kept_sole m k n q (Some j) u e h = e ∙ h
-
-pdo_holds : (w : World) (g : Graph) (m : Place → Collection) → CanPart g → (n : ℕ) (c : Place)
-    (f : Forest) → node_at g.nodes n ≡ Some (Pdo c f) → FitsForest w m n (m c) f
-    → AllByRecursion (λ (h : Entry). Holds w (before g m) h.number h.node)
-    (parts_of g.next n (reread (part_place g) (Pdo c f)))
-pdo_holds w g m can n c f at fits =
-    let k : Place → Collection = before g m in
-    let d : Place = part_place g c in
-    let same : k d ≡ m c = ap m (is_parted g can c (there_node g can n (Pdo c f) at).0).back in
-    let q : Label → ℕ = λ l. part_number g.next n l.at in
-    parts_each (λ (h : Entry). Holds w k h.number h.node) g.next n d f
-    (label_both (λ l. back g (place (q l) 0) ≡ place n (label_old l.out))
-    (λ l. IsKept m n l.out (through w l (m c))) (λ l. FitsForest w k (q l) (k d) (sole l))
-    (λ l b h. (
-      kept_sole m k n (q l) l.out (through w l (k d)) (ap m b)
-          (subst (λ (v : Collection). IsKept m n l.out (through w l v)) (sym same) h),
-      tt,
-      tt,
-    )) f (back_label g can n c f at) (fits_labels w m n (m c) f fits))
 
 node_holds : (w : World) (g : Graph) (m : Place → Collection) → CanPart g → (n : ℕ) (x : Node)
     → node_at g.nodes n ≡ Some x → Holds w m n x
@@ -89,7 +89,17 @@ node_holds w g m can n (Flatten ins) at h = (
       (λ j. ap m (back_same g can n j (Flatten ins) at refl)) h,
   tt,
 )
-node_holds w g m can n (Pdo c f) at h = pdo_holds w g m can n c f at h
+node_holds w g m can n (Pdo c f) at h =
+    parts_hold g can n c f at (λ (e : Entry). Holds w (before g m) e.number e.node)
+    (λ l. IsGivenToKept m n l.out (through w l (m c)))
+    (λ l b a. (
+      kept_sole m (before g m) n (part_number g.next n l.at) l.out
+          (through w l (before g m (part_place g c))) (ap m b)
+          (subst (λ (v : Collection). IsGivenToKept m n l.out (through w l v))
+          (sym (before_read g m can n c f at)) a),
+      tt,
+      tt,
+    )) (fits_labels w m n (m c) f h)
 node_holds w g m can n (Gbk c o l b) at h = (
   holds_reread w (before g m) m (part_place g) n (Gbk c o l b)
       (before_part g m can (c ∷ []) (there_node g can n (Gbk c o l b) at))
@@ -198,25 +208,6 @@ typed_sole : (types new : Place → Ty) (n q : ℕ) (o : Option ℕ) (u : Ty)
 typed_sole types new n q None u e h = tt
 typed_sole types new n q (Some j) u e h = e ∙ h
 
-pdo_typed : (s : Signatures) (g : Graph) (types : Place → Ty) → CanPart g → (n : ℕ) (c : Place)
-    (f : Forest) → node_at g.nodes n ≡ Some (Pdo c f) → ForestTyped s types n (types c) f
-    → AllByRecursion (λ (h : Entry). NodeTyped s (before g types) h.number h.node)
-    (parts_of g.next n (reread (part_place g) (Pdo c f)))
-pdo_typed s g types can n c f at fits =
-    let new : Place → Ty = before g types in
-    let d : Place = part_place g c in
-    let same : new d ≡ types c =
-    ap types (is_parted g can c (there_node g can n (Pdo c f) at).0).back in
-    let q : Label → ℕ = λ l. part_number g.next n l.at in
-    parts_each (λ (h : Entry). NodeTyped s new h.number h.node) g.next n d f
-    (label_both (λ l. back g (place (q l) 0) ≡ place n (label_old l.out))
-    (λ l. (u : Ty) × StepTyped s l.does l.at (types c) u × OutTyped types n l.out u)
-    (λ l. ForestTyped s new (q l) (new d) (sole l))
-    (λ l b h. subst (λ (t : Ty). ForestTyped s new (q l) t (sole l)) (sym same) (
-      (h.0, h.1, typed_sole types new n (q l) l.out h.0 (ap types b) h.2, tt),
-      tt,
-    )) f (back_label g can n c f at) (typed_labels s types n (types c) f fits))
-
 inputs_typed : (g : Graph) (types : Place → Ty) → CanPart g → (t u : Ty) → u ≡ t → (cs : List Place)
     → AllByRecursion (IsThere g.nodes) cs → AllByRecursion (λ c. types c ≡ t) cs
     → AllByRecursion (λ c. before g types c ≡ u) (map (part_place g) cs)
@@ -240,7 +231,21 @@ node_typed s g types can n (Flatten ins) at h = (
       (there_node g can n (Flatten ins) at) h,
   tt,
 )
-node_typed s g types can n (Pdo c f) at h = pdo_typed s g types can n c f at h
+node_typed s g types can n (Pdo c f) at h =
+    parts_hold g can n c f at (λ (e : Entry). NodeTyped s (before g types) e.number e.node)
+    (λ l. (u : Ty) × StepTyped s l.does l.at (types c) u × OutTyped types n l.out u)
+    (λ l b a. subst (λ (t : Ty).
+    ForestTyped s (before g types) (part_number g.next n l.at) t (sole l))
+    (sym (before_read g types can n c f at)) (
+      (
+        a.0,
+        a.1,
+        typed_sole types (before g types) n (part_number g.next n l.at) l.out a.0
+            (ap types b) a.2,
+        tt,
+      ),
+      tt,
+    )) (typed_labels s types n (types c) f h)
 node_typed s g types can n (Gbk c o l b) at h = (
   record {
     key = h.key;

@@ -20,7 +20,8 @@ use Rattle.pardo_fuse.specs.Readers.{Cut, cut_of}
 use Rattle.pardo_fuse.specs.Parting.{parts, parts_of, part_place, parted_nodes, parted_graph, parted}
 use Rattle.pardo_fuse.specs.SingleFusing.{joined_nodes, left_of}
 use Rattle.pardo_fuse.specs.Wellformed.{IsFusible}
-use Rattle.pardo_fuse.proofs.BlockedOk.{IsCutOk, all_numbers, cut_outer, joined_ascends}
+use Rattle.pardo_fuse.proofs.BlockedOk.{IsCutOk, cut_outer, joined_ascends}
+use Rattle.pardo_fuse.proofs.Naming.{all_numbers}
 use Rattle.pardo_fuse.proofs.PartedMeaning.{there_node}
 use Rattle.pardo_fuse.proofs.Unparting.{CanPart, each_part, kind_part, lifted_reread}
 use Rattle.pardo_fuse.proofs.PartedNodes.{can_part, node_ok}

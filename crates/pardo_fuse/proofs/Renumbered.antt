@@ -13,7 +13,7 @@ use Rattle.exec_graph.proofs.Solving.{each_found}
 use Rattle.graph_laws.proofs.Kids.{IsKept}
 use Rattle.pardo_fuse.specs.Renumbering.{in_order, renumbered_entry, renumbered_graph}
 use Rattle.pardo_fuse.proofs.Carried.{IsMoved, moved_kept}
-use Rattle.pardo_fuse.proofs.OtherNumbers.{AreApart, former, former_is, moved_at, moved_differ, moved_size}
+use Rattle.pardo_fuse.proofs.OtherNumbers.{AreApart, former, moved_at, moved_differ, moved_size}
 use Rattle.pardo_fuse.proofs.Sorting.{order_all, order_ascends, order_at, order_differ, order_size, order_sum}
 
 module _ (g : Graph) (l : ℕ → ℕ) (ok : IsSound g) (apart : AreApart l g.nodes) where
@@ -32,9 +32,9 @@ module _ (g : Graph) (l : ℕ → ℕ) (ok : IsSound g) (apart : AreApart l g.no
   pub is_moved : IsMoved g l (former l g.nodes) (in_order moved)
   is_moved = record {
     differ = order_differ moved differ_moved;
-    back = λ n z at. former_is l g.nodes g.nodes apart all_at n z at at;
+    back = λ n z at. (moved_at l g.nodes g.nodes apart all_at n z at at).0;
     at_new = λ n z at. order_at moved (l n) differ_moved
-        ∙ moved_at l g.nodes g.nodes apart all_at n z at at;
+        ∙ (moved_at l g.nodes g.nodes apart all_at n z at at).1;
     each_new = λ P h. order_all P moved
         (all_map (renumbered_entry l) IsAt P (λ e at. h e.number e.node at) g.nodes all_at);
     sum = λ s sw F G h b. sym (order_sum s sw (λ (e : Entry). G e.node) moved b

@@ -18,7 +18,7 @@ use Rattle.graph_laws.proofs.Numbering.{label_old}
 use Rattle.graph_laws.specs.Joining.{reread}
 use Rattle.graph_laws.specs.Single.{HasSteps, IsOneStep}
 use Rattle.pardo_fuse.specs.Readers.{is_pdo}
-use Rattle.pardo_fuse.specs.SingleFusing.{HasOneStep, IsFirst}
+use Rattle.pardo_fuse.specs.SingleFusing.{HasOneStep, IsLoneOutput}
 use Rattle.pardo_fuse.specs.Parting.{part_number, sole, parts_of, at_of, part_at, part_place, parted_nodes, parted_graph}
 use Rattle.pardo_fuse.proofs.Parting.{EachLabel, IsRow, ats_of, differ_parts, each_parts, from_parts, label_weaker, number_div, number_mod, out_at, outs_at, parts_each, parts_from, row_of, small_mod}
 
@@ -367,7 +367,7 @@ IsSound-parted g can = record {
 }
 
 -- Each has one step with one output.
-first_is : (o : Option ℕ) → IsFirst (new_out 0 o)
+first_is : (o : Option ℕ) → IsLoneOutput (new_out 0 o)
 first_is None = tt
 first_is (Some j) = refl
 

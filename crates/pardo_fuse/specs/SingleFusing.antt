@@ -18,13 +18,13 @@ use Rattle.pardo_fuse.specs.Fusing.{holds_out, leads, moved_by, out_number}
 -- ---- what can be fused so
 
 -- a Pdo has one step, whose output is 0 where it has one
-abbrev pub IsFirst : Option ℕ → Type 0
-IsFirst None = Unit {0}
-IsFirst (Some j) = j ≡ 0
+abbrev pub IsLoneOutput : Option ℕ → Type 0
+IsLoneOutput None = Unit {0}
+IsLoneOutput (Some j) = j ≡ 0
 
 abbrev pub IsSingle : Forest → Type 0
 IsSingle Bare = ⊥
-IsSingle (Grow l Bare Bare) = IsFirst l.out
+IsSingle (Grow l Bare Bare) = IsLoneOutput l.out
 IsSingle (Grow l Bare (Grow m kids rest)) = ⊥
 IsSingle (Grow l (Grow m kids rest) others) = ⊥
 

@@ -4,8 +4,9 @@ ghost use Rattle.exec_graph.specs.Forests.{Bare, after_out, grown, limb, new_out
 ghost use Rattle.exec_graph.specs.Twigs.{twig};
 ghost use Rattle.graph_laws.specs.Joining.{beside};
 ghost use Rattle.pardo_fuse.specs.Readers.{cut_of};
-ghost use Rattle.pardo_fuse.specs.Fusing.{hanging, named, step_in};
-ghost use Rattle.pardo_fuse.specs.inner.Naming.{IsNamed, IsTreeNamed, labels, out_names, over_at, steps_at, trees_at};
+ghost use Rattle.pardo_fuse.specs.Fusing.{hanging, step_in};
+ghost use Rattle.pardo_fuse.specs.inner.Growing as growing;
+ghost use Rattle.pardo_fuse.specs.inner.Naming.{IsNamed, IsTreeNamed, labels, out_names, steps_at};
 ghost use Rattle.pardo_fuse.specs.inner.Tables.{AreTables};
 
 use crate::names::{Name, Naming};
@@ -14,6 +15,17 @@ use crate::tables::Tables;
 use exec_graph::{Blocked, Node, Output, Place, Step};
 use node_index::find_node;
 use std::alloc::{AllocError, Global};
+
+/// A Pdo in a graph with its tables. Its trees grow in the node `lead`, with kids down to a number
+/// of levels.
+#[derive(Clone, Copy)]
+struct Growth<'a> {
+    blocked: &'a Blocked,
+    tables: &'a Tables,
+    lead: u32,
+    number: u32,
+    levels: usize,
+}
 
 /// The trees of these Pdos side by side, down to a number of levels.
 #[cycle(grow)]
@@ -39,44 +51,37 @@ pub(crate) fn trees_of(
         return Ok(found);
     }
     for number in numbers {
-        push_trees(
-            alloc,
+        let growth = Growth {
             blocked,
             tables,
-            levels - 1,
             lead,
-            *number,
-            &mut found,
-            naming,
-        )?;
+            number: *number,
+            levels: levels - 1,
+        };
+        push_trees(alloc, &growth, &mut found, naming)?;
     }
     Ok(found)
 }
 
-/// Adds the trees of a Pdo, with kids down to a number of levels.
+/// Adds the trees of a Pdo.
 #[cycle(grow)]
 fn push_trees(
     alloc: Global,
-    blocked: &Blocked,
-    tables: &Tables,
-    levels: usize,
-    lead: u32,
-    number: u32,
+    growth: &Growth<'_>,
     found: &mut Vec<Step>,
     naming: &mut Naming,
 ) -> Result<(), AllocError>
-    requires tables { AreTables blocked.now tables.now }
-    requires few { naming.old.next + labels (trees_at (cut_of blocked.now) levels number
-        (steps_at (cut_of blocked.now) number)) < 2 ^ 32 }
+    requires tables { AreTables growth.now.blocked.now growth.now.tables.now }
+    requires few { naming.old.next + labels (growing.trees growth.now
+        (growing.steps_of growth.now)) < 2 ^ 32 }
     ensures trees { OnOk result (grown found.new.items ≡ beside (grown found.old.items)
-        (numbered naming.old.next (trees_at (cut_of blocked.now) levels number
-        (steps_at (cut_of blocked.now) number)))) }
-    ensures named { OnOk result (IsNamed lead (trees_at (cut_of blocked.now) levels number
-        (steps_at (cut_of blocked.now) number)) naming.old.next naming.new.next
+        (numbered naming.old.next (growing.trees growth.now (growing.steps_of growth.now)))) }
+    ensures named { OnOk result (IsNamed growth.now.lead
+        (growing.trees growth.now (growing.steps_of growth.now)) naming.old.next naming.new.next
         naming.old.names.items naming.new.names.items) }
 {
-    for step in steps_at(blocked, tables, number) {
-        let tree = tree_of(alloc, blocked, tables, levels, lead, number, step, naming)?;
+    for step in steps_at(growth.blocked, growth.tables, growth.number) {
+        let tree = tree_of(alloc, growth, step, naming)?;
         found.push(tree)?;
     }
     Ok(())
@@ -86,34 +91,21 @@ fn push_trees(
 #[cycle(grow)]
 fn tree_of(
     alloc: Global,
-    blocked: &Blocked,
-    tables: &Tables,
-    levels: usize,
-    lead: u32,
-    number: u32,
+    growth: &Growth<'_>,
     step: &Step,
     naming: &mut Naming,
 ) -> Result<Step, AllocError>
-    requires tables { AreTables blocked.now tables.now }
-    requires few { naming.old.next + labels (trees_at (cut_of blocked.now) levels number
-        (limb step.now Bare)) < 2 ^ 32 }
+    requires tables { AreTables growth.now.blocked.now growth.now.tables.now }
+    requires few { naming.old.next + labels (growing.trees growth.now (limb step.now Bare))
+        < 2 ^ 32 }
     ensures tree { IfOk result (λ t. limb t Bare ≡ numbered naming.old.next
-        (trees_at (cut_of blocked.now) levels number (limb step.now Bare))) }
-    ensures named { OnOk result (IsNamed lead (trees_at (cut_of blocked.now) levels number
-        (limb step.now Bare)) naming.old.next naming.new.next
+        (growing.trees growth.now (limb step.now Bare))) }
+    ensures named { OnOk result (IsNamed growth.now.lead
+        (growing.trees growth.now (limb step.now Bare)) naming.old.next naming.new.next
         naming.old.names.items naming.new.names.items) }
 {
-    let first = output_over(
-        alloc,
-        blocked,
-        tables,
-        levels,
-        lead,
-        number,
-        step.first.number,
-        naming,
-    )?;
-    let more = outputs_over(alloc, blocked, tables, levels, lead, number, step, naming)?;
+    let first = output_over(alloc, growth, step.first.number, naming)?;
+    let more = outputs_over(alloc, growth, step, naming)?;
     Ok(Step::new(step.origin, step.last, step.does, first, more))
 }
 
@@ -121,36 +113,23 @@ fn tree_of(
 #[cycle(grow)]
 fn outputs_over(
     alloc: Global,
-    blocked: &Blocked,
-    tables: &Tables,
-    levels: usize,
-    lead: u32,
-    number: u32,
+    growth: &Growth<'_>,
     step: &Step,
     naming: &mut Naming,
 ) -> Result<Vec<Output>, AllocError>
-    requires tables { AreTables blocked.now tables.now }
-    requires few { naming.old.next + labels (trees_at (cut_of blocked.now) levels number
+    requires tables { AreTables growth.now.blocked.now growth.now.tables.now }
+    requires few { naming.old.next + labels (growing.trees growth.now
         (twigs step.now 1 step.now.more Bare)) < 2 ^ 32 }
     ensures outputs { IfOk result (λ v. twigs step.now 1 (map twig v.items) Bare
-        ≡ numbered naming.old.next (trees_at (cut_of blocked.now) levels number
+        ≡ numbered naming.old.next (growing.trees growth.now
         (twigs step.now 1 step.now.more Bare))) }
-    ensures named { OnOk result (IsNamed lead (trees_at (cut_of blocked.now) levels number
-        (twigs step.now 1 step.now.more Bare)) naming.old.next naming.new.next
-        naming.old.names.items naming.new.names.items) }
+    ensures named { OnOk result (IsNamed growth.now.lead
+        (growing.trees growth.now (twigs step.now 1 step.now.more Bare)) naming.old.next
+        naming.new.next naming.old.names.items naming.new.names.items) }
 {
     let mut found = Vec::new(alloc);
     for output in &step.more {
-        let made = output_over(
-            alloc,
-            blocked,
-            tables,
-            levels,
-            lead,
-            number,
-            output.number,
-            naming,
-        )?;
+        let made = output_over(alloc, growth, output.number, naming)?;
         found.push(made)?;
     }
     Ok(found)
@@ -160,52 +139,52 @@ fn outputs_over(
 #[cycle(grow)]
 fn output_over(
     alloc: Global,
-    blocked: &Blocked,
-    tables: &Tables,
-    levels: usize,
-    lead: u32,
-    number: u32,
+    growth: &Growth<'_>,
     out: Option<u32>,
     naming: &mut Naming,
 ) -> Result<Output, AllocError>
-    requires tables { AreTables blocked.now tables.now }
-    requires few { naming.old.next + (1 + labels (over_at (cut_of blocked.now) levels number out))
-        < 2 ^ 32 }
+    requires tables { AreTables growth.now.blocked.now growth.now.tables.now }
+    requires few { naming.old.next + (1 + labels (growing.over growth.now out)) < 2 ^ 32 }
     ensures output { IfOk result (λ o. twig o ≡ record {
-      out = new_out naming.old.next (named (cut_of blocked.now) number out);
-      kids = numbered (after_out naming.old.next (named (cut_of blocked.now) number out))
-          (over_at (cut_of blocked.now) levels number out);
+      out = new_out naming.old.next (growing.name_of growth.now out);
+      kids = numbered (after_out naming.old.next (growing.name_of growth.now out))
+          (growing.over growth.now out);
     }) }
-    ensures named { OnOk result (IsTreeNamed lead (named (cut_of blocked.now) number out)
-        (over_at (cut_of blocked.now) levels number out) naming.old.next naming.new.next
+    ensures named { OnOk result (IsTreeNamed growth.now.lead (growing.name_of growth.now out)
+        (growing.over growth.now out) naming.old.next naming.new.next
         naming.old.names.items naming.new.names.items) }
 {
-    let kids = kids_on(blocked, tables, number, out);
-    let name = name_output(blocked, tables, lead, number, out, naming)?;
-    let below = trees_of(alloc, blocked, tables, levels, lead, kids, naming)?;
+    let kids = kids_on(growth.blocked, growth.tables, growth.number, out);
+    let name = name_output(growth, out, naming)?;
+    let below = trees_of(
+        alloc,
+        growth.blocked,
+        growth.tables,
+        growth.levels,
+        growth.lead,
+        kids,
+        naming,
+    )?;
     Ok(Output::new(name, below))
 }
 
 /// Gives an output of a Pdo's step the next number in the forest of `lead`, where it is kept.
 fn name_output(
-    blocked: &Blocked,
-    tables: &Tables,
-    lead: u32,
-    number: u32,
+    growth: &Growth<'_>,
     out: Option<u32>,
     naming: &mut Naming,
 ) -> Result<Option<u32>, AllocError>
-    requires tables { AreTables blocked.now tables.now }
+    requires tables { AreTables growth.now.blocked.now growth.now.tables.now }
     requires few { naming.old.next + 1 < 2 ^ 32 }
     ensures out { IfOk result
-        (λ o. o ≡ new_out naming.old.next (named (cut_of blocked.now) number out)) }
+        (λ o. o ≡ new_out naming.old.next (growing.name_of growth.now out)) }
     ensures next { OnOk result (naming.new.next
-        ≡ after_out naming.old.next (named (cut_of blocked.now) number out)) }
+        ≡ after_out naming.old.next (growing.name_of growth.now out)) }
     ensures names { OnOk result (naming.new.names.items ≡ naming.old.names.items
-        ++ out_names lead naming.old.next (named (cut_of blocked.now) number out)) }
+        ++ out_names growth.now.lead naming.old.next (growing.name_of growth.now out)) }
 {
-    match kept_code(blocked, tables, number, out) {
-        Some(former) => give_name(lead, former, naming),
+    match kept_code(growth.blocked, growth.tables, growth.number, out) {
+        Some(former) => give_name(growth.lead, former, naming),
         None => Ok(None),
     }
 }

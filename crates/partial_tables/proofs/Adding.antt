@@ -14,7 +14,9 @@ use Rattle.combine_table.specs.declared.comb.Comb.{Comb}
 use Rattle.combine_table.specs.Accumulators.{HasShape, merged}
 use Rattle.combine_table.proofs.Merging.{merged-HasShape}
 use Rattle.indexmap.specs.IndexMap.{set_value_at, insert_entry}
-use Rattle.partial_tables.specs.Tables.{Pairs, has_key, added, HaveShape, HaveDistinctKeys}
+use Rattle.partial_tables.specs.declared.table.AddFault.{AddFault}
+use Rattle.partial_tables.specs.declared.table.AddFault.TheVariants.{Full, Memory}
+use Rattle.partial_tables.specs.Tables.{Pairs, Table, IsRefusedAdd, has_key, added, HaveShape, HaveDistinctKeys}
 use Rattle.partial_tables.proofs.Equals.{value_eq-turned, finds, derived_eq-finds}
 
 -- ---- where the key stands
@@ -275,3 +277,11 @@ pub new_is : (c : Comb) (ps grown : Pairs) (k a : Value)
 new_is c ps grown k a h e =
     let none : has_key k ps ≡ false = not_there k ps (ap is_some h) in
     inserted_is ps grown k a none e ∙ sym (put_last_is c ps k a none)
+
+-- ---- a refusal
+
+-- where there is room, memory was wanting
+pub room_left : (old : Table) (k a : Value) (new : Table) (fault : AddFault)
+    → IsRefusedAdd old k a new fault → length old.partials < old.room → fault ≡ Memory
+room_left old k a new (Full _ _) h room = absurd (omega (arith, h.3, room))
+room_left old k a new Memory h room = refl

@@ -58,8 +58,8 @@ holding t partials = record { comb = t.comb; room = t.room; partials = partials 
 
 -- the key is new and there is no room for it, and nothing has changed; or memory is wanting, and
 -- the table is empty
-abbrev pub IsRefused : Table → Value → Value → Table → AddFault → Type 0
-IsRefused old k a new (Full key acc) =
+abbrev pub IsRefusedAdd : Table → Value → Value → Table → AddFault → Type 0
+IsRefusedAdd old k a new (Full key acc) =
     (key ≡ k) × (acc ≡ a) × IsFalse (has_key k old.partials)
     × (old.room ≤ length old.partials) × (new ≡ old)
-IsRefused old k a new Memory = new ≡ holding old []
+IsRefusedAdd old k a new Memory = new ≡ holding old []

@@ -64,20 +64,24 @@ impl Lifting {
         ensures { (pairs : List GhostValue) → IsLifted comb self.old pairs →
             OnOk result (IsLifted comb self.new (pairs ++ pair_of key value.now ∷ [])) }
     {
-        let acc = lift(alloc, comb, value)?;
-        put(alloc, &mut self.table, &mut self.others, key, acc)?;
-        Ok(())
+        match lift(alloc, comb, value) {
+            Ok(acc) => {
+                put(alloc, &mut self.table, &mut self.others, key, acc)?;
+                Ok(())
+            }
+            Err(fault) => {
+                drop(key);
+                Err(fault)
+            }
+        }
     }
 
     /// All the accumulators.
-    pub fn into_partials(self, alloc: Global) -> Result<Vec<Partial>, AllocError>
+    pub fn into_partials(self) -> Result<Vec<Partial>, AllocError>
         ensures { IfOk result (λ partials. partials.items ≡ accumulators_of self) }
     {
-        let Lifting { table, others } = self;
-        let mut table = table;
-        let mut others = others;
-        let mut last = table.take(alloc)?;
-        others.append(&mut last)?;
+        let Lifting { table, mut others } = self;
+        table.into_entries(&mut others)?;
         Ok(others)
     }
 }
@@ -95,7 +99,7 @@ pub fn lift_borrowed(
         AreTabled comb (pairs_of (map (λ pair. pair.now) pairs.entry.items)) partials.items) }
 {
     let lifting = lift_each(alloc, comb, pairs)?;
-    let partials = lifting.into_partials(alloc)?;
+    let partials = lifting.into_partials()?;
     Ok(partials)
 }
 
@@ -143,11 +147,13 @@ fn put_copy(
 {
     match table.add_copy(alloc, key, acc) {
         Ok(()) => Ok(()),
-        Err(AddFault::Memory) => Err(AllocError),
-        Err(AddFault::Full { key, acc }) => {
-            put(alloc, table, others, key, acc)?;
-            Ok(())
-        }
+        Err(fault) => match fault {
+            AddFault::Memory => Err(AllocError),
+            AddFault::Full { key, acc } => {
+                put(alloc, table, others, key, acc)?;
+                Ok(())
+            }
+        },
     }
 }
 
@@ -172,12 +178,20 @@ fn put(
 {
     match table.add(alloc, key, acc) {
         Ok(()) => Ok(()),
-        Err(AddFault::Memory) => Err(AllocError),
-        Err(AddFault::Full { key, acc }) => {
-            table.move_behind(alloc, others)?;
-            put_first(alloc, table, key, acc)?;
-            Ok(())
-        }
+        Err(fault) => match fault {
+            AddFault::Memory => Err(AllocError),
+            AddFault::Full { key, acc } => match table.move_behind(alloc, others) {
+                Ok(()) => {
+                    put_first(alloc, table, key, acc)?;
+                    Ok(())
+                }
+                Err(fault) => {
+                    drop(key);
+                    drop(acc);
+                    Err(fault)
+                }
+            },
+        },
     }
 }
 
@@ -190,7 +204,6 @@ fn put_first(alloc: Global, table: &mut Partials, key: Value, acc: Value) -> Res
 {
     match table.add(alloc, key, acc) {
         Ok(()) => Ok(()),
-        Err(AddFault::Memory) => Err(AllocError),
-        Err(AddFault::Full { .. }) => unreachable!(),
+        Err(fault) => Err(fault.into_memory()),
     }
 }

@@ -3,7 +3,7 @@ ghost use Rattle.std.specs.Prelude.{◌≡◌, ◌<◌, All, IfOk, OnOk, length,
 ghost use Rattle.partial_tables.specs.Tables.{IsPartialOf, added, holding};
 ghost use Rattle.partial_tables.specs.Merges.{merged_by_key};
 
-use crate::table::{AddFault, Partial, Partials};
+use crate::table::{Partial, Partials};
 use combine_table::Comb;
 use flume_value::Value;
 use std::alloc::{AllocError, Global};
@@ -42,10 +42,10 @@ fn merge_in_copy(
     ensures partial { IsPartialOf _comb partial.now }
 {
     let (key, acc) = partial;
-    match table.add_copy(alloc, key, copied(alloc, acc)?) {
+    let acc = copied(alloc, acc)?;
+    match table.add_copy(alloc, key, acc) {
         Ok(()) => Ok(()),
-        Err(AddFault::Memory) => Err(AllocError),
-        Err(AddFault::Full { .. }) => unreachable!(),
+        Err(fault) => Err(fault.into_memory()),
     }
 }
 

@@ -6,7 +6,8 @@ ghost use Rattle.flume_value.specs.Parts.{wide_of};
 ghost use Rattle.combine_table.specs.Accumulators.{HasShape, merged};
 ghost use Rattle.combine_table.specs.Combinations.{wrapped};
 ghost use Rattle.combine_table.specs.Contents.{wide_or_zero};
-ghost use Rattle.partial_tables.specs.Tables.{has_key, added, holding, HaveShape, HaveDistinctKeys, IsRefused};
+ghost use Rattle.partial_tables.specs.declared.table.AddFault.TheVariants.{Memory};
+ghost use Rattle.partial_tables.specs.Tables.{has_key, added, holding, HaveShape, HaveDistinctKeys, IsRefusedAdd};
 
 use combine_table::{Comb, merge};
 use flume_value::{Value, compare};
@@ -55,6 +56,16 @@ pub enum AddFault {
     Memory,
 }
 
+impl AddFault {
+    // The fault where the table had room.
+    pub(crate) fn into_memory(self) -> AllocError
+        requires { self ≡ Memory }
+    {
+        drop(self);
+        AllocError
+    }
+}
+
 impl Partials {
     /// A table with nothing in it. It takes no memory.
     pub fn new(alloc: Global, comb: Comb, room: u64) -> Partials
@@ -76,7 +87,7 @@ impl Partials {
             (self.new ≡ holding self.old (added self.old.comb self.old.partials key acc)) }
         ensures room { OnOk result
             (IsFalse (has_key key self.old.partials) → length self.old.partials < self.old.room) }
-        ensures refused { IfErr result (IsRefused self.old key acc self.new) }
+        ensures refused { IfErr result (IsRefusedAdd self.old key acc self.new) }
     {
         if self.table.len() as u64 >= self.room {
             return self.add_to_full(alloc, key, acc);
@@ -98,16 +109,19 @@ impl Partials {
             (self.new ≡ holding self.old (added self.old.comb self.old.partials key acc)) }
         ensures room { OnOk result
             (IsFalse (has_key key self.old.partials) → length self.old.partials < self.old.room) }
-        ensures refused { IfErr result (IsRefused self.old key acc self.new) }
+        ensures refused { IfErr result (IsRefusedAdd self.old key acc self.new) }
     {
         match self.table.get_index_of(&key) {
-            Some(at) => match merge_into(alloc, self.comb, &mut self.table[at], acc) {
-                Ok(()) => Ok(()),
-                Err(AllocError) => {
-                    clear(alloc, &mut self.table);
-                    Err(AddFault::Memory)
+            Some(at) => {
+                drop(key);
+                match merge_into(alloc, self.comb, &mut self.table[at], acc) {
+                    Ok(()) => Ok(()),
+                    Err(AllocError) => {
+                        clear(alloc, &mut self.table);
+                        Err(AddFault::Memory)
+                    }
                 }
-            },
+            }
             None => Err(AddFault::Full { key, acc }),
         }
     }
@@ -119,7 +133,7 @@ impl Partials {
             (self.new ≡ holding self.old (added self.old.comb self.old.partials key.now acc)) }
         ensures room { OnOk result (IsFalse (has_key key.now self.old.partials) →
             length self.old.partials < self.old.room) }
-        ensures refused { IfErr result (IsRefused self.old key.now acc self.new) }
+        ensures refused { IfErr result (IsRefusedAdd self.old key.now acc self.new) }
     {
         match key {
             Value::Int(n) => self.add(alloc, Value::Int(*n), acc),
@@ -134,7 +148,7 @@ impl Partials {
             (self.new ≡ holding self.old (added self.old.comb self.old.partials key.now acc)) }
         ensures room { OnOk result (IsFalse (has_key key.now self.old.partials) →
             length self.old.partials < self.old.room) }
-        ensures refused { IfErr result (IsRefused self.old key.now acc self.new) }
+        ensures refused { IfErr result (IsRefusedAdd self.old key.now acc self.new) }
     {
         match self.table.get_index_of(key) {
             Some(at) => match merge_into(alloc, self.comb, &mut self.table[at], acc) {
@@ -147,6 +161,7 @@ impl Partials {
             None => match key.copy(alloc) {
                 Ok(key) => self.add_new(alloc, key, acc),
                 Err(AllocError) => {
+                    drop(acc);
                     clear(alloc, &mut self.table);
                     Err(AddFault::Memory)
                 }
@@ -161,7 +176,7 @@ impl Partials {
         ensures added { OnOk result
             (self.new ≡ holding self.old (added self.old.comb self.old.partials key acc)) }
         ensures room { OnOk result (length self.old.partials < self.old.room) }
-        ensures refused { IfErr result (IsRefused self.old key acc self.new) }
+        ensures refused { IfErr result (IsRefusedAdd self.old key acc self.new) }
     {
         if self.table.len() as u64 >= self.room {
             return Err(AddFault::Full { key, acc });
@@ -203,6 +218,14 @@ impl Partials {
         append_entries(table, others)
     }
 
+    /// Moves all that the table has behind others, in order, where nothing is put in any more.
+    pub(crate) fn into_entries(self, others: &mut Vec<Partial>) -> Result<(), AllocError>
+        ensures { OnOk result (others.new.items ≡ others.old.items ++ self.partials) }
+    {
+        let Partials { table, .. } = self;
+        append_entries(table, others)
+    }
+
     /// All that the table has, keys ascending.
     pub fn into_ascending(self, alloc: Global) -> Result<Vec<Partial>, AllocError>
         ensures same { IfOk result (λ partials. IsPermutation self.partials partials.items) }
@@ -229,8 +252,14 @@ fn put_last(table: &mut IndexMap<Value, Value>, key: Value, acc: Value) -> Resul
     ensures { OnOk result (table.new.entries ≡ table.old.entries ++ (key, acc) ∷ []) }
 {
     match table.insert(key, acc) {
-        Ok(_) => Ok(()),
-        Err(_) => Err(AllocError),
+        Ok(former) => {
+            drop(former);
+            Ok(())
+        }
+        Err(refused) => {
+            drop(refused);
+            Err(AllocError)
+        }
     }
 }
 
@@ -255,7 +284,10 @@ fn put_or_merge(
                 Ok(())
             }
         },
-        Err(_) => Err(AllocError),
+        Err(refused) => {
+            drop(refused);
+            Err(AllocError)
+        }
     }
 }
 
@@ -273,12 +305,15 @@ fn merge_behind(
 {
     match comb {
         Comb::Sum | Comb::Count => {
-            *slot = Value::Wide(wide_sum(&former, slot));
+            let sum = wide_sum(&former, slot);
+            drop(former);
+            put(slot, Value::Wide(sum));
             Ok(())
         }
         _ => {
             let acc = replace(slot, Value::Bool(false));
-            *slot = merge(alloc, comb, former, acc)?;
+            let merged = merge(alloc, comb, former, acc)?;
+            put(slot, merged);
             Ok(())
         }
     }
@@ -293,15 +328,26 @@ fn merge_into(alloc: Global, comb: Comb, slot: &mut Value, acc: Value) -> Result
 {
     match comb {
         Comb::Sum | Comb::Count => {
-            *slot = Value::Wide(wide_sum(slot, &acc));
+            let sum = wide_sum(slot, &acc);
+            drop(acc);
+            put(slot, Value::Wide(sum));
             Ok(())
         }
         _ => {
             let old = replace(slot, Value::Bool(false));
-            *slot = merge(alloc, comb, old, acc)?;
+            let merged = merge(alloc, comb, old, acc)?;
+            put(slot, merged);
             Ok(())
         }
     }
+}
+
+// Puts a value into a slot, and lets go the one that stood there.
+#[inline(always)]
+fn put(slot: &mut Value, value: Value)
+    ensures { slot.new ≡ value }
+{
+    drop(replace(slot, value));
 }
 
 // The sum of two wide numbers, wrapped.
@@ -330,8 +376,8 @@ fn append_entries(
 ) -> Result<(), AllocError>
     ensures { OnOk result (others.new.items ≡ others.old.items ++ table.entries) }
 {
-    for (key, acc) in table {
-        others.push((key, acc))?;
+    for entry in table {
+        others.push(entry)?;
     }
     Ok(())
 }
@@ -340,9 +386,7 @@ fn listed(alloc: Global, table: IndexMap<Value, Value>) -> Result<Vec<Partial>, 
     ensures { IfOk result (λ partials. partials.items ≡ table.entries) }
 {
     let mut partials = Vec::with_capacity(alloc, table.len())?;
-    for (key, acc) in table {
-        partials.push((key, acc))?;
-    }
+    append_entries(table, &mut partials)?;
     Ok(partials)
 }
 

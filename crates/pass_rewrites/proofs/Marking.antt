@@ -31,20 +31,14 @@ use Rattle.pass_rewrites.proofs.Sinking.{marks_list}
 -- ---- the nodes that are left are of their former kinds
 
 holds_takes : (j : ℕ) (x : Node) → holds_out j x ≡ true → takes_mark (Some x) ≡ true
-holds_takes j (Source r) h = absurd (false≢true h)
-holds_takes j (Flatten ins) h = absurd (false≢true h)
 holds_takes j (Pdo c f) h = refl
-holds_takes j (Gbk c o l k) h = absurd (false≢true h)
-holds_takes j (Barrier ins o l a) h = absurd (false≢true h)
+holds_takes j _ h = absurd (false≢true h)
 
 takes_finished : (r : Place → Place) (x : Node)
     → takes_mark (Some (reread r (with_numbers x))) ≡ takes_mark (Some x)
-takes_finished r (Source s) = refl
-takes_finished r (Flatten ins) = refl
-takes_finished r (Pdo c f) = refl
 takes_finished r (Gbk c o l None) = refl
 takes_finished r (Gbk c o l (Some k)) = refl
-takes_finished r (Barrier ins o l a) = refl
+takes_finished r _ = refl
 
 module _ (b : Cut) where
   abbrev es : List Entry
@@ -156,12 +150,9 @@ marks_parents b fu a =
 
 takes_reread : (r : Place → Place) (x : Node)
     → takes_mark (Some (reread r x)) ≡ takes_mark (Some x)
-takes_reread r (Source s) = refl
-takes_reread r (Flatten ins) = refl
-takes_reread r (Pdo c f) = refl
 takes_reread r (Gbk c o l None) = refl
 takes_reread r (Gbk c o l (Some k)) = refl
-takes_reread r (Barrier ins o l a) = refl
+takes_reread r _ = refl
 
 -- under the least numbers
 mark_least : (b : Blocked) → IsFusible b → (c : Place) → CanMark (fused_by_parents b).graph c

@@ -13,7 +13,7 @@ use Rattle.graph_laws.proofs.SingleSteps.{AllSteps-remarked}
 use Rattle.optimise.specs.Optimised.{IsRefined}
 use Rattle.fuse_chain.specs.of_pardo_fuse.Fusing.{fused}
 use Rattle.fuse_chain.specs.of_pardo_fuse.Wellformed.{IsFusible}
-use Rattle.sink_laws.specs.Kept.{IsKept}
+use Rattle.sink_laws.specs.Kept.{KeepsTypesAndSteps}
 use Rattle.sink_laws.proofs.Nexts.{kept_sunk}
 use Rattle.sink_laws.proofs.TypesKept.{AllSteps-kept}
 use Rattle.graph_rewrites.specs.Replays.{Leads}
@@ -59,7 +59,7 @@ pub refined_list : (scales : List ℕ) (g : Graph) (b : Blocked) → IsGraphOk g
     → (rs : List Rewrite) × Leads 0 rs (unmarked g) b
 refined_list scales g b ok u n x =
     let m : Blocked = x.blocked in
-    let k : IsKept g x.sunk = kept_sunk g x.sunk ok x.is_sunk.leads in
+    let k : KeepsTypesAndSteps g x.sunk = kept_sunk g x.sunk ok x.is_sunk.leads in
     let good : IsGraphOk m.graph =
     subst IsGraphOk (sym x.is_lifted) (IsGraphOk-lifted x.sunk k.good.ok) in
     let ready : IsBlockedOk m =

@@ -9,10 +9,11 @@ use Rattle.exec_graph.specs.declared.graph.Place.{Place}
 use Rattle.fusion_blocks.specs.Blocks.{MarksLead, unmarked, with_mark}
 use Rattle.graph_laws.specs.Lifting.{LiftsLead, lifted, lifted_at}
 use Rattle.graph_laws.proofs.LiftChain.{lifts_lead}
-use Rattle.sink_laws.specs.Chain.{IsLink, Leads as Sinks, go, stay}
-use Rattle.sink_laws.specs.Kept.{IsKept}
+use Rattle.sink_laws.specs.Chain.{IsLink, SinksTo as Sinks, go, stay}
+use Rattle.sink_laws.specs.Kept.{KeepsTypesAndSteps}
 use Rattle.sink_laws.proofs.Nexts.{kept_sunk, next_link}
-use Rattle.graph_rewrites.specs.Replays.{Leads, group_of}
+use Rattle.graph_rewrites.specs.Replays.{CanFollow, Leads, group_of}
+use Rattle.graph_rewrites.specs.Rewrites.{applied}
 use Rattle.graph_rewrites.specs.declared.rewrite.Rewrite.{Rewrite}
 use Rattle.graph_rewrites.specs.declared.rewrite.Rewrite.TheVariants.{Merge, Sink, Lift, Mark}
 use Rattle.graph_rewrites.proofs.Replaying.{last_group, leads_more}
@@ -24,36 +25,31 @@ use Rattle.pass_rewrites.proofs.Lists.{last_is}
 behind : (a b : Blocked) (s : ByRewrites 0 a b) → last_group 0 s.rewrites ≤ 0
 behind a b s = let last : last_group 0 s.rewrites ≡ 0 = last_is 0 s.rewrites s.all in omega arith
 
+one_more : (g h i : Graph) (r : Rewrite) (s : ByRewrites 0 (unmarked g) (unmarked h))
+    → group_of r ≡ 0 → CanFollow (last_group 0 s.rewrites) (unmarked h) r
+    → applied (unmarked h) r ≡ unmarked i → ByRewrites 0 (unmarked g) (unmarked i)
+one_more g h i r s e f is = record {
+  rewrites = s.rewrites ++ r ∷ [];
+  all = Each-append (λ (x : Rewrite). group_of x ≡ 0) s.rewrites (r ∷ []) s.all (e, tt);
+  leads = subst (λ (x : Blocked). Leads 0 (s.rewrites ++ r ∷ []) (unmarked g) x) is
+      (leads_more 0 s.rewrites r (unmarked g) (unmarked h) s.leads f);
+}
+
 link_more : (g h i : Graph) → ByRewrites 0 (unmarked g) (unmarked h) → IsLink h i
     → ByRewrites 0 (unmarked g) (unmarked i)
 link_more g h i s (inl l) =
-    let r : Rewrite = Merge l.0.flatten l.0.other in
-    record {
-      rewrites = s.rewrites ++ r ∷ [];
-      all = Each-append (λ (x : Rewrite). group_of x ≡ 0) s.rewrites (r ∷ []) s.all (refl, tt);
-      leads = subst (λ (x : Graph). Leads 0 (s.rewrites ++ r ∷ []) (unmarked g) (unmarked x)) l.2
-          (leads_more 0 s.rewrites r (unmarked g) (unmarked h) s.leads
-          (behind (unmarked g) (unmarked h) s, l.1));
-    }
+    one_more g h i (Merge l.0.flatten l.0.other) s refl
+    (behind (unmarked g) (unmarked h) s, l.1) (ap unmarked l.2)
 link_more g h i s (inr l) =
-    let r : Rewrite = Sink l.0.flatten l.0.other in
-    record {
-      rewrites = s.rewrites ++ r ∷ [];
-      all = Each-append (λ (x : Rewrite). group_of x ≡ 0) s.rewrites (r ∷ []) s.all (refl, tt);
-      leads = subst (λ (x : Graph). Leads 0 (s.rewrites ++ r ∷ []) (unmarked g) (unmarked x)) l.3
-          (leads_more 0 s.rewrites r (unmarked g) (unmarked h) s.leads (
-            behind (unmarked g) (unmarked h) s,
-            (
-              l.1,
-              subst (λ (x : Graph). total_size x.nodes ≤ most_nodes) (sym l.3) l.2,
-            ),
-          ));
-    }
+    one_more g h i (Sink l.0.flatten l.0.other) s refl (
+      behind (unmarked g) (unmarked h) s,
+      (l.1, subst (λ (x : Graph). total_size x.nodes ≤ most_nodes) (sym l.3) l.2),
+    ) (ap unmarked l.3)
 
 pub sinks_lead : (g h : Graph) → IsGraphOk g → Sinks g h → ByRewrites 0 (unmarked g) (unmarked h)
 sinks_lead g h ok (stay x) = record { rewrites = []; all = tt; leads = refl }
 sinks_lead g h ok (go x y z l e) =
-    let k : IsKept x y = kept_sunk x y ok l in
+    let k : KeepsTypesAndSteps x y = kept_sunk x y ok l in
     link_more x y z (sinks_lead x y ok l) (next_link y z k.good.ok e)
 
 -- ---- lifts

@@ -11,14 +11,14 @@ use Rattle.crew.specs.Drills.{Settings}
 use Rattle.outside.specs.Accounts.{Account}
 use Rattle.crew.specs.Hosts.{SomeHost}
 use Rattle.crew.specs.Outs.{IsOut, RanOn}
-use Rattle.crew.specs.Phases.{AreOuts, IsClosed, IsWork, Settled, Unsettled}
+use Rattle.crew.specs.Phases.{AreWinnersOuts, IsClosed, IsWork, Settled, Unsettled}
 use Rattle.crew.specs.Work.{HaveWorked}
 use Rattle.crew.proofs.Fronts.{whole_so_far}
 use Rattle.phase_outs.specs.declared.made.PhaseOuts.{PhaseOuts}
 use Rattle.phase_outs.specs.declared.stop.PhaseStop.{PhaseStop}
 use Rattle.phase_outs.specs.declared.stop.PhaseStop.TheVariants as stop
 use Rattle.phase_outs.specs.inner.Made.{AreMadeOf, IsFirstTrap, IsTrapped, outs_in}
-use Rattle.phase_outs.specs.Outs.{AreMade, AreMadeBelow, HasComeTo, HasMade, HasRun, IsStop}
+use Rattle.phase_outs.specs.Outs.{HaveMadeOuts, AreMadeBelow, HasComeTo, HasMade, HasRun, IsStop}
 
 -- what f gives of an element is that of some element
 from_map : {A B : Type 0} (f : A → B) (o : Option A) (b : B) → option_map f o ≡ Some b
@@ -62,7 +62,7 @@ some_at (x ∷ xs) (suc k) h = some_at xs k (omega arith)
 module _ (tasks : ℕ) (s : Settings) {O : Type 0} (is_value : ℕ → Result O Trap → Type 0)
     (places : ℕ → ℕ) (olds news : List Account) (board : BoardState) (n : ℕ)
     (ks : List (KeptOut (Result O Trap)))
-    (a : AreOuts tasks s is_value places olds news board n ks) where
+    (a : AreWinnersOuts tasks s is_value places olds news board n ks) where
   -- the out at a place is of the task of that number
   task_at : (t : ℕ) (k : KeptOut (Result O Trap)) → slice_get ks t ≡ Some k → k.task ≡ t
   task_at t k e =
@@ -141,7 +141,7 @@ module _ (tasks : ℕ) (s : Settings) {O : Type 0} (is_value : ℕ → Result O 
 
   pub all_made : (made : PhaseOuts O) → tasks ≡ n → IsClosed tasks s (length olds) board
       → HaveWorked tasks s places board.passes olds news → AreMadeOf ks made
-      → AreMade tasks s is_value places olds news made
+      → HaveMadeOuts tasks s is_value places olds news made
   all_made made whole closed worked m = record {
     count = (
       sym (length-map made.outs.items Ok) ∙ ap length (sym m.outs)
@@ -195,7 +195,7 @@ module _ (tasks : ℕ) (s : Settings) {O : Type 0} (is_value : ℕ → Result O 
     (places : ℕ → ℕ) (olds news : List Account) where
   pub settled_made : (ks : List (KeptOut (Result O Trap))) (made : PhaseOuts O)
       → Settled tasks s is_value places olds news ks → AreMadeOf ks made
-      → AreMade tasks s is_value places olds news made
+      → HaveMadeOuts tasks s is_value places olds news made
   settled_made ks made h m =
       all_made tasks s is_value places olds news h.board tasks ks h.outs made refl h.closed h.worked
       m

@@ -22,7 +22,7 @@ module _ (tasks : ℕ) (s : Settings) {O : Type 0} (is_value : ℕ → Result O 
     (places : ℕ → ℕ) (olds news : List Account) where
   -- each task has made its out, and the attempt that is named has run: it has won the task, by the
   -- board of the phase's work
-  pub record AreMade (made : PhaseOuts O) : Type 0 where
+  pub record HaveMadeOuts (made : PhaseOuts O) : Type 0 where
     pub count : (length made.outs.items ≡ tasks) × (length made.attempts.items ≡ tasks)
     pub values : (task : ℕ) (out : O) → slice_get made.outs.items task ≡ Some out →
         is_value task (Ok out)

@@ -3,7 +3,7 @@ ghost use Rattle.std.specs.Prelude.{◌≡◌, ◌*◌, ◌^◌, ◌<◌, ◌≤
 ghost use Rattle.std.specs.List.{AllZip};
 ghost use Rattle.crew.specs.Hosts.{Grew};
 ghost use Rattle.crew.specs.Phases.{AreAskedOnce};
-ghost use Rattle.phase_outs.specs.Outs.{AreMade, IsStop};
+ghost use Rattle.phase_outs.specs.Outs.{HaveMadeOuts, IsStop};
 
 use crate::made::{PhaseOuts, made_outs};
 use crate::stop::PhaseStop;
@@ -33,7 +33,7 @@ pub fn run_to_end<
     ensures grew { AllZip Grew (map H.account hosts.old) (map H.account hosts.new) }
     ensures asked { AreAskedOnce (T.count_of tasks.now) phase.now (T.places tasks.now)
         (map H.account hosts.old) (map H.account hosts.new) }
-    ensures made { IfOk result (AreMade (T.count_of tasks.now) phase.now (T.is_value tasks.now)
+    ensures made { IfOk result (HaveMadeOuts (T.count_of tasks.now) phase.now (T.is_value tasks.now)
         (T.places tasks.now) (map H.account hosts.old) (map H.account hosts.new)) }
     ensures stop { IfErr result (IsStop (T.count_of tasks.now) phase.now (T.is_value tasks.now)
         (T.places tasks.now) (map H.account hosts.old) (map H.account hosts.new)) }

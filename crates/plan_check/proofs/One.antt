@@ -20,7 +20,7 @@ use Rattle.plan_files.specs.Reads.{HasNoShape, HasValue, IsFile, IsNoJson}
 use Rattle.plan_files.specs.declared.file.PlanFile.{PlanFile}
 use Rattle.plan_json.specs.PlanJson.{plan_json_of}
 use Rattle.plan_writing.specs.Naming.{Naming}
-use Rattle.plan_check.specs.Checked.{Forms, HasText, IsChecked, IsLedTo, IsOther, IsStopped}
+use Rattle.plan_check.specs.Checked.{Forms, HasText, IsChecked, IsLedTo, IsOther, StopsAtRewrite}
 use Rattle.plan_faults.specs.declared.fault.PlanFault.{PlanFault}
 use Rattle.plan_faults.specs.declared.fault.PlanFault.TheVariants.{Refused, Memory}
 use Rattle.plan_faults.specs.declared.fault.PlanKind.TheVariants.{NotJson, Shape, BadStep, Differs}
@@ -79,14 +79,14 @@ same_text names g bytes p q ok a b h =
     ap (λ (f : PlanFile). f.plan) (sym (file_one bytes a.file b.file a.is_file b.is_file)) ∙ h
     ∙ ap (λ (r : Plan). Some (compact_text (plan_json_of names r))) (led_one g bytes p q ok a b)
 
-stopped_one : (g : Graph) (bytes : List ℕ) (i j : ℕ) → IsStopped g bytes i
-    → IsStopped g bytes j → i ≡ j
+stopped_one : (g : Graph) (bytes : List ℕ) (i j : ℕ) → StopsAtRewrite g bytes i
+    → StopsAtRewrite g bytes j → i ≡ j
 stopped_one g bytes i j a b =
     let same : a.file ≡ b.file = file_one bytes a.file b.file a.is_file b.is_file in
     stops_once 0 a.file.rewrites (unmarked g) i j a.stops
     (subst (λ (f : PlanFile). StopsAt 0 f.rewrites (unmarked g) j) (sym same) b.stops)
 
-stopped_on : (g : Graph) (bytes : List ℕ) (i : ℕ) (p : Plan) → IsStopped g bytes i
+stopped_on : (g : Graph) (bytes : List ℕ) (i : ℕ) (p : Plan) → StopsAtRewrite g bytes i
     → IsLedTo g bytes p → ⊥
 stopped_on g bytes i p a b =
     let same : a.file ≡ b.file = file_one bytes a.file b.file a.is_file b.is_file in

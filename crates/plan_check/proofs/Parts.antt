@@ -15,7 +15,7 @@ use Rattle.plan_files.specs.declared.file.FileFault.TheVariants as file
 use Rattle.plan_files.specs.declared.file.PlanFile.{PlanFile}
 use Rattle.plan_laws.specs.Operations.{SamePlan}
 use Rattle.plan_writing.specs.Naming.{Naming}
-use Rattle.plan_check.specs.Checked.{Forms, HasText, IsChecked, IsCompared, IsFormedOf, IsMade}
+use Rattle.plan_check.specs.Checked.{Forms, HasText, IsChecked, IsCompared, IsFormedOf}
 use Rattle.plan_check.specs.Faults.{of_file, of_replay}
 use Rattle.plan_faults.specs.declared.fault.PlanFault.{PlanFault}
 use Rattle.plan_faults.specs.declared.fault.PlanFault.TheVariants.{Refused, Memory}
@@ -35,23 +35,6 @@ file_refused names g bytes f e r is =
     subst (λ (x : PlanFault). IsChecked names g bytes (Err x)) (sym is)
     (file_fault names g bytes f r)
 
-pub made_checked : (names : Naming) (g : Graph) (bytes : List ℕ) (f : PlanFile)
-    (r : Result Plan PlanFault) → IsFile bytes f → IsMade names g f r
-    → IsChecked names g bytes r
-made_checked names g bytes f (Ok plan) is m =
-    (record { file = f; is_file = is; forms = m.0 }, m.1)
-made_checked names g bytes f (Err Memory) is m = tt
-made_checked names g bytes f (Err (Refused step NotJson)) is m = absurd m
-made_checked names g bytes f (Err (Refused step Shape)) is m = absurd m
-made_checked names g bytes f (Err (Refused step BadStep)) is m =
-    record { file = f; is_file = is; stops = m }
-made_checked names g bytes f (Err (Refused step Differs)) is m = record {
-  plan = m.0;
-  led = record { file = f; is_file = is; forms = m.1 };
-  behind = m.2;
-  other = m.3;
-}
-
 -- ---- the rewrites
 
 replay_fault : (g : Graph) (rs : List Rewrite) (f : ReplayFault) → IsReplayed g rs (Err f)
@@ -64,13 +47,15 @@ pub replay_refused : (g : Graph) (rs : List Rewrite) (f : ReplayFault) (e : Plan
 replay_refused g rs f e r is =
     subst (λ (x : PlanFault). IsFormedOf g rs (Err x)) (sym is) (replay_fault g rs f r)
 
-pub formed_fault : (names : Naming) (g : Graph) (f : PlanFile) (e : PlanFault)
-    → IsFormedOf g f.rewrites (Err e) → IsMade names g f (Err e)
-formed_fault names g f Memory m = tt
-formed_fault names g f (Refused step NotJson) m = absurd m
-formed_fault names g f (Refused step Shape) m = absurd m
-formed_fault names g f (Refused step BadStep) m = m
-formed_fault names g f (Refused step Differs) m = absurd m
+pub formed_refused : (names : Naming) (g : Graph) (bytes : List ℕ) (f : PlanFile)
+    (e : PlanFault) → IsFile bytes f → IsFormedOf g f.rewrites (Err e)
+    → IsChecked names g bytes (Err e)
+formed_refused names g bytes f Memory is m = tt
+formed_refused names g bytes f (Refused step BadStep) is m =
+    record { file = f; is_file = is; stops = m }
+formed_refused names g bytes f (Refused step NotJson) is m = absurd m
+formed_refused names g bytes f (Refused step Shape) is m = absurd m
+formed_refused names g bytes f (Refused step Differs) is m = absurd m
 
 -- ---- the plan
 
@@ -87,16 +72,24 @@ pub carried : (P : Plan → Type 0) (r : Result Plan PlanFault) (plan : Plan)
 carried P (Ok p) plan is h = subst P (sym is) h
 carried P (Err e) plan is h = tt
 
-pub compared_made : (names : Naming) (g : Graph) (f : PlanFile) (plan : Plan)
-    (r : Result Plan PlanFault) → Forms g f.rewrites plan → IfOk r (λ p. p ≡ plan)
-    → IsCompared names f plan r → IsMade names g f r
-compared_made names g f plan (Ok p) forms is m = (
-  subst (λ (q : Plan). Forms g f.rewrites q) (sym is) forms,
-  subst (λ (q : Plan). HasText names f q) (sym is) m,
+pub compared_checked : (names : Naming) (g : Graph) (bytes : List ℕ) (f : PlanFile)
+    (plan : Plan) (r : Result Plan PlanFault) → IsFile bytes f → Forms g f.rewrites plan
+    → IfOk r (λ p. p ≡ plan) → IsCompared names f plan r → IsChecked names g bytes r
+compared_checked names g bytes f plan (Ok p) is forms same m = (
+  record {
+    file = f;
+    is_file = is;
+    forms = subst (λ (q : Plan). Forms g f.rewrites q) (sym same) forms;
+  },
+  subst (λ (q : Plan). HasText names f q) (sym same) m,
 )
-compared_made names g f plan (Err Memory) forms is m = tt
-compared_made names g f plan (Err (Refused step NotJson)) forms is m = m.0
-compared_made names g f plan (Err (Refused step Shape)) forms is m = m.0
-compared_made names g f plan (Err (Refused step BadStep)) forms is m = absurd m.0
-compared_made names g f plan (Err (Refused step Differs)) forms is m =
-    (plan, forms, m.0, m.1)
+compared_checked names g bytes f plan (Err Memory) is forms same m = tt
+compared_checked names g bytes f plan (Err (Refused step Differs)) is forms same m = record {
+  plan = plan;
+  led = record { file = f; is_file = is; forms = forms };
+  behind = m.0;
+  other = m.1;
+}
+compared_checked names g bytes f plan (Err (Refused step NotJson)) is forms same m = absurd m.0
+compared_checked names g bytes f plan (Err (Refused step Shape)) is forms same m = absurd m.0
+compared_checked names g bytes f plan (Err (Refused step BadStep)) is forms same m = absurd m.0

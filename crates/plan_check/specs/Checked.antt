@@ -35,7 +35,7 @@ pub record IsLedTo (g : Graph) (bytes : List ℕ) (plan : Plan) : Type 0 where
   pub forms : Forms g file.rewrites plan
 
 -- the rewrite of that number is the first that may not be made
-pub record IsStopped (g : Graph) (bytes : List ℕ) (step : ℕ) : Type 0 where
+pub record StopsAtRewrite (g : Graph) (bytes : List ℕ) (step : ℕ) : Type 0 where
   pub file : PlanFile
   pub is_file : IsFile bytes file
   pub stops : StopsAt 0 file.rewrites (unmarked g) step
@@ -48,17 +48,17 @@ pub record IsOther (names : Naming) (g : Graph) (bytes : List ℕ) (step : ℕ) 
   pub other : HasText names led.file plan → ⊥
 
 -- the bytes are refused so
-abbrev pub IsRefused : Naming → Graph → List ℕ → ℕ → PlanKind → Type 0
-IsRefused names g bytes step NotJson = (step ≡ 0) × IsNoJson bytes
-IsRefused names g bytes step Shape = (step ≡ 0) × HasNoShape bytes
-IsRefused names g bytes step BadStep = IsStopped g bytes step
-IsRefused names g bytes step Differs = IsOther names g bytes step
+abbrev pub IsRefusedPlan : Naming → Graph → List ℕ → ℕ → PlanKind → Type 0
+IsRefusedPlan names g bytes step NotJson = (step ≡ 0) × IsNoJson bytes
+IsRefusedPlan names g bytes step Shape = (step ≡ 0) × HasNoShape bytes
+IsRefusedPlan names g bytes step BadStep = StopsAtRewrite g bytes step
+IsRefusedPlan names g bytes step Differs = IsOther names g bytes step
 
 -- it is told so of a graph and the bytes of a file: the plan, or why it is refused
 abbrev pub IsChecked : Naming → Graph → List ℕ → Result Plan PlanFault → Type 0
 IsChecked names g bytes (Ok plan) =
     (led : IsLedTo g bytes plan) × HasText names led.file plan
-IsChecked names g bytes (Err (Refused step kind)) = IsRefused names g bytes step kind
+IsChecked names g bytes (Err (Refused step kind)) = IsRefusedPlan names g bytes step kind
 IsChecked names g bytes (Err Memory) = Unit {0}
 
 -- it is told so of a graph and rewrites: the plan, or the first rewrite that may not be made
@@ -86,14 +86,3 @@ IsCompared names file plan (Ok p) = HasText names file plan
 IsCompared names file plan (Err Memory) = Unit {0}
 IsCompared names file plan (Err (Refused step kind)) =
     IsBehind file (Refused step kind) × (HasText names file plan → ⊥)
-
--- the plan that the rewrites of a file lead to, whose text it has
-abbrev pub IsMade : Naming → Graph → PlanFile → Result Plan PlanFault → Type 0
-IsMade names g file (Ok plan) = Forms g file.rewrites plan × HasText names file plan
-IsMade names g file (Err Memory) = Unit {0}
-IsMade names g file (Err (Refused step NotJson)) = ⊥
-IsMade names g file (Err (Refused step Shape)) = ⊥
-IsMade names g file (Err (Refused step BadStep)) = StopsAt 0 file.rewrites (unmarked g) step
-IsMade names g file (Err (Refused step Differs)) =
-    (plan : Plan) × Forms g file.rewrites plan × (step ≡ length file.rewrites + 1)
-    × (HasText names file plan → ⊥)

@@ -8,7 +8,7 @@ ghost use Rattle.exec_plan.specs.Typing.{IsPlanTyped};
 ghost use Rattle.exec_plan.specs.Wellformed.{IsPlanOk};
 ghost use Rattle.optimise.specs.Optimised.{CanOptimise};
 ghost use Rattle.plan_laws.specs.Operations.{SamePlan};
-ghost use Rattle.plan_check.specs.Checked.{IsChecked, IsMade};
+ghost use Rattle.plan_check.specs.Checked.{IsChecked};
 
 use crate::comparing::compared;
 use crate::fault::of_file;
@@ -16,7 +16,7 @@ use crate::forming::formed;
 use exec_graph::Graph;
 use exec_plan::Plan;
 use plan_faults::PlanFault;
-use plan_files::{PlanFile, read_file};
+use plan_files::read_file;
 use plan_writing::Names;
 use std::alloc::Global;
 
@@ -37,28 +37,10 @@ pub fn check_plan<N: Names>(
     ensures object_free { IfOk result (λ plan. IsObjectFree graph → IsPlanObjectFree plan) }
 {
     match read_file(alloc, bytes) {
-        Ok(file) => made(alloc, names, graph, &file),
+        Ok(file) => match formed(alloc, graph, file.rewrites.as_slice()) {
+            Ok(plan) => compared(alloc, names, plan, &file),
+            Err(fault) => Err(fault),
+        },
         Err(fault) => Err(of_file(fault)),
-    }
-}
-
-/// The plan that the rewrites of a file lead to, if it has the file's text.
-fn made<N: Names>(
-    alloc: Global,
-    names: &N,
-    graph: Graph,
-    file: &PlanFile,
-) -> Result<Plan, PlanFault>
-    requires { CanOptimise graph }
-    ensures made { IsMade (N.naming names.now) graph file.now result }
-    ensures same { IfOk result (λ plan. (w : World) → SamePlan w graph plan) }
-    ensures well_formed { IfOk result (λ plan. IsPlanOk plan) }
-    ensures types { IfOk result (λ plan. (s : Signatures) → IsTyped s graph →
-        IsPlanTyped s plan) }
-    ensures object_free { IfOk result (λ plan. IsObjectFree graph → IsPlanObjectFree plan) }
-{
-    match formed(alloc, graph, file.rewrites.as_slice()) {
-        Ok(plan) => compared(alloc, names, plan, file),
-        Err(fault) => Err(fault),
     }
 }

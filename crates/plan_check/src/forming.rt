@@ -18,7 +18,6 @@ use graph_rewriting::replay;
 use optimise::count_sources;
 use optimise::mscr_form::form;
 use plan_faults::PlanFault;
-use plan_laws::object_free_law;
 use std::alloc::Global;
 
 /// The plan of what the rewrites lead to.
@@ -32,7 +31,6 @@ pub(crate) fn formed(alloc: Global, graph: Graph, rewrites: &[Rewrite]) -> Resul
     ensures object_free { IfOk result (λ plan. IsObjectFree graph → IsPlanObjectFree plan) }
 {
     replay_law();
-    object_free_law();
     let sources = count_sources(graph.nodes.as_slice())?;
     let blocked = match replay(alloc, graph, rewrites) {
         Ok(blocked) => blocked,

@@ -19,7 +19,7 @@ use Rattle.exec_plan.specs.declared.plan.Mscr.{Mscr as Channels}
 use Rattle.exec_plan.specs.declared.plan.Stage.{Stage}
 use Rattle.exec_plan.specs.declared.plan.Stage.TheVariants.{Mscr, Flatten, Operate}
 use Rattle.exec_plan.specs.declared.plan.Plan.{Plan}
-use Rattle.exec_plan.specs.Wellformed.{AreOuts, AreStages, stage_has_objects, Exists, IsGroupOk, IsLiftOk, IsMade, IsMscrOk, IsNumbered, IsOutOk, IsPlanOk, IsStageOk, is_pass, most_channels, outs_at, results_at, width}
+use Rattle.exec_plan.specs.Wellformed.{AreOutChannels, AreStages, stage_has_objects, Exists, IsGroupOk, IsLiftOk, IsPlaceSoFar, IsMscrOk, IsNumbered, IsOutOk, IsPlanOk, IsStageOk, is_pass, most_channels, outs_at, results_at, width}
 use Rattle.exec_plan.specs.Meaning.{in_reads}
 use Rattle.plan_checks.specs.inner.Counts.{out_from, outs_from, then_from}
 use Rattle.plan_checks.specs.inner.Tests.{combines_by, exists_test, group_test, in_test, is_there, lift_test, made_test, mscr_test, numbered_test, out_test, outs_test, plan_test, stage_test, stages_test}
@@ -167,7 +167,7 @@ out_decides ins passed n (Pass k i) =
     and_decides (eqb i n) (exists_test ins k) (same_decides i n) (exists_decides ins k)
 
 outs_decides : (ins : List InChannel) (passed : Bool) (n : ℕ) (cs : List OutChannel)
-    → Decides (outs_test ins passed n cs) (AreOuts ins passed n cs)
+    → Decides (outs_test ins passed n cs) (AreOutChannels ins passed n cs)
 outs_decides ins passed n [] = (λ h. tt, λ p. refl)
 outs_decides ins passed n (c ∷ cs) =
     and_decides (out_test ins passed n c) (outs_test ins (passed || is_pass c) (n + width c) cs)
@@ -188,16 +188,16 @@ outs_step ins passed q k i outs o lt at ok later =
 
 -- ---- stages
 made_decides : (n : ℕ) (before : List Stage) (c : PlanPlace)
-    → Decides (made_test n before c) (IsMade n before c)
+    → Decides (made_test n before c) (IsPlaceSoFar n before c)
 made_decides n before (at.Source i) = less_decides i n
 made_decides n before (at.Result k i) = less_decides i (results_at before k)
 
 in_decides : (n : ℕ) (before : List Stage) (c : InChannel)
     → Decides (in_test n before c)
-    (AllByRecursion (IsMade n before) (in_reads c) × IsNumbered c.does)
+    (AllByRecursion (IsPlaceSoFar n before) (in_reads c) × IsNumbered c.does)
 in_decides n before c =
     and_decides (list_all (made_test n before) (in_reads c)) (numbered_test c.does)
-    (all_decides (made_test n before) (IsMade n before) (made_decides n before) (in_reads c))
+    (all_decides (made_test n before) (IsPlaceSoFar n before) (made_decides n before) (in_reads c))
     (numbered_decides c.does)
 
 both : {X : Type 0} (P Q : X → Type 0) (xs : List X) → AllByRecursion (λ x. P x × Q x) xs
@@ -213,7 +213,7 @@ apart P Q (x ∷ xs) a b = ((a.0, b.0), apart P Q xs a.1 b.1)
 mscr_decides : (n : ℕ) (before : List Stage) (m : Channels)
     → Decides (mscr_test n before m) (IsMscrOk n before m)
 mscr_decides n before m =
-    let P : InChannel → Type 0 = λ c. AllByRecursion (IsMade n before) (in_reads c) in
+    let P : InChannel → Type 0 = λ c. AllByRecursion (IsPlaceSoFar n before) (in_reads c) in
     let Q : InChannel → Type 0 = λ c. IsNumbered c.does in
     let outs : Bool = outs_test m.inputs false 0 m.outputs in
     let ins : Bool = list_all (in_test n before) m.inputs && outs in
@@ -254,9 +254,9 @@ stage_decides : (n : ℕ) (before : List Stage) (s : Stage)
     → Decides (stage_test n before s) (IsStageOk n before s)
 stage_decides n before (Mscr m) = mscr_decides n before m
 stage_decides n before (Flatten takes) =
-    all_decides (made_test n before) (IsMade n before) (made_decides n before) takes
+    all_decides (made_test n before) (IsPlaceSoFar n before) (made_decides n before) takes
 stage_decides n before (Operate takes o l a) =
-    all_decides (made_test n before) (IsMade n before) (made_decides n before) takes
+    all_decides (made_test n before) (IsPlaceSoFar n before) (made_decides n before) takes
 
 stages_decides : (n : ℕ) (before ss : List Stage)
     → Decides (stages_test n before ss) (AreStages n before ss)
@@ -276,7 +276,7 @@ plan_decides p =
     (and_decides (stages_test p.sources [] p.stages) (made && (few && objects))
     (stages_decides p.sources [] p.stages)
     (and_decides made (few && objects)
-    (all_decides (made_test p.sources p.stages) (IsMade p.sources p.stages)
+    (all_decides (made_test p.sources p.stages) (IsPlaceSoFar p.sources p.stages)
     (made_decides p.sources p.stages) p.outputs)
     (and_decides few objects (less_decides (length p.stages) (2 ^ 32))
     (all_decides some (λ s. some s ≡ true) (λ s. (λ h. h, λ h. h)) p.stages))))

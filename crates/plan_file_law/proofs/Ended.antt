@@ -1,5 +1,5 @@
 -- A text that is printed has the same tokens where a line feed stands behind it.
-use Rattle.std.proofs.Common.{◌≡◌, ℕ, Bool, true, false, cond, ◌&&◌, List, [], ◌∷◌, ◌++◌, refl, ap, ap₂, sym, ◌∙◌, append_assoc}
+use Rattle.std.proofs.Common.{◌≡◌, ℕ, Bool, true, false, cond, ◌&&◌, List, [], ◌∷◌, ◌++◌, refl, ap, ap₂, sym, ◌∙◌, append_assoc, append-nil, subst}
 use Rattle.json.specs.Lex.{Lexeme, between, colon, comma, fresh, lex, punctuate, string_token, token, tokens}
 use Rattle.json.specs.Print.{ArePrintable, IsPrintable, begins, ends, escape, print, print_from, quoted, separator, token_text}
 use Rattle.json.specs.Token.{Token, begin_object, end_object, begin_array, end_array, key, string, number, boolean, null, bad}
@@ -60,35 +60,17 @@ comma_read false r = refl
 
 -- ---- the end of a text
 
--- behind a value stands a comma, a closing bracket or the line feed
-value_ends : (ts : List Token) → ends_word (print_from true ts ++ line_feed) ≡ true
+-- behind a value stands a comma, a closing bracket or what ends the text
+value_ends : (end : List ℕ) → ends_word end ≡ true → (ts : List Token)
+    → ends_word (print_from true ts ++ end) ≡ true
 unfolding print_from
-value_ends [] = refl
-value_ends (begin_object ∷ ts) = refl
-value_ends (end_object ∷ ts) = refl
-value_ends (begin_array ∷ ts) = refl
-value_ends (end_array ∷ ts) = refl
-value_ends (key s ∷ ts) = refl
-value_ends (string s ∷ ts) = refl
-value_ends (number s ∷ ts) = refl
-value_ends (boolean b ∷ ts) = refl
-value_ends (null ∷ ts) = refl
-value_ends (bad ∷ ts) = refl
+value_ends end e [] = e
+value_ends end e (begin_object ∷ ts) = refl
+value_ends end e _ = refl
 
--- the same without the line feed
 value_ends_all : (ts : List Token) → ends_word (print_from true ts) ≡ true
-unfolding print_from
-value_ends_all [] = refl
-value_ends_all (begin_object ∷ ts) = refl
-value_ends_all (end_object ∷ ts) = refl
-value_ends_all (begin_array ∷ ts) = refl
-value_ends_all (end_array ∷ ts) = refl
-value_ends_all (key s ∷ ts) = refl
-value_ends_all (string s ∷ ts) = refl
-value_ends_all (number s ∷ ts) = refl
-value_ends_all (boolean b ∷ ts) = refl
-value_ends_all (null ∷ ts) = refl
-value_ends_all (bad ∷ ts) = refl
+value_ends_all ts =
+    subst (λ l. ends_word l ≡ true) (append-nil (print_from true ts)) (value_ends [] refl ts)
 
 front_read : (c : Bool) (t : Token) (r : List ℕ) → IsPrintable t
     → (ends t ≡ true → ends_word r ≡ true) → lex between (separator c t ++ (token_text t ++ r))
@@ -104,7 +86,7 @@ lexed_on c [] h = refl
 lexed_on c (t ∷ ts) h =
     let rest : List ℕ = print_from (ends t) ts in
     let more : ends t ≡ true → ends_word (rest ++ line_feed) ≡ true =
-    λ e. ap (λ b. ends_word (print_from b ts ++ line_feed)) e ∙ value_ends ts in
+    λ e. ap (λ b. ends_word (print_from b ts ++ line_feed)) e ∙ value_ends line_feed refl ts in
     let all : ends t ≡ true → ends_word rest ≡ true =
     λ e. ap (λ b. ends_word (print_from b ts)) e ∙ value_ends_all ts in
     ap (lex between)

@@ -20,7 +20,7 @@ use Rattle.graph_rewrites.specs.declared.rewrite.Rewrite.TheVariants.{Merge, Sin
 use Rattle.plan_files.specs.Numbers.{has_number}
 use Rattle.plan_files.specs.Reads.{HasValue, IsFile}
 use Rattle.plan_files.specs.declared.file.PlanFile.{PlanFile}
-use Rattle.plan_files.specs.Written.{IsSmall, file_json, name_of, number_json, numbers_at, rewrite_json}
+use Rattle.plan_files.specs.Written.{HasSmallNumbers, file_json, name_of, number_json, numbers_at, rewrite_json}
 use Rattle.plan_files.proofs.Back.{file_back}
 use Rattle.plan_json.specs.PlanJson.{channel_json, in_json, lift_json, one_json, out_json, output_json, plan_json_of, stage_json, text_json, texts_json}
 use Rattle.plan_writing.specs.Acts.{act_text}
@@ -181,7 +181,7 @@ name_utf8 (Kid keeper output reader) = known (codes "kid") refl
 name_utf8 (Sibling keeper other) = known (codes "sibling") refl
 name_utf8 (Mark node output) = known (codes "mark") refl
 
-rewrite_plain : (r : Rewrite) → IsSmall r → IsPlain true 2 (rewrite_json r)
+rewrite_plain : (r : Rewrite) → HasSmallNumbers r → IsPlain true 2 (rewrite_json r)
 rewrite_plain r a =
     plain_object true 1 _
     (one_member true 1 no_members (codes "at") _ _ _ (known (codes "at") refl)
@@ -189,7 +189,7 @@ rewrite_plain r a =
     (one_member true 1 _ (codes "op") _ _ _ (known (codes "op") refl)
     (plain_text true 1 (name_of r) (name_utf8 r)) (no_more true 1 _)))
 
-rewrites_plain : (rs : List Rewrite) → AllByRecursion IsSmall rs
+rewrites_plain : (rs : List Rewrite) → AllByRecursion HasSmallNumbers rs
     → ArePlain true 2 (items_of (map rewrite_json rs))
 rewrites_plain [] a = no_item true 2
 rewrites_plain (r ∷ rs) a =
@@ -198,7 +198,7 @@ rewrites_plain (r ∷ rs) a =
 
 -- ---- the file
 
-file_plain : (names : Naming) (plan : Plan) (rs : List Rewrite) → AllByRecursion IsSmall rs
+file_plain : (names : Naming) (plan : Plan) (rs : List Rewrite) → AllByRecursion HasSmallNumbers rs
     → IsPlain true 7 (file_json (plan_json_of names plan) rs)
 file_plain names plan rs a =
     plain_object true 6 _
@@ -209,7 +209,7 @@ file_plain names plan rs a =
     (rewrites_plain rs a))) (no_more true 6 _)))
 
 file_had : (names : Naming) (plan : Plan) (rs : List Rewrite) (bytes : List ℕ)
-    → AllByRecursion IsSmall rs → HasValue bytes (file_json (plan_json_of names plan) rs)
+    → AllByRecursion HasSmallNumbers rs → HasValue bytes (file_json (plan_json_of names plan) rs)
     → IsFile bytes (told_by names plan rs)
 file_had names plan rs bytes a value =
     let none : has_number (plan_json_of names plan) ≡ false =
@@ -223,7 +223,8 @@ file_had names plan rs bytes a value =
           } in f)) none,
     )
 
-pub file_read : (names : Naming) (plan : Plan) (rs : List Rewrite) → AllByRecursion IsSmall rs
+pub file_read : (names : Naming) (plan : Plan) (rs : List Rewrite)
+    → AllByRecursion HasSmallNumbers rs
     → IsFile (text_of names plan rs) (told_by names plan rs)
 file_read names plan rs a =
     file_had names plan rs (text_of names plan rs) a
@@ -231,7 +232,8 @@ file_read names plan rs a =
     (omega arith))
 
 -- and so with a line feed behind it
-pub line_read : (names : Naming) (plan : Plan) (rs : List Rewrite) → AllByRecursion IsSmall rs
+pub line_read : (names : Naming) (plan : Plan) (rs : List Rewrite)
+    → AllByRecursion HasSmallNumbers rs
     → IsFile (text_of names plan rs ++ line_feed) (told_by names plan rs)
 line_read names plan rs a =
     file_had names plan rs (text_of names plan rs ++ line_feed) a

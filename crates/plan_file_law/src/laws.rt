@@ -4,7 +4,7 @@ ghost use Rattle.std.specs.List.{AllByRecursion};
 ghost use Rattle.exec_plan.specs.declared.plan.Plan.{Plan};
 ghost use Rattle.graph_rewrites.specs.declared.rewrite.Rewrite.{Rewrite};
 ghost use Rattle.plan_files.specs.Reads.{IsFile};
-ghost use Rattle.plan_files.specs.Written.{IsSmall};
+ghost use Rattle.plan_files.specs.Written.{HasSmallNumbers};
 ghost use Rattle.plan_writing.specs.Naming.{Naming};
 ghost use Rattle.plan_file_law.specs.Files.{text_of, told_by};
 
@@ -12,9 +12,9 @@ ghost use Rattle.plan_file_law.specs.Files.{text_of, told_by};
 /// plan's own text; and so it is as a line.
 pub fn file_law()
     ensures text { (names : Naming) (plan : Plan) (rewrites : List Rewrite) →
-        AllByRecursion IsSmall rewrites →
+        AllByRecursion HasSmallNumbers rewrites →
         IsFile (text_of names plan rewrites) (told_by names plan rewrites) }
     ensures line { (names : Naming) (plan : Plan) (rewrites : List Rewrite) →
-        AllByRecursion IsSmall rewrites →
+        AllByRecursion HasSmallNumbers rewrites →
         IsFile (text_of names plan rewrites ++ codes "\n") (told_by names plan rewrites) }
 {}

@@ -9,7 +9,7 @@ use Rattle.serde_json.specs.View.{items_of}
 use Rattle.graph_rewrites.specs.declared.rewrite.Rewrite.{Rewrite}
 use Rattle.graph_rewrites.specs.declared.rewrite.Rewrite.TheVariants.{Merge, Sink, Lift, Kid, Sibling, Mark}
 use Rattle.plan_files.specs.Forms.{all_of, file_of, number_of, numbers_of, rewrite_at, rewrite_of, text_of}
-use Rattle.plan_files.specs.Written.{IsSmall, file_json, name_of, number_json, numbers_at, numbers_json, rewrite_json}
+use Rattle.plan_files.specs.Written.{HasSmallNumbers, file_json, name_of, number_json, numbers_at, numbers_json, rewrite_json}
 use Rattle.plan_files.specs.declared.file.PlanFile.{PlanFile}
 
 -- where each is what it was made of, all are
@@ -37,13 +37,13 @@ named_back (Kid keeper output reader) = refl
 named_back (Sibling keeper other) = refl
 named_back (Mark node output) = refl
 
-rewrite_back : (r : Rewrite) → IsSmall r → rewrite_of (rewrite_json r) ≡ Some r
+rewrite_back : (r : Rewrite) → HasSmallNumbers r → rewrite_of (rewrite_json r) ≡ Some r
 rewrite_back r a =
     ap (λ o. option_and_then (λ at. rewrite_at (name_of r) at) o) (numbers_back (numbers_at r) a)
     ∙ named_back r
 
-pub file_back : (plan : Data) (rs : List Rewrite) → AllByRecursion IsSmall rs
+pub file_back : (plan : Data) (rs : List Rewrite) → AllByRecursion HasSmallNumbers rs
     → file_of (file_json plan rs) ≡ Some (record { rewrites = rs; plan = text_of plan })
 file_back plan rs a =
     ap (λ o. option_map (λ all. let f : PlanFile = record { rewrites = all; plan = text_of plan }
-    in f) o) (all_back rewrite_of rewrite_json IsSmall rewrite_back rs a)
+    in f) o) (all_back rewrite_of rewrite_json HasSmallNumbers rewrite_back rs a)

@@ -24,8 +24,8 @@ numbers_at (Sibling keeper other) = keeper ∷ (other ∷ [])
 numbers_at (Mark node output) = node ∷ (output ∷ [])
 
 -- 32 bits hold its numbers
-abbrev pub IsSmall : Rewrite → Type 0
-IsSmall r = AllByRecursion (λ n. n < 2 ^ 32) (numbers_at r)
+abbrev pub HasSmallNumbers : Rewrite → Type 0
+HasSmallNumbers r = AllByRecursion (λ n. n < 2 ^ 32) (numbers_at r)
 
 abbrev pub number_json : ℕ → Data
 number_json n = number (unsigned n)

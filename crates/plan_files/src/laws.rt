@@ -4,11 +4,11 @@ ghost use Rattle.std.specs.List.{AllByRecursion};
 ghost use Rattle.serde_json.specs.Data.{Data};
 ghost use Rattle.graph_rewrites.specs.declared.rewrite.Rewrite.{Rewrite};
 ghost use Rattle.plan_files.specs.Forms.{file_of, text_of};
-ghost use Rattle.plan_files.specs.Written.{IsSmall, file_json};
+ghost use Rattle.plan_files.specs.Written.{HasSmallNumbers, file_json};
 
 /// What is written of a plan and of rewrites tells them.
 pub fn form_law()
-    ensures { (plan : Data) (rewrites : List Rewrite) → AllByRecursion IsSmall rewrites →
+    ensures { (plan : Data) (rewrites : List Rewrite) → AllByRecursion HasSmallNumbers rewrites →
         file_of (file_json plan rewrites)
         ≡ Some (record { rewrites = rewrites; plan = text_of plan }) }
 {}

@@ -8,13 +8,13 @@ ghost use Rattle.plan_writing.specs.Naming.{Written};
 ghost use Rattle.plan_json.specs.PlanJson as spec;
 
 use crate::values::{
-    act_value, forest_value, given_value, lift_value, node_value, place_value, places_value,
-    result_value, take_value, takes_value, text_value,
+    act_value, alone, forest_value, given_value, lift_value, node_value, only_result, place_value,
+    places_value, put_text, take_value, takes_value, text_value,
 };
 use exec_graph::Act;
 use exec_plan::{Grouping, InChannel, Mscr, OutChannel, Plan, PlanPlace, Stage, Take};
 use plan_writing::Names;
-use serde_json::{Value, json};
+use serde_json::{Map, Value, put};
 use std::alloc::{AllocError, Global};
 
 /// The plan as JSON: its compact text, on one line without an end.
@@ -29,10 +29,12 @@ fn plan_value<N: Names>(alloc: Global, names: &N, plan: &Plan) -> Result<Value, 
     ensures { IfOk result (λ value.
         view value ≡ spec.plan_json_of (N.naming names.now) plan.now) }
 {
-    json!(in alloc; {
-        "outputs": outputs_value(alloc, names, plan.outputs.as_slice())?,
-        "stages": stages_value(alloc, names, plan.stages.as_slice())?
-    })
+    let mut members = Map::new(alloc);
+    let outputs = outputs_value(alloc, names, plan.outputs.as_slice())?;
+    put(&mut members, alloc, "outputs", outputs)?;
+    let stages = stages_value(alloc, names, plan.stages.as_slice())?;
+    put(&mut members, alloc, "stages", stages)?;
+    Ok(Value::Object(members))
 }
 
 fn outputs_value<N: Names>(
@@ -62,11 +64,13 @@ fn output_value<N: Names>(
         slice_get (N.naming names.now).outputs number ≡ Some output →
         IfOk result (λ value. view value ≡ spec.output_json output place) }
 {
-    json!(in alloc; {
-        "file": text_value(alloc, names.output_file(number))?,
-        "name": text_value(alloc, names.output_name(number))?,
-        "reads": place_value(alloc, place)?
-    })
+    let mut members = Map::new(alloc);
+    let file = text_value(alloc, names.output_file(number))?;
+    put(&mut members, alloc, "file", file)?;
+    let name = text_value(alloc, names.output_name(number))?;
+    put(&mut members, alloc, "name", name)?;
+    put(&mut members, alloc, "reads", place_value(alloc, place)?)?;
+    Ok(Value::Object(members))
 }
 
 fn stages_value<N: Names>(alloc: Global, names: &N, stages: &[Stage]) -> Result<Value, AllocError>
@@ -108,19 +112,23 @@ fn mscr_value<N: Names>(
     ensures { IfOk result (λ value. view value
         ≡ spec.mscr_json (N.naming names.now) number mscr.now.inputs mscr.now.outputs) }
 {
-    json!(in alloc; {
-        "in": ins_value(alloc, names, mscr.inputs.as_slice())?,
-        "kind": "mscr",
-        "out": outs_value(alloc, names, number, mscr.outputs.as_slice())?
-    })
+    let mut members = Map::new(alloc);
+    let ins = ins_value(alloc, names, mscr.inputs.as_slice())?;
+    put(&mut members, alloc, "in", ins)?;
+    put_text(&mut members, alloc, "kind", "mscr")?;
+    let outs = outs_value(alloc, names, number, mscr.outputs.as_slice())?;
+    put(&mut members, alloc, "out", outs)?;
+    Ok(Value::Object(members))
 }
 
 fn flatten_value(alloc: Global, number: u64, takes: &[PlanPlace]) -> Result<Value, AllocError>
     ensures { IfOk result (λ value. view value ≡ spec.flatten_json number takes.now) }
 {
-    let gives = result_value(alloc, number, 0)?;
-    let takes = places_value(alloc, takes)?;
-    json!(in alloc; {"gives": [gives], "kind": "flatten", "takes": takes})
+    let mut members = Map::new(alloc);
+    put(&mut members, alloc, "gives", only_result(alloc, number, 0)?)?;
+    put_text(&mut members, alloc, "kind", "flatten")?;
+    put(&mut members, alloc, "takes", places_value(alloc, takes)?)?;
+    Ok(Value::Object(members))
 }
 
 fn operate_value<N: Names>(
@@ -134,10 +142,13 @@ fn operate_value<N: Names>(
     ensures { IfOk result (λ value. view value
         ≡ spec.operate_json (N.naming names.now) number takes.now origin act) }
 {
+    let mut members = Map::new(alloc);
     let does = act_value(alloc, names, origin, act)?;
-    let gives = result_value(alloc, number, 0)?;
-    let takes = places_value(alloc, takes)?;
-    json!(in alloc; {"does": does, "gives": [gives], "kind": "operate", "takes": takes})
+    put(&mut members, alloc, "does", does)?;
+    put(&mut members, alloc, "gives", only_result(alloc, number, 0)?)?;
+    put_text(&mut members, alloc, "kind", "operate")?;
+    put(&mut members, alloc, "takes", places_value(alloc, takes)?)?;
+    Ok(Value::Object(members))
 }
 
 fn ins_value<N: Names>(alloc: Global, names: &N, inputs: &[InChannel]) -> Result<Value, AllocError>
@@ -171,26 +182,15 @@ fn in_value<N: Names>(alloc: Global, names: &N, channel: &InChannel) -> Result<V
     ensures { IfOk result (λ value.
         view value ≡ spec.in_json (N.naming names.now) channel.now) }
 {
+    let mut members = Map::new(alloc);
     let does = forest_value(alloc, names, &channel.does)?;
+    put(&mut members, alloc, "does", does)?;
     let reads = place_value(alloc, channel.reads)?;
-    match channel.beside {
-        None => json!(in alloc; {"does": does, "reads": reads}),
-        Some(object) => beside_value(alloc, does, reads, object),
+    put(&mut members, alloc, "reads", reads)?;
+    if let Some(object) = channel.beside {
+        put(&mut members, alloc, "with", place_value(alloc, object)?)?;
     }
-}
-
-/// An input channel whose steps are called beside an object.
-fn beside_value(
-    alloc: Global,
-    does: Value,
-    reads: Value,
-    object: PlanPlace,
-) -> Result<Value, AllocError>
-    ensures { IfOk result (λ value.
-        view value ≡ spec.channel_json (view does) (view reads) (Some object)) }
-{
-    let with = place_value(alloc, object)?;
-    json!(in alloc; {"does": does, "reads": reads, "with": with})
+    Ok(Value::Object(members))
 }
 
 /// An output channel of a stage.
@@ -218,20 +218,29 @@ fn group_value<N: Names>(
     ensures { IfOk result (λ value.
         view value ≡ spec.group_json (N.naming names.now) stage group.now) }
 {
-    json!(in alloc; {
-        "does": forest_value(alloc, names, &group.does)?,
-        "gives": given_value(alloc, stage, group)?,
-        "kind": "group",
-        "lift": lift_value(alloc, names, group.lifted)?,
-        "name": node_value(alloc, names, group.origin)?,
-        "takes": takes_value(alloc, group.takes.as_slice())?
-    })
+    let mut members = Map::new(alloc);
+    let does = forest_value(alloc, names, &group.does)?;
+    put(&mut members, alloc, "does", does)?;
+    let gives = given_value(alloc, stage, group)?;
+    put(&mut members, alloc, "gives", gives)?;
+    put_text(&mut members, alloc, "kind", "group")?;
+    let lift = lift_value(alloc, names, group.lifted)?;
+    put(&mut members, alloc, "lift", lift)?;
+    let name = node_value(alloc, names, group.origin)?;
+    put(&mut members, alloc, "name", name)?;
+    let takes = takes_value(alloc, group.takes.as_slice())?;
+    put(&mut members, alloc, "takes", takes)?;
+    Ok(Value::Object(members))
 }
 
 fn pass_value(alloc: Global, stage: u64, take: Take, given: u32) -> Result<Value, AllocError>
     ensures { IfOk result (λ value. view value ≡ spec.pass_json stage take given) }
 {
-    let gives = result_value(alloc, stage, u64::from(given))?;
-    let takes = take_value(alloc, take)?;
-    json!(in alloc; {"gives": [gives], "kind": "pass", "takes": [takes]})
+    let mut members = Map::new(alloc);
+    let gives = only_result(alloc, stage, u64::from(given))?;
+    put(&mut members, alloc, "gives", gives)?;
+    put_text(&mut members, alloc, "kind", "pass")?;
+    let takes = alone(alloc, take_value(alloc, take)?)?;
+    put(&mut members, alloc, "takes", takes)?;
+    Ok(Value::Object(members))
 }

@@ -1,6 +1,7 @@
 // JSON values of texts.
-ghost use Rattle.std.specs.Prelude.{◌≡◌, IfOk};
-ghost use Rattle.serde_json.specs.View.{view};
+ghost use Rattle.std.specs.Prelude.{◌≡◌, IfOk, OnOk};
+ghost use Rattle.serde_json.specs.Data.{array, item, no_items, put as with_member, string};
+ghost use Rattle.serde_json.specs.View.{members_view, view};
 ghost use Rattle.exec_plan.specs.Channels.{numbers};
 ghost use Rattle.plan_writing.specs.Acts.{act_text};
 ghost use Rattle.plan_writing.specs.Forests.{forest_text};
@@ -11,7 +12,7 @@ use combine_table::Comb;
 use exec_graph::{Act, Roots};
 use exec_plan::{Grouping, PlanPlace, Take};
 use plan_writing::{Names, outs_of, push_act, push_dotted, push_forest, push_place, push_take};
-use serde_json::Value;
+use serde_json::{Map, ToValue, Value, put};
 use std::alloc::{AllocError, Global};
 
 /// A text as a value.
@@ -19,6 +20,29 @@ pub(crate) fn text_value(alloc: Global, text: &[u8]) -> Result<Value, AllocError
     ensures { IfOk result (λ value. view value ≡ spec.text_json text.now) }
 {
     Ok(Value::String(String::from_utf8_lossy(alloc, text)?))
+}
+
+/// Adds a member that is a text as it stands.
+pub(crate) fn put_text(
+    members: &mut Map<String, Value>,
+    alloc: Global,
+    key: &str,
+    text: &str,
+) -> Result<(), AllocError>
+    ensures { OnOk result (members_view members.new.entries
+        ≡ with_member key.now (string text.now) (members_view members.old.entries)) }
+{
+    let value = text.to_value(alloc)?;
+    put(members, alloc, key, value)
+}
+
+/// A list of one value.
+pub(crate) fn alone(alloc: Global, value: Value) -> Result<Value, AllocError>
+    ensures { IfOk result (λ list. view list ≡ array (item (view value) no_items)) }
+{
+    let mut values = Vec::new(alloc);
+    values.push(value)?;
+    Ok(Value::Array(values))
 }
 
 /// A collection.
@@ -40,12 +64,20 @@ pub(crate) fn take_value(alloc: Global, take: Take) -> Result<Value, AllocError>
 }
 
 /// A result of a stage.
-pub(crate) fn result_value(alloc: Global, stage: u64, number: u64) -> Result<Value, AllocError>
+fn result_value(alloc: Global, stage: u64, number: u64) -> Result<Value, AllocError>
     ensures { IfOk result (λ value. view value ≡ spec.text_json (dotted stage number)) }
 {
     let mut text = Vec::new(alloc);
     push_dotted(&mut text, stage, number)?;
     text_value(alloc, text.as_slice())
+}
+
+/// A list of one result of a stage.
+pub(crate) fn only_result(alloc: Global, stage: u64, number: u64) -> Result<Value, AllocError>
+    ensures { IfOk result (λ value. view value ≡ spec.one_json (dotted stage number)) }
+{
+    let value = result_value(alloc, stage, number)?;
+    alone(alloc, value)
 }
 
 /// The steps of a channel.

@@ -17,7 +17,7 @@ use Rattle.exec_plan.proofs.of_exec_graph.StepFacts.{call_answers}
 use Rattle.exec_plan.specs.of_flume_collection.Calls.{Called, passed}
 use Rattle.exec_plan.specs.of_flume_value.declared.value.Value.{Value}
 use Rattle.exec_plan.specs.of_exec_graph.Forests.{Label, Forest, Bare, Grow}
-use Rattle.exec_plan.specs.of_exec_graph.Meaning.{through, place, IsKept, FitsForest, Holds, Meets, node_at, reads, is_out, has_out, gives_at, IsThere, first, out_of, or_nothing}
+use Rattle.exec_plan.specs.of_exec_graph.Meaning.{through, place, IsGivenToKept, FitsForest, Holds, Meets, node_at, reads, is_out, has_out, gives_at, IsThere, first, out_of, or_nothing}
 use Rattle.exec_plan.specs.of_exec_graph.declared.graph.Place.{Place}
 use Rattle.exec_plan.specs.of_exec_graph.declared.graph.Node.{Node}
 use Rattle.exec_plan.specs.of_exec_graph.declared.graph.Node.TheVariants.{Source, Flatten, Pdo, Gbk, Barrier}
@@ -34,7 +34,7 @@ use Rattle.plan_laws.specs.declared.operations.Key.TheVariants.{Mapper, Whole}
 use Rattle.plan_laws.specs.declared.operations.Grouped.{Grouped}
 use Rattle.plan_laws.specs.declared.operations.Operation.{Operation}
 use Rattle.plan_laws.specs.declared.operations.Operation.TheVariants.{Flat, Class}
-use Rattle.plan_laws.specs.Operations.{HasKey, IsFlat, IsGroupedOk, IsHonest, IsKeyOk, IsPdo, IsReducer, IsSide, IsTaken, one_call, side_channel, IsPdoOn, TakesInputs, channel_of, channels_of, flat_inputs, forest_at, group_at, group_gives, group_of, has_key, inputs_at, read_through, key_out, numbered_out, numbered_outs, out_in, outs_at, pass_of, pdo_channel, position, reduced, reducer_of, take_of, valued}
+use Rattle.plan_laws.specs.Operations.{HasKey, IsFlat, IsGroupedOk, IsHonest, IsKeyOk, IsPdo, IsReducer, IsSide, IsTakenPlace, one_call, side_channel, IsPdoOn, TakesInputs, channel_of, channels_of, flat_inputs, forest_at, group_at, group_gives, group_of, has_key, inputs_at, read_through, key_out, numbered_out, numbered_outs, out_in, outs_at, pass_of, pdo_channel, position, reduced, reducer_of, take_of, valued}
 use Rattle.plan_laws.proofs.Running.{Carries, flat_value, place_same}
 
 -- the input channels with what they read
@@ -49,7 +49,8 @@ either_found a b true y u h f n g = ap (λ (o : Option Collection). first o b) (
 either_found a b false y u h f n g = ap (λ (o : Option Collection). first o b) (n refl) ∙ g h
 
 found_by : (w : World) (m : Place → Collection) (n j : ℕ) (v : Collection) (l : Label)
-    (o : Option Collection) (b : Bool) → is_out l.out j ≡ b → IsKept m n l.out (through w l v)
+    (o : Option Collection) (b : Bool) → is_out l.out j ≡ b
+    → IsGivenToKept m n l.out (through w l v)
     → (b ≡ false → o ≡ Some (m (place n j))) → cond b (Some (through w l v)) o
     ≡ Some (m (place n j))
 found_by w m n j v l o true h k r = ap (λ (c : Collection). Some c)
@@ -185,7 +186,7 @@ taken_is w m es (k ∷ ks) c a ok t h = taken_by w m es k ks c (has_key k c) ref
     (λ e. taken_is w m es ks c a ok.1 t (behind k ks c e h))
 
 takes_are : (w : World) (m : Place → Collection) (es : List Entry) (keys : List Key)
-    (cs : List Place) → Meets w es m → Each (IsKeyOk es) keys → Each (IsTaken es keys) cs
+    (cs : List Place) → Meets w es m → Each (IsKeyOk es) keys → Each (IsTakenPlace es keys) cs
     → map (taken w (feeds m es keys)) (map (take_of keys) cs) ≡ map m cs
 takes_are w m es keys [] a ok h = refl
 takes_are w m es keys (c ∷ cs) a ok h =
@@ -298,7 +299,7 @@ groups_are w m es keys (g ∷ gs) p a ok t i =
     rw map-append (rw x (rw y refl))
 
 passes_are : (w : World) (m : Place → Collection) (es : List Entry) (keys : List Key)
-    (cs : List Place) → Meets w es m → Each (IsKeyOk es) keys → Each (IsTaken es keys) cs
+    (cs : List Place) → Meets w es m → Each (IsKeyOk es) keys → Each (IsTakenPlace es keys) cs
     → flat_map (given w (feeds m es keys)) (map (pass_of keys) cs) ≡ map m cs
 passes_are w m es keys [] a ok h = refl
 passes_are w m es keys (c ∷ cs) a ok h =

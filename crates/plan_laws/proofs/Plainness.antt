@@ -1,6 +1,6 @@
 -- A collection of a graph together with none else is the collection.
-use Rattle.std.proofs.Common.{◌≡◌, ℕ, Bool, true, false, cond, List, [], ◌∷◌, ◌++◌, length, map, append-nil, Option, Some, None, Result, Ok, Err, zero, suc, refl, sym, ap, ◌∙◌, subst}
-use Rattle.std.specs.List.{flat_map, slice_get}
+use Rattle.std.proofs.Common.{◌≡◌, ℕ, Bool, true, false, cond, List, [], ◌∷◌, ◌++◌, length, map, append-nil, Option, Some, None, zero, suc, refl, sym, ap, ◌∙◌, subst}
+use Rattle.std.specs.List.{flat_map}
 use Rattle.exec_plan.specs.of_flume_value.declared.value.Value.{Value}
 use Rattle.exec_plan.specs.of_flume_value.Bag.{bag_of}
 use Rattle.exec_plan.proofs.of_flume_value.BagLemmas.{bag_of-settled, bag_of-twice}
@@ -12,15 +12,9 @@ use Rattle.exec_plan.specs.of_flume_collection.Collection.{Collection, together,
 use Rattle.exec_plan.proofs.of_flume_collection.Bagging.{set-gathered}
 use Rattle.exec_plan.proofs.of_flume_collection.Orders.{trap_order}
 use Rattle.exec_plan.specs.of_exec_graph.World.{World}
-use Rattle.exec_plan.specs.of_exec_graph.Objects.{argument, beside, called_beside, value_object, trap_object, act_result, none_of, one_answer, one_emitted, singleton_value, only, operated_on, or_of_nothing, side_input_on, unless_behind, value_in, values_in, whole_combined}
+use Rattle.exec_plan.specs.of_exec_graph.Objects.{beside, called_beside, value_object, trap_object, act_result, none_of, side_input_on, value_in}
 use Rattle.exec_plan.specs.of_exec_graph.declared.graph.Act.{Act}
-use Rattle.exec_plan.specs.of_exec_graph.declared.graph.Act.TheVariants.{SideInput, Operate as Operates, Singleton}
-use Rattle.exec_plan.specs.of_combine_table.declared.comb.Comb.{Comb}
-use Rattle.exec_plan.specs.of_combine_table.Combinations.{combined}
-use Rattle.exec_plan.specs.of_flume_value.declared.fault.Kind.{Kind}
-use Rattle.exec_plan.specs.of_bag_groups.Pairs.{value_of}
-use Rattle.exec_plan.specs.of_flume_collection.Calls.{Called, emissions, or_none, trap_of}
-use Rattle.std.specs.Option.{option_and_then}
+use Rattle.exec_plan.specs.of_flume_collection.Calls.{Called, emissions, trap_of}
 use Rattle.exec_plan.specs.of_exec_graph.Calls.{emitted, trapped}
 use Rattle.exec_plan.specs.of_exec_graph.Forests.{Forest, Bare, Grow}
 use Rattle.exec_plan.specs.of_exec_graph.Meaning.{collection, first, is_out, or_nothing, node_at, out_of, solve, through, value_at}
@@ -29,6 +23,7 @@ use Rattle.exec_plan.specs.of_exec_graph.declared.graph.Node.{Node}
 use Rattle.exec_plan.specs.of_exec_graph.declared.graph.Node.TheVariants.{Source, Flatten, Pdo, Gbk, Barrier}
 use Rattle.exec_plan.specs.of_exec_graph.declared.graph.Entry.{Entry}
 use Rattle.exec_plan.specs.of_exec_graph.declared.graph.Graph.{Graph}
+use Rattle.exec_plan.proofs.of_exec_graph.ActLemmas.{act_holds}
 use Rattle.exec_plan.proofs.of_exec_graph.Solving.{collection_is}
 use Rattle.plan_laws.proofs.Carrying.{IsPlain}
 
@@ -85,50 +80,11 @@ side_normal w o f v c d =
     made_normal (flat_map (λ x. emissions 0 (g x)) e.bag)
     (e.traps ++ flat_map (λ x. trap_of o (g x)) e.bag)
 
-emitted_normal : (o : ℕ) (x : Value) (v : Option Value) → IsNormal (one_emitted o x v)
-emitted_normal o x None = trap_normal _
-emitted_normal o x (Some v) = just_normal v
-
-answer_normal : (o : ℕ) (x : Value) (c : Called) → IsNormal (one_answer o x c)
-answer_normal o x (Ok outputs) = emitted_normal o x (only (or_none (slice_get outputs 0)))
-answer_normal o x (Err trap) = trap_normal _
-
-operated_normal : (w : World) (o f : ℕ) (vs : Option (List Value)) (cs : List Collection)
-    → IsNormal (operated_on w o f vs cs)
-operated_normal w o f None cs = none_normal cs
-operated_normal w o f (Some vs) cs =
-    answer_normal o (argument vs) (w.called f (argument vs))
-
-combined_normal : (o : ℕ) (r : Result Value Kind) → IsNormal (whole_combined o r)
-combined_normal o (Ok v) = just_normal v
-combined_normal o (Err k) = trap_normal _
-
-nothing_normal : (o : ℕ) (k : Comb) (v : Option Value) → IsNormal (or_of_nothing o k v)
-nothing_normal o k None = combined_normal o (combined k [])
-nothing_normal o k (Some v) = just_normal v
-
-behind_normal : (ts : List Trap) (c d : Collection) → IsNormal c → IsNormal d
-    → IsNormal (unless_behind ts c d)
-behind_normal [] c d h i = i
-behind_normal (t ∷ ts) c d h i = h
-
-one_normal : (o : ℕ) (k : Comb) (c : Collection) → IsNormal (singleton_value o k c)
-one_normal o k c =
-    let v : Option Value = option_and_then value_of (only c.bag) in
-    behind_normal c.traps (none_of (c ∷ [])) (or_of_nothing o k v) (none_normal (c ∷ []))
-    (nothing_normal o k v)
-
 barrier_normal : (w : World) (o : ℕ) (a : Act) (cs : List Collection)
     → IsNormal (act_result w o a cs)
-unfolding act_result
-barrier_normal w o (SideInput f) [] = none_normal []
-barrier_normal w o (SideInput f) (c ∷ []) = none_normal (c ∷ [])
-barrier_normal w o (SideInput f) (c ∷ (d ∷ [])) = side_normal w o f (value_in d) c d
-barrier_normal w o (SideInput f) (c ∷ (d ∷ (e ∷ es))) = none_normal (c ∷ (d ∷ (e ∷ es)))
-barrier_normal w o (Operates f) cs = operated_normal w o f (values_in cs) cs
-barrier_normal w o (Singleton k) [] = none_normal []
-barrier_normal w o (Singleton k) (c ∷ []) = one_normal o k c
-barrier_normal w o (Singleton k) (c ∷ (d ∷ ds)) = none_normal (c ∷ (d ∷ ds))
+barrier_normal =
+    act_holds IsNormal just_normal trap_normal none_normal
+    (λ w o f c object. side_normal w o f (value_in object) c object)
 
 value_normal : (w : World) (m : Place → Collection) (o : Option Node) (j : ℕ)
     → ((c : Place) → IsNormal (m c)) → IsNormal (value_at w m o j)

@@ -231,8 +231,8 @@ HasKey [] c = ⊥
 HasKey (k ∷ ks) c = (has_key k c ≡ true) ⊎ HasKey ks c
 
 -- a collection that is there and that a channel has
-abbrev pub IsTaken : List Entry → List Key → Place → Type 0
-IsTaken es keys c = HasKey keys c × IsThere es c
+abbrev pub IsTakenPlace : List Entry → List Key → Place → Type 0
+IsTakenPlace es keys c = HasKey keys c × IsThere es c
 
 abbrev pub IsPdoOn : Place → Option Node → Type 0
 IsPdoOn d (Some (Pdo c f)) = c ≡ d
@@ -243,7 +243,7 @@ IsReducer es n None = Unit {0}
 IsReducer es n (Some r) = IsPdoOn (place n 0) (node_at es r)
 
 abbrev pub TakesInputs : List Entry → List Key → Option Node → Type 0
-TakesInputs es keys (Some (Gbk c o l k)) = AllByRecursion (IsTaken es keys) (read_through es c)
+TakesInputs es keys (Some (Gbk c o l k)) = AllByRecursion (IsTakenPlace es keys) (read_through es c)
 TakesInputs es keys o = ⊥
 
 abbrev pub IsGroupedOk : List Entry → List Key → Grouped → Type 0
@@ -264,7 +264,7 @@ abbrev pub IsHonest : List Entry → Operation → Type 0
 IsHonest es (Flat n) = IsFlat (node_at es n)
 IsHonest es (Class keys groups passes) =
     AllByRecursion (IsKeyOk es) keys × AllByRecursion (IsGroupedOk es keys) groups
-    × AllByRecursion (IsTaken es keys) passes
+    × AllByRecursion (IsTakenPlace es keys) passes
 
 -- ---- the plan
 

@@ -2,11 +2,10 @@
 ghost use Rattle.std.specs.Prelude.{◌≡◌, ◌<◌, ◌^◌, ◌++◌, length, map, IfOk, OnOk};
 ghost use Rattle.exec_graph.specs.Meaning.{node_at};
 ghost use Rattle.plan_laws.specs.Operations as operations;
-ghost use Rattle.plan_making.specs.Small.{IsClassNarrow, IsNarrow};
-ghost use Rattle.plan_making.specs.inner.Channels.{AreChannels};
+ghost use Rattle.plan_making.specs.Small.{IsClassNarrow, IsNarrowOperation};
 ghost use Rattle.plan_making.specs.inner.Names.{name_in};
 
-use crate::channels::{Channels, channels_of, take_of};
+use crate::channels::{channels_of, take_of};
 use crate::groups::push_groups;
 use crate::indexed::Nodes;
 use crate::names::{Names, all_named, named};
@@ -32,7 +31,7 @@ pub(crate) fn stage_of(
     names: &Names,
     operation: &Operation,
 ) -> Result<Stage, AllocError>
-    requires { IsNarrow nodes.now operation.now }
+    requires { IsNarrowOperation nodes.now operation.now }
     ensures { IfOk result (λ stage. stage
         ≡ operations.stage_of nodes.now (name_in nodes.now names.now) operation.now) }
 {
@@ -197,25 +196,9 @@ fn outputs_of(
     let channels = channels_of(alloc, keys)?;
     let mut outputs = Vec::new(alloc);
     push_groups(alloc, nodes, keys, &channels, groups, &mut outputs)?;
-    push_passes(keys, &channels, passes, &mut outputs)?;
+    for c in passes {
+        outputs.push(OutChannel::Pass(take_of(keys, &channels, *c), 0))?;
+    }
     let outputs = numbered_outs(alloc, outputs)?;
     Ok(outputs)
-}
-
-/// Adds the channels of what passes through.
-fn push_passes(
-    keys: &[Key],
-    channels: &Channels,
-    passes: &[Place],
-    outputs: &mut Vec<OutChannel>,
-) -> Result<(), AllocError>
-    requires count { length keys.now < 2 ^ 32 }
-    requires channels { AreChannels channels.now keys.now }
-    ensures { OnOk result (outputs.new.items ≡ outputs.old.items
-        ++ map (operations.pass_of keys.now) passes.now) }
-{
-    for c in passes {
-        outputs.push(OutChannel::Pass(take_of(keys, channels, *c), 0))?;
-    }
-    Ok(())
 }

@@ -1,5 +1,5 @@
 -- Phases that run after others.
-use Rattle.std.proofs.Common.{◌≡◌, ℕ, inl, inr, List, [], ◌∷◌, ◌++◌, append-nil, append_assoc, Some, slice_get, refl, sym, ap, ◌∙◌, subst}
+use Rattle.std.proofs.Common.{◌≡◌, ℕ, inl, inr, List, [], ◌∷◌, ◌++◌, append-nil, append_assoc, Some, length, slice_get, refl, sym, ap, ◌∙◌, subst}
 use Rattle.std.specs.List.{AllZip}
 use Rattle.std.specs.Prelude.{slice_index}
 use Rattle.std.proofs.lemmas.List.{map-append}
@@ -7,6 +7,8 @@ use Rattle.flume_value.proofs.EachLemmas.{Each-append}
 use Rattle.crew.specs.declared.drill.Entry.{Entry}
 use Rattle.outside.specs.Accounts.{Account}
 use Rattle.crew.specs.Hosts.{Grew}
+use Rattle.crew.specs.Phases.{IsLostTask}
+use Rattle.outside.specs.declared.host.Phase.{Phase}
 use Rattle.flume_collection.specs.declared.trap.Trap.{Trap}
 use Rattle.exec_graph.specs.World.{World}
 use Rattle.plan_phases.specs.declared.fault.RunFault.{RunFault}
@@ -15,7 +17,7 @@ use Rattle.plan_phases.specs.declared.winners.PhaseWinners.{PhaseWinners}
 use Rattle.plan_phases.specs.Phases.{OfAct, OfTasks, PhaseTasks, PlanPhase, with_tasks}
 use Rattle.task_lists.specs.Tasks.{places}
 use Rattle.phase_outs.specs.Outs.{HasRun}
-use Rattle.plan_phases.specs.Told.{AreWinners, AskedFront, AskedInTurn, HaveRun, IsCalmPhase, IsReached, IsStopped, RanThrough, attempts_of, first_tasks, settings_of}
+use Rattle.plan_phases.specs.Told.{AreWinners, AskedFront, AskedInTurn, HasTrapped, HaveRun, IsCalmPhase, IsGivenUp, IsReached, IsStopped, RanThrough, TaskHasTrapped, attempts_of, first_tasks, settings_of}
 use Rattle.plan_phases.proofs.Asking.{asked_all, asked_then, front_before, front_behind, front_to}
 use Rattle.plan_phases.proofs.Lasting.{lost_before, run_before, run_later}
 
@@ -214,23 +216,46 @@ module _ (tries : ℕ) (drill : List Entry) where
       is = is;
     })
 
+    -- what happened at a task that a run came to, happened where others have come to the same
+    trapped_there : (ps qs : List PlanPhase) (us vs us' vs' : List Account) (trap : Trap)
+        (h : TaskHasTrapped tries drill w ps us vs trap)
+        (r : (it : IsReached tries drill w qs us' vs' h.here h.number)
+        × (it.won ≡ h.reached.won))
+        → HasRun (settings_of tries drill h.here) us' vs' h.number (places h.task)
+        (slice_index h.reached.won h.number)
+        → HasTrapped tries drill w qs us' vs' trap
+    trapped_there ps qs us vs us' vs' trap h r ran = inl (record {
+      here = h.here;
+      number = h.number;
+      reached = r.0;
+      task = h.task;
+      at = h.at;
+      is = h.is;
+      ran = subst
+          (λ (l : List ℕ). HasRun (settings_of tries drill h.here) us' vs' h.number
+          (places h.task) (slice_index l h.number))
+          (sym r.1) ran;
+    })
+
+    given_up_there : (ps qs : List PlanPhase) (us vs us' vs' : List Account) (stage : ℕ)
+        (phase : Phase) (task : ℕ) (h : IsGivenUp tries drill w ps us vs stage phase task)
+        (r : (it : IsReached tries drill w qs us' vs' h.here task) × (it.won ≡ h.reached.won))
+        → IsLostTask (length h.here.tasks) (settings_of tries drill h.here) us' vs' task
+        → IsGivenUp tries drill w qs us' vs' stage phase task
+    given_up_there ps qs us vs us' vs' stage phase task h r lost = record {
+      here = h.here;
+      named = h.named;
+      reached = r.0;
+      none = subst (λ (l : List ℕ). slice_index l task ≡ 0) (sym r.1) h.none;
+      lost = lost;
+    }
+
     -- where others come after
     pub stopped_before : (ps qs : List PlanPhase) (us vs : List Account) (e : RunFault)
         → IsStopped tries drill w ps us vs e → IsStopped tries drill w (ps ++ qs) us vs e
     stopped_before ps qs us vs (fault.Trap trap) (inl h) =
-        let r = reached_before ps qs us vs h.here h.number h.reached in
-        inl (record {
-          here = h.here;
-          number = h.number;
-          reached = r.0;
-          task = h.task;
-          at = h.at;
-          is = h.is;
-          ran = subst
-              (λ (l : List ℕ). HasRun (settings_of tries drill h.here) us vs h.number
-              (places h.task) (slice_index l h.number))
-              (sym r.1) h.ran;
-        })
+        trapped_there ps (ps ++ qs) us vs us vs trap h
+        (reached_before ps qs us vs h.here h.number h.reached) h.ran
     stopped_before ps qs us vs (fault.Trap trap) (inr h) = inr (record {
       before = h.before;
       traps = h.traps;
@@ -242,13 +267,8 @@ module _ (tries : ℕ) (drill : List Entry) where
       is = h.is;
     })
     stopped_before ps qs us vs (fault.GaveUp stage phase task) h =
-        let r = reached_before ps qs us vs h.here task h.reached in record {
-          here = h.here;
-          named = h.named;
-          reached = r.0;
-          none = subst (λ (l : List ℕ). slice_index l task ≡ 0) (sym r.1) h.none;
-          lost = h.lost;
-        }
+        given_up_there ps (ps ++ qs) us vs us vs stage phase task h
+        (reached_before ps qs us vs h.here task h.reached) h.lost
     stopped_before ps qs us vs fault.Memory h =
         subst (λ (l : List PhaseTasks). AskedFront tries drill l us vs) (sym (tasks_both ps qs))
         (front_before tries drill (with_tasks ps) (with_tasks qs) us vs h)
@@ -261,21 +281,10 @@ module _ (tries : ℕ) (drill : List Entry) where
         → AllZip Grew us vs → AllZip Grew vs ws → IsStopped tries drill w (ps ++ qs) us ws e
     unfolding through_then
     stopped_behind ps qs us vs ws (fault.Trap trap) through asked (inl h) f g =
-        let s = settings_of tries drill h.here in
-        let r = reached_behind ps qs us vs ws h.here h.number through asked h.reached f g in
-        inl (record {
-          here = h.here;
-          number = h.number;
-          reached = r.0;
-          task = h.task;
-          at = h.at;
-          is = h.is;
-          ran = subst
-              (λ (l : List ℕ). HasRun s us ws h.number (places h.task) (slice_index l h.number))
-              (sym r.1)
-              (run_before s us vs ws h.number (places h.task)
-              (slice_index h.reached.won h.number) f h.ran g);
-        })
+        trapped_there qs (ps ++ qs) vs ws us ws trap h
+        (reached_behind ps qs us vs ws h.here h.number through asked h.reached f g)
+        (run_before (settings_of tries drill h.here) us vs ws h.number (places h.task)
+        (slice_index h.reached.won h.number) f h.ran g)
     stopped_behind ps qs us vs ws (fault.Trap trap) through asked (inr h) f g = inr (record {
       before = ps ++ h.before;
       traps = h.traps;
@@ -286,13 +295,9 @@ module _ (tries : ℕ) (drill : List Entry) where
       is = h.is;
     })
     stopped_behind ps qs us vs ws (fault.GaveUp stage phase task) through asked h f g =
-        let r = reached_behind ps qs us vs ws h.here task through asked h.reached f g in record {
-          here = h.here;
-          named = h.named;
-          reached = r.0;
-          none = subst (λ (l : List ℕ). slice_index l task ≡ 0) (sym r.1) h.none;
-          lost = lost_before _ (settings_of tries drill h.here) us vs ws task f h.lost g;
-        }
+        given_up_there qs (ps ++ qs) vs ws us ws stage phase task h
+        (reached_behind ps qs us vs ws h.here task through asked h.reached f g)
+        (lost_before _ (settings_of tries drill h.here) us vs ws task f h.lost g)
     stopped_behind ps qs us vs ws fault.Memory through asked h f g =
         subst (λ (l : List PhaseTasks). AskedFront tries drill l us ws) (sym (tasks_both ps qs))
         (front_behind tries drill (with_tasks ps) (with_tasks qs) (attempts_of through.winners) us

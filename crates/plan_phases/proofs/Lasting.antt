@@ -5,7 +5,7 @@ use Rattle.std.specs.List.{AllZip}
 use Rattle.std.proofs.lemmas.List.Sums.{sum_by-cons}
 use Rattle.crew.specs.Drills.{Settings, attempt_in, is_drilled}
 use Rattle.outside.specs.Accounts.{Account}
-use Rattle.crew.specs.Hosts.{Grew, HaveRisen, Refused, SomeHost}
+use Rattle.crew.specs.Hosts.{Grew, HaveRisen, RefusedPlace, SomeHost}
 use Rattle.crew.specs.Phases.{IsLostTask}
 use Rattle.crew.proofs.Accounts.{grew_on, passed_before, passed_later, refused_before}
 use Rattle.phase_outs.specs.Outs.{HasRun}
@@ -93,8 +93,8 @@ lost_before tasks s us vs ws task g h k = record {
   counted = h.counted;
   told = λ attempt some few.
       ⊎_elim (λ (d : is_drilled s.drill (attempt_in s task attempt) ≡ true). inl d)
-      (λ (r : SomeHost (λ a b. Refused a b (attempt_in s task attempt)) vs ws).
-      inr (some_before (λ a b. Refused a b (attempt_in s task attempt))
+      (λ (r : SomeHost (λ a b. RefusedPlace a b (attempt_in s task attempt)) vs ws).
+      inr (some_before (λ a b. RefusedPlace a b (attempt_in s task attempt))
       (λ a b c f p. refused_before a b c (attempt_in s task attempt) f p) us vs ws g r k))
       (h.told attempt some few);
 }

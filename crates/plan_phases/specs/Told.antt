@@ -10,7 +10,7 @@ use Rattle.crew.specs.Phases.{AreAskedOnce, CanFinish, IsLostTask, IsWork, IsWor
 use Rattle.phase_outs.specs.Outs.{HasRun}
 use Rattle.exec_graph.specs.World.{World}
 use Rattle.task_lists.specs.Tasks.{Task, places}
-use Rattle.task_lists.specs.Outs.{IsCalm, IsFirstTrap}
+use Rattle.task_lists.specs.Outs.{IsCalm, IsFirstTaskTrap}
 use Rattle.plan_phases.specs.declared.fault.RunFault.{RunFault}
 use Rattle.plan_phases.specs.declared.fault.RunFault.TheVariants as fault
 use Rattle.plan_phases.specs.declared.winners.PhaseWinners.{PhaseWinners}
@@ -30,7 +30,7 @@ pub record IsFirstOfTasks (w : World) (ph : PhaseTasks) (trap : Trap) : Type 0 w
   pub greater : List Task
   pub tasks : smaller ++ task ∷ greater ≡ ph.tasks
   pub small : AllByRecursion (IsCalm w) smaller
-  pub is : IsFirstTrap w task trap
+  pub is : IsFirstTaskTrap w task trap
 
 -- or it is that of its act
 abbrev pub IsFirstIn : World → PlanPhase → Trap → Type 0
@@ -158,7 +158,7 @@ module _ (tries : ℕ) (drill : List Entry) where
     pub reached : IsReached w phases olds news here number
     pub task : Task
     pub at : slice_get here.tasks number ≡ Some task
-    pub is : IsFirstTrap w task trap
+    pub is : IsFirstTaskTrap w task trap
     pub ran : HasRun (settings_of here) olds news number (places task)
         (slice_index reached.won number)
 

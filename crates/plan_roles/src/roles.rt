@@ -1,10 +1,12 @@
 // What each node is for forming.
 ghost use Rattle.std.specs.Prelude.{◌≡◌, cond, IfOk};
+ghost use Rattle.exec_graph.specs.Meaning.{AllDiffer};
 ghost use Rattle.exec_graph.specs.Wellformed.{IsBlockedOk};
 ghost use Rattle.plan_roles.specs.declared.roles.Part.TheVariants as part;
-ghost use Rattle.plan_roles.specs.Mappers.{is_mapper, is_reducer, is_stage};
-ghost use Rattle.plan_roles.specs.Roles.{act_part, part_of, pdo_part, role_of, roles};
-ghost use Rattle.plan_roles.specs.inner.Tables.{AreFound, HasNumbers};
+ghost use Rattle.plan_roles.specs.Mappers.{is_stage};
+ghost use Rattle.plan_roles.specs.Roles.{act_part, part_of, pdo_part, roles};
+ghost use Rattle.plan_roles.specs.inner.Tables.{AreFound};
+ghost use Rattle.plan_roles.specs.inner.Kinds.{AreKinds};
 
 use crate::found::{Found, find_all};
 use crate::groups::{keys_in, reducer_of, reducers_of};
@@ -49,6 +51,13 @@ pub struct Role {
     pub part: Part,
 }
 
+/// The numbers of the mappers, and of the reducers.
+#[derive(Drop)]
+pub(crate) struct Kinds {
+    pub(crate) mappers: HashSet<u32>,
+    pub(crate) reducers: HashSet<u32>,
+}
+
 /// What each node is for forming, in the order of the nodes. It takes time in proportion to the
 /// graph's size, where the inputs of a Flatten count once more for each Gbk of it.
 pub fn roles_of(alloc: Global, blocked: &Blocked) -> Result<Pile<Role>, AllocError>
@@ -57,67 +66,68 @@ pub fn roles_of(alloc: Global, blocked: &Blocked) -> Result<Pile<Role>, AllocErr
 {
     let _next = blocked.graph.next;
     let found = find_all(alloc, blocked)?;
-    let mappers = mappers_of(alloc, blocked, &found)?;
-    let reducers = reducers_of(alloc, blocked, &found, &mappers)?;
-    let mut all = Pile::new(alloc);
-    for e in blocked.graph.nodes.as_slice() {
-        all.push(role_of(alloc, blocked, &found, &mappers, &reducers, e)?)?;
-    }
-    Ok(all)
+    let roles = roles_by(alloc, blocked, &found);
+    drop(found);
+    roles
 }
 
-fn role_of(
+fn roles_by(alloc: Global, blocked: &Blocked, found: &Found) -> Result<Pile<Role>, AllocError>
+    requires differ { AllDiffer blocked.now.graph.nodes }
+    requires found { AreFound blocked.now found.now }
+    ensures { IfOk result (λ rs. rs ≡ roles blocked.now) }
+{
+    let mappers = mappers_of(alloc, blocked, found)?;
+    let reducers = reducers_of(alloc, blocked, found, &mappers)?;
+    let kinds = Kinds { mappers, reducers };
+    let roles = all_roles(alloc, blocked, found, &kinds);
+    drop(kinds);
+    roles
+}
+
+fn all_roles(
     alloc: Global,
     blocked: &Blocked,
     found: &Found,
-    mappers: &HashSet<u32>,
-    reducers: &HashSet<u32>,
-    entry: &Entry,
-) -> Result<Role, AllocError>
+    kinds: &Kinds,
+) -> Result<Pile<Role>, AllocError>
     requires found { AreFound blocked.now found.now }
-    requires mappers { HasNumbers mappers.now (is_mapper blocked.now) }
-    requires reducers { HasNumbers reducers.now (is_reducer blocked.now) }
-    ensures { IfOk result (λ r. r ≡ role_of blocked.now entry.now) }
+    requires kinds { AreKinds blocked.now kinds.now }
+    ensures { IfOk result (λ rs. rs ≡ roles blocked.now) }
 {
-    let part = part_of(alloc, blocked, found, mappers, reducers, entry)?;
-    Ok(Role {
-        number: entry.number,
-        level: found.levels.of(entry.number),
-        part,
-    })
+    let mut all = Pile::new(alloc);
+    for e in blocked.graph.nodes.as_slice() {
+        let part = part_of(alloc, blocked, found, kinds, e)?;
+        all.push(Role {
+            number: e.number,
+            level: found.levels.of(e.number),
+            part,
+        })?;
+    }
+    Ok(all)
 }
 
 fn part_of(
     alloc: Global,
     blocked: &Blocked,
     found: &Found,
-    mappers: &HashSet<u32>,
-    reducers: &HashSet<u32>,
+    kinds: &Kinds,
     entry: &Entry,
 ) -> Result<Part, AllocError>
     requires found { AreFound blocked.now found.now }
-    requires mappers { HasNumbers mappers.now (is_mapper blocked.now) }
-    requires reducers { HasNumbers reducers.now (is_reducer blocked.now) }
+    requires kinds { AreKinds blocked.now kinds.now }
     ensures { IfOk result (λ p. p ≡ part_of blocked.now entry.now.number entry.now.node) }
 {
     match &entry.node {
         Node::Source(_) => Ok(Part::Source),
         Node::Flatten(_) => Ok(part_of_flatten(blocked, found, entry.number)),
         Node::Pdo { roots, .. } => {
-            let part = part_of_pdo(
-                alloc,
-                blocked,
-                found,
-                mappers,
-                reducers,
-                entry.number,
-                roots,
-            )?;
+            let part = part_of_pdo(alloc, blocked, found, kinds, entry.number, roots)?;
             Ok(part)
         }
         Node::Gbk { input: c, .. } => {
-            let keys = keys_in(alloc, blocked, found, mappers, entry.number, c)?;
-            Ok(Part::Group(keys, reducer_of(blocked, found, mappers, entry.number)))
+            let keys = keys_in(alloc, blocked, found, &kinds.mappers, entry.number, c)?;
+            let reducer = reducer_of(blocked, found, &kinds.mappers, entry.number);
+            Ok(Part::Group(keys, reducer))
         }
         Node::Barrier { act, .. } => {
             let part = part_of_act(alloc, entry.number, *act)?;
@@ -154,21 +164,19 @@ fn part_of_pdo(
     alloc: Global,
     blocked: &Blocked,
     found: &Found,
-    mappers: &HashSet<u32>,
-    reducers: &HashSet<u32>,
+    kinds: &Kinds,
     number: u32,
     roots: &Roots,
 ) -> Result<Part, AllocError>
     requires found { AreFound blocked.now found.now }
-    requires mappers { HasNumbers mappers.now (is_mapper blocked.now) }
-    requires reducers { HasNumbers reducers.now (is_reducer blocked.now) }
+    requires kinds { AreKinds blocked.now kinds.now }
     ensures { IfOk result (λ p. p ≡ pdo_part blocked.now number roots.now) }
 {
-    if mappers.contains(&number) {
+    if kinds.mappers.contains(&number) {
         let passing = passes_of(alloc, blocked, found, number, roots)?;
         return Ok(Part::Mapper(passing));
     }
-    if reducers.contains(&number) {
+    if kinds.reducers.contains(&number) {
         return Ok(Part::Reducer);
     }
     let outputs = outputs_of(alloc, number, roots)?;

@@ -15,7 +15,7 @@ use Rattle.plan_laws.specs.declared.operations.Key.TheVariants.{Mapper, Whole}
 use Rattle.plan_laws.specs.declared.operations.Grouped.{Grouped}
 use Rattle.plan_laws.specs.declared.operations.Operation.{Operation}
 use Rattle.plan_laws.specs.declared.operations.Operation.TheVariants.{Flat, Class}
-use Rattle.plan_laws.specs.Operations.{AreReady, HasKey, IsFlat, IsHonest, IsIn, IsTaken, channel_of, channels_of, gives_of, group_gives, group_runs, has_key, key_runs, outs_at, reading_reads, reads_of, reduced, reducer_runs, runs, source_place, source_places, works_at}
+use Rattle.plan_laws.specs.Operations.{AreReady, HasKey, IsFlat, IsHonest, IsIn, IsTakenPlace, channel_of, channels_of, gives_of, group_gives, group_runs, has_key, key_runs, outs_at, reading_reads, reads_of, reduced, reducer_runs, runs, source_place, source_places, works_at}
 use Rattle.plan_laws.proofs.Running.{place_same}
 use Rattle.plan_rules.proofs.Keys.{wholes}
 use Rattle.plan_rules.proofs.Members.{Differ, differ_left, differ_right}
@@ -67,9 +67,9 @@ key_node P (Whole d ∷ ks) c a b (inr h) = key_node P ks c a b.1 h
 
 pass_nodes : (P : ℕ → Type 0) (es : List Entry) (keys : List Key) (cs : List Place)
     → AllByRecursion P (flat_map key_runs keys) → AllByRecursion (λ d. P d.node) (wholes keys)
-    → AllByRecursion (IsTaken es keys) cs → AllByRecursion (λ c. P c.node) cs
+    → AllByRecursion (IsTakenPlace es keys) cs → AllByRecursion (λ c. P c.node) cs
 pass_nodes P es keys cs a b t =
-    Each-weaker (IsTaken es keys) (λ c. P c.node) (λ c h. key_node P keys c a b h.0) cs t
+    Each-weaker (IsTakenPlace es keys) (λ c. P c.node) (λ c h. key_node P keys c a b h.0) cs t
 
 -- ---- what groups give
 

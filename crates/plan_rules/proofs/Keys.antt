@@ -15,7 +15,7 @@ use Rattle.graph_laws.proofs.of_exec_graph.Solving.{there_found}
 use Rattle.plan_laws.specs.declared.operations.Key.{Key}
 use Rattle.plan_laws.specs.declared.operations.Key.TheVariants.{Mapper, Whole}
 use Rattle.plan_laws.specs.declared.operations.Grouped.{Grouped}
-use Rattle.plan_laws.specs.Operations.{IsGroupedOk, IsTaken, TakesInputs, has_key, read_through, key_runs}
+use Rattle.plan_laws.specs.Operations.{IsGroupedOk, IsTakenPlace, TakesInputs, has_key, read_through, key_runs}
 use Rattle.plan_laws.proofs.Running.{place_same, same_self}
 use Rattle.plan_rules.specs.Fitting.{IsUsed, gbk_inputs, same_key, takes_key}
 use Rattle.plan_rules.proofs.Collections.{collections, node_outs}
@@ -91,7 +91,7 @@ pub record Taken (es : List Entry) (k : Key) : Type 0 where
   pub there : IsThere es at
 
 input_taken : (es : List Entry) (keys : List Key) (k : Key) (cs : List Place)
-    → AllByRecursion (IsTaken es keys) cs → list_any (has_key k) cs ≡ true → Taken es k
+    → AllByRecursion (IsTakenPlace es keys) cs → list_any (has_key k) cs ≡ true → Taken es k
 input_taken es keys k [] a h = absurd (false≢true h)
 input_taken es keys k (c ∷ cs) a h =
     or_else (Taken es k) (has_key k c) (list_any (has_key k) cs) h

@@ -11,7 +11,7 @@ use Rattle.plan_laws.specs.declared.operations.Key.{Key}
 use Rattle.plan_laws.specs.declared.operations.Key.TheVariants.{Mapper, Whole}
 use Rattle.plan_laws.specs.declared.operations.Grouped.{Grouped}
 use Rattle.plan_laws.specs.declared.operations.Operation.TheVariants.{Class}
-use Rattle.plan_laws.specs.Operations.{IsGroupedOk, IsHonest, IsTaken, TakesInputs, group_gives, group_runs, key_runs, outs_at, reduced, reducer_runs, runs}
+use Rattle.plan_laws.specs.Operations.{IsGroupedOk, IsHonest, IsTakenPlace, TakesInputs, group_gives, group_runs, key_runs, outs_at, reduced, reducer_runs, runs}
 use Rattle.plan_rules.specs.Fitting.{IsAlone, IsClassFit, IsUsed}
 use Rattle.plan_rules.proofs.Collections.{collections}
 use Rattle.plan_rules.proofs.Apart.{IsApart, Misses, misses_left}
@@ -115,7 +115,7 @@ class_bounded es keys gs cs f dn m h t d o =
     w.results in
     let b = beside_short es ns cs f dn (differ_right (flat_map key_runs keys) ns d)
     (all_stand es ns (groups_work es keys gs h.1)) (places_differ cs t.passed)
-    (Each-weaker (IsTaken es keys) (λ c. Has c (collections es)) (λ c i. there_has es c i.1) cs
+    (Each-weaker (IsTakenPlace es keys) (λ c. Has c (collections es)) (λ c i. there_has es c i.1) cs
     h.2) o.1 in
     let k = inputs_short es keys gs cs f dn m h.1 t o t.used in
     let a = length-append (flat_map (group_gives es) gs) cs in

@@ -26,14 +26,14 @@ use Rattle.plan_laws.specs.declared.operations.Operation.{Operation}
 use Rattle.plan_laws.specs.declared.operations.Operation.TheVariants.{Flat, Class}
 use Rattle.plan_laws.specs.Operations.{AreReady, IsFlat, IsGroupedOk, IsHonest, IsIn, IsKeyOk, IsOperate, IsPdo, IsReducer, IsSide, Reading, IsPdoOn, TakesInputs, channels_of, flat_inputs, flat_stage, gives_of, group_gives, named, outs_at, pdo_channel, placed, reading_reads, reads_of, reduced, side_channel, stage_of, stages_of}
 use Rattle.plan_laws.proofs.Running.{in_append, place_same, without_first}
-use Rattle.plan_rules.specs.Fitting.{IsFit}
+use Rattle.plan_rules.specs.Fitting.{FitsEntries}
 
 -- ---- what passes through is no object
 abbrev pub PassesCollections : List Entry → Operation → Type 0
 PassesCollections es (Flat n) = Unit {0}
 PassesCollections es (Class keys gs cs) = Each (λ c. is_object_at es c ≡ false) cs
 
-pub passes_fit : (es : List Entry) (o : Operation) → IsFit es o → PassesCollections es o
+pub passes_fit : (es : List Entry) (o : Operation) → FitsEntries es o → PassesCollections es o
 passes_fit es (Flat n) f = tt
 passes_fit es (Class keys gs cs) f = f.collections
 

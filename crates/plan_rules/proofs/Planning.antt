@@ -10,7 +10,7 @@ use Rattle.graph_laws.specs.of_exec_graph.declared.graph.Entry.{Entry}
 use Rattle.graph_laws.specs.of_exec_graph.declared.graph.Graph.{Graph}
 use Rattle.plan_making.specs.of_exec_plan.declared.plan.PlanPlace.{PlanPlace}
 use Rattle.plan_making.specs.of_exec_plan.declared.plan.Stage.{Stage}
-use Rattle.plan_making.specs.of_exec_plan.Wellformed.{AreStages, IsMade, IsPlanOk, results_at}
+use Rattle.plan_making.specs.of_exec_plan.Wellformed.{AreStages, IsPlaceSoFar, IsPlanOk, results_at}
 use Rattle.plan_laws.specs.declared.operations.Operation.{Operation}
 use Rattle.plan_laws.specs.Operations.{AreReady, DoAll, IsHonest, IsIn, at_source, gives_of, made_by, placed, places_of, plan_of, reads_of, source_at, source_place, source_places, stage_of, stages_of}
 use Rattle.plan_laws.proofs.Running.{in_append}
@@ -25,7 +25,7 @@ use Rattle.plan_rules.proofs.Widths.{operation_width}
 
 -- each of these collections is made where it is named
 abbrev MadeAll : ℕ → List Stage → (Place → PlanPlace) → List Place → Type 0
-MadeAll n before f made = (c : Place) → IsIn c made → IsMade n before (f c)
+MadeAll n before f made = (c : Place) → IsIn c made → IsPlaceSoFar n before (f c)
 
 record Kept (n : ℕ) (es : List Entry) (before : List Stage) (k : ℕ) (f : Place → PlanPlace)
     (made : List Place) (os : List Operation) : Type 0 where
@@ -61,7 +61,8 @@ stages_keep n es before k f made (o ∷ os) a e m s t r =
     record {
       stages = (
         stage_ok n es before f o a s.0 t.0
-            (Each-weaker (λ c. IsIn c made) (λ c. IsMade n before (f c)) m (reads_of es o) r.0),
+            (Each-weaker (λ c. IsIn c made) (λ c. IsPlaceSoFar n before (f c)) m (reads_of es o)
+            r.0),
         rest.stages,
       );
       made_all = subst
@@ -73,7 +74,7 @@ stages_keep n es before k f made (o ∷ os) a e m s t r =
 -- ---- sources
 
 source_made : (n : ℕ) (all : List Entry) (i : ℕ) (x : Node) (c : Place) → node_at all i ≡ Some x
-    → IsSourceBelow n x → IsIn c (source_place i x) → IsMade n [] (at_source all c)
+    → IsSourceBelow n x → IsIn c (source_place i x) → IsPlaceSoFar n [] (at_source all c)
 source_made n all i (Source r) c h b (inl e) =
     let found : node_at all c.node ≡ Some (Source r) =
     ap (λ (d : Place). node_at all d.node) (sym e) ∙ h in
@@ -120,7 +121,7 @@ plan_kept n g os d a found below short few agree objects passes =
       outputs = places_made n (stages_of g.nodes 1 start os) (places_of g.nodes 1 start os)
           g.outputs
           (Each-weaker (λ c. IsIn c (made_by g.nodes (source_places g.nodes) os))
-          (λ c. IsMade n (stages_of g.nodes 1 start os) (places_of g.nodes 1 start os c))
+          (λ c. IsPlaceSoFar n (stages_of g.nodes 1 start os) (places_of g.nodes 1 start os c))
           k.made_all g.outputs d.told);
       few = omega arith;
       objects = plan_objects g os found agree d objects passes;

@@ -15,7 +15,7 @@ use Rattle.plan_laws.specs.declared.operations.Grouped.{Grouped}
 use Rattle.plan_laws.specs.declared.operations.Operation.{Operation}
 use Rattle.plan_laws.specs.declared.operations.Operation.TheVariants.{Flat, Class}
 use Rattle.plan_laws.specs.Operations.{DoAll, IsFlat, IsGroupedOk, IsHonest, IsKeyOk, IsPdo, IsReducer, IsPdoOn, TakesInputs, group_runs, key_runs, reducer_runs, runs, times, works_at}
-use Rattle.plan_rules.specs.Fitting.{AreFit, IsAlone, IsFit, IsUsed, flat_runs}
+use Rattle.plan_rules.specs.Fitting.{AreFit, IsAlone, FitsEntries, IsUsed, flat_runs}
 use Rattle.plan_rules.proofs.Members.{Differ, Has, differ_left, differ_once, differ_right, times-append}
 use Rattle.plan_rules.proofs.Places.{number_has, numbers}
 
@@ -170,11 +170,11 @@ class_runs es keys gs cs s (inl a) = alone_runs keys gs cs a
 class_runs es [] gs cs s (inr u) = absurd (omega arith)
 class_runs es (k ∷ ks) gs cs s (inr u) = used_runs es (k ∷ ks) k gs cs u.0
 
-operation_runs : (es : List Entry) (o : Operation) → IsFit es o → 0 < length (runs o)
+operation_runs : (es : List Entry) (o : Operation) → FitsEntries es o → 0 < length (runs o)
 operation_runs es (Flat n) f = omega arith
 operation_runs es (Class keys gs cs) f = class_runs es keys gs cs f.some f.used
 
-pub operations_short : (es : List Entry) (os : List Operation) → AllByRecursion (IsFit es) os
+pub operations_short : (es : List Entry) (os : List Operation) → AllByRecursion (FitsEntries es) os
     → length os ≤ length (flat_map runs os)
 operations_short es [] a = omega arith
 operations_short es (o ∷ os) a =

@@ -12,12 +12,12 @@ use Rattle.plan_making.specs.of_exec_plan.declared.plan.PlanPlace.{PlanPlace}
 use Rattle.plan_making.specs.of_exec_plan.declared.plan.OutChannel.{OutChannel}
 use Rattle.plan_making.specs.of_exec_plan.declared.plan.Stage.{Stage}
 use Rattle.plan_making.specs.of_exec_plan.Meaning.{in_reads, object_places as with_place}
-use Rattle.plan_making.specs.of_exec_plan.Wellformed.{AreOuts, IsGroupOk, IsLiftOk, IsMade, IsStageOk, most_channels, width}
+use Rattle.plan_making.specs.of_exec_plan.Wellformed.{AreOutChannels, IsGroupOk, IsLiftOk, IsPlaceSoFar, IsStageOk, most_channels, width}
 use Rattle.plan_laws.specs.declared.operations.Key.{Key}
 use Rattle.plan_laws.specs.declared.operations.Grouped.{Grouped}
 use Rattle.plan_laws.specs.declared.operations.Operation.{Operation}
 use Rattle.plan_laws.specs.declared.operations.Operation.TheVariants.{Flat, Class}
-use Rattle.plan_laws.specs.Operations.{IsGroupedOk, IsHonest, IsKeyOk, IsTaken, Reading, TakesInputs, channel_of, channels_of, flat_inputs, flat_stage, group_at, group_of, read_through, named, numbered_outs, pass_of, reading_reads, reads_of, reducer_of, stage_of, with_object}
+use Rattle.plan_laws.specs.Operations.{IsGroupedOk, IsHonest, IsKeyOk, IsTakenPlace, Reading, TakesInputs, channel_of, channels_of, flat_inputs, flat_stage, group_at, group_of, read_through, named, numbered_outs, pass_of, reading_reads, reads_of, reducer_of, stage_of, with_object}
 use Rattle.plan_rules.proofs.Taking.{AreNumbered, inputs, inputs_numbered, reducer_numbered, take_exists, takes_exist}
 use Rattle.plan_rules.proofs.Widths.{length_map}
 
@@ -48,8 +48,8 @@ group_ok es f keys n r (Some (Barrier ins x y d)) a ok t l = absurd t
 
 passes_ok : (es : List Entry) (f : Place → PlanPlace) (keys : List Key) (passed : Bool) (n : ℕ)
     (cs : List Place) → AreNumbered es → AllByRecursion (IsKeyOk es) keys
-    → AllByRecursion (IsTaken es keys) cs
-    → AreOuts (inputs es f keys) passed n (numbered_outs n (map (pass_of keys) cs))
+    → AllByRecursion (IsTakenPlace es keys) cs
+    → AreOutChannels (inputs es f keys) passed n (numbered_outs n (map (pass_of keys) cs))
 passes_ok es f keys passed n [] a ok h = tt
 passes_ok es f keys passed n (c ∷ cs) a ok h = (
   (refl, take_exists es f keys c a ok h.0),
@@ -59,8 +59,8 @@ passes_ok es f keys passed n (c ∷ cs) a ok h = (
 outs_ok : (es : List Entry) (f : Place → PlanPlace) (keys : List Key) (n : ℕ) (gs : List Grouped)
     (cs : List Place) → AreNumbered es → AllByRecursion (IsKeyOk es) keys
     → AllByRecursion (IsGroupedOk es keys) gs → AreLifted es gs
-    → AllByRecursion (IsTaken es keys) cs
-    → AreOuts (inputs es f keys) false n
+    → AllByRecursion (IsTakenPlace es keys) cs
+    → AreOutChannels (inputs es f keys) false n
     (numbered_outs n (map (group_of es keys) gs ++ map (pass_of keys) cs))
 outs_ok es f keys n [] cs a ok i l h = passes_ok es f keys false n cs a ok h
 outs_ok es f keys n (g ∷ gs) cs a ok i l h = (
@@ -71,25 +71,25 @@ outs_ok es f keys n (g ∷ gs) cs a ok i l h = (
 -- ---- stages
 
 object_made : (n : ℕ) (before : List Stage) (f : Place → PlanPlace) (o : Option Place)
-    → AllByRecursion (λ c. IsMade n before (f c)) (with_object o)
-    → AllByRecursion (IsMade n before) (with_place (option_map f o))
+    → AllByRecursion (λ c. IsPlaceSoFar n before (f c)) (with_object o)
+    → AllByRecursion (IsPlaceSoFar n before) (with_place (option_map f o))
 object_made n before f None a = tt
 object_made n before f (Some c) a = a
 
 inputs_made : (n : ℕ) (before : List Stage) (f : Place → PlanPlace) (rs : List Reading)
-    → AllByRecursion (λ c. IsMade n before (f c)) (flat_map reading_reads rs)
-    → AllByRecursion (λ c. AllByRecursion (IsMade n before) (in_reads c)) (map (named f) rs)
+    → AllByRecursion (λ c. IsPlaceSoFar n before (f c)) (flat_map reading_reads rs)
+    → AllByRecursion (λ c. AllByRecursion (IsPlaceSoFar n before) (in_reads c)) (map (named f) rs)
 inputs_made n before f [] a = tt
 inputs_made n before f (r ∷ rs) a =
-    let P : Place → Type 0 = λ c. IsMade n before (f c) in
+    let P : Place → Type 0 = λ c. IsPlaceSoFar n before (f c) in
     let more : List Place = flat_map reading_reads rs in (
       (a.0, object_made n before f r.beside (Each-left P (with_object r.beside) more a.1)),
       inputs_made n before f rs (Each-right P (with_object r.beside) more a.1),
     )
 
 pub places_made : (n : ℕ) (before : List Stage) (f : Place → PlanPlace) (cs : List Place)
-    → AllByRecursion (λ c. IsMade n before (f c)) cs
-    → AllByRecursion (IsMade n before) (map f cs)
+    → AllByRecursion (λ c. IsPlaceSoFar n before (f c)) cs
+    → AllByRecursion (IsPlaceSoFar n before) (map f cs)
 places_made n before f [] a = tt
 places_made n before f (c ∷ cs) a = (a.0, places_made n before f cs a.1)
 
@@ -110,7 +110,7 @@ IsShort es (Flat n) = Unit {0}
 IsShort es (Class keys gs cs) = IsClassShort es keys gs cs
 
 flat_ok : (n : ℕ) (before : List Stage) (o : Option Node) (takes : List PlanPlace)
-    → AllByRecursion (IsMade n before) takes → IsStageOk n before (flat_stage o takes)
+    → AllByRecursion (IsPlaceSoFar n before) takes → IsStageOk n before (flat_stage o takes)
 flat_ok n before None takes a = a
 flat_ok n before (Some (Source s)) takes a = a
 flat_ok n before (Some (Flatten ins)) takes a = a
@@ -120,7 +120,7 @@ flat_ok n before (Some (Barrier ins o l d)) takes a = a
 
 pub stage_ok : (n : ℕ) (es : List Entry) (before : List Stage) (f : Place → PlanPlace)
     (o : Operation) → AreNumbered es → IsHonest es o → IsShort es o
-    → AllByRecursion (λ c. IsMade n before (f c)) (reads_of es o)
+    → AllByRecursion (λ c. IsPlaceSoFar n before (f c)) (reads_of es o)
     → IsStageOk n before (stage_of es f o)
 stage_ok n es before f (Flat k) a s t r =
     flat_ok n before (node_at es k) (map f (flat_inputs (node_at es k)))

@@ -17,7 +17,7 @@ use Rattle.plan_making.specs.of_exec_plan.declared.plan.InChannel.{InChannel}
 use Rattle.plan_making.specs.of_exec_plan.Wellformed.{Exists, IsNumbered, kept, outs, outs_at}
 use Rattle.plan_laws.specs.declared.operations.Key.{Key}
 use Rattle.plan_laws.specs.declared.operations.Key.TheVariants.{Mapper, Whole}
-use Rattle.plan_laws.specs.Operations.{IsSide, side_channel, HasKey, IsKeyOk, IsPdo, IsTaken, channel_of, forest_at, has_key, key_out, named, out_in, pdo_channel, position, reducer_of, take_of}
+use Rattle.plan_laws.specs.Operations.{IsSide, side_channel, HasKey, IsKeyOk, IsPdo, IsTakenPlace, channel_of, forest_at, has_key, key_out, named, out_in, pdo_channel, position, reducer_of, take_of}
 use Rattle.plan_laws.proofs.Carrying.{behind}
 use Rattle.plan_making.proofs.Widths.{kept_after}
 
@@ -97,12 +97,12 @@ exists_key es f (k ∷ ks) c a ok t h =
     (λ e. exists_key es f ks c a ok.1 t (behind k ks c e h))
 
 pub take_exists : (es : List Entry) (f : Place → PlanPlace) (keys : List Key) (c : Place)
-    → AreNumbered es → AllByRecursion (IsKeyOk es) keys → IsTaken es keys c
+    → AreNumbered es → AllByRecursion (IsKeyOk es) keys → IsTakenPlace es keys c
     → Exists (inputs es f keys) (take_of keys c)
 take_exists es f keys c a ok h = exists_key es f keys c a ok h.1 h.0
 
 pub takes_exist : (es : List Entry) (f : Place → PlanPlace) (keys : List Key) (cs : List Place)
-    → AreNumbered es → AllByRecursion (IsKeyOk es) keys → AllByRecursion (IsTaken es keys) cs
+    → AreNumbered es → AllByRecursion (IsKeyOk es) keys → AllByRecursion (IsTakenPlace es keys) cs
     → AllByRecursion (Exists (inputs es f keys)) (map (take_of keys) cs)
 takes_exist es f keys [] a ok h = tt
 takes_exist es f keys (c ∷ cs) a ok h =

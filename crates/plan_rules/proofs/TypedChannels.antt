@@ -21,7 +21,7 @@ use Rattle.plan_making.specs.of_exec_plan.Typing.{InTyped, ChannelTyped, InsType
 use Rattle.graph_laws.proofs.TypedForests.{typed_moved}
 use Rattle.plan_laws.specs.declared.operations.Key.{Key}
 use Rattle.plan_laws.specs.declared.operations.Key.TheVariants.{Mapper, Whole}
-use Rattle.plan_laws.specs.Operations.{IsSide, reading_reads, side_channel, HasKey, IsKeyOk, IsPdo, IsTaken, Reading, channel_of, has_key, inputs_at, read_through, key_out, out_in, pdo_channel, position, take_of}
+use Rattle.plan_laws.specs.Operations.{IsSide, reading_reads, side_channel, HasKey, IsKeyOk, IsPdo, IsTakenPlace, Reading, channel_of, has_key, inputs_at, read_through, key_out, out_in, pdo_channel, position, take_of}
 use Rattle.plan_laws.proofs.Carrying.{behind}
 use Rattle.plan_laws.proofs.Running.{place_same}
 use Rattle.plan_rules.proofs.Taking.{inputs}
@@ -181,14 +181,14 @@ read_typed s types es c (Some (Flatten ins)) a h t =
 
 pub takes_typed : (s : Signatures) (types : Place → Ty) (es : List Entry) (keys : List Key)
     (c : Place) → AreTyped s types es → IsThere es c
-    → AllByRecursion (IsTaken es keys) (read_through es c)
+    → AllByRecursion (IsTakenPlace es keys) (read_through es c)
     → AllByRecursion (λ i. take_type (channel_types types keys) i ≡ types c)
     (map (take_of keys) (read_through es c))
 takes_typed s types es keys c a h t =
     all (read_through es c) (read_typed s types es c (node_at es c.node) a refl h) t
   where
     all : (cs : List Place) → AllByRecursion (λ d. types d ≡ types c) cs
-        → AllByRecursion (IsTaken es keys) cs
+        → AllByRecursion (IsTakenPlace es keys) cs
         → AllByRecursion (λ i. take_type (channel_types types keys) i ≡ types c)
         (map (take_of keys) cs)
     all [] e k = tt

@@ -13,14 +13,14 @@ use Rattle.graph_laws.proofs.of_exec_graph.Entries.{all_found}
 use Rattle.plan_making.specs.of_exec_plan.declared.plan.PlanPlace.{PlanPlace}
 use Rattle.plan_making.specs.of_exec_plan.declared.plan.PlanPlace.TheVariants as at
 use Rattle.plan_making.specs.of_exec_plan.Channels.{outs_of}
-use Rattle.plan_making.specs.of_exec_plan.Typing.{ChannelTyped, GroupTyped, OutTyped, StageTyped, types_from}
+use Rattle.plan_making.specs.of_exec_plan.Typing.{ChannelTyped, GroupTyped, OutChannelTyped, StageTyped, types_from}
 use Rattle.plan_making.specs.of_exec_plan.Wellformed.{width}
 use Rattle.graph_laws.proofs.TypedForests.{typed_moved}
 use Rattle.plan_laws.specs.declared.operations.Key.{Key}
 use Rattle.plan_laws.specs.declared.operations.Grouped.{Grouped}
 use Rattle.plan_laws.specs.declared.operations.Operation.{Operation}
 use Rattle.plan_laws.specs.declared.operations.Operation.TheVariants.{Flat, Class}
-use Rattle.plan_laws.specs.Operations.{flat_stage, IsFlat, IsGroupedOk, IsHonest, IsReducer, IsTaken, IsPdoOn, TakesInputs, flat_inputs, forest_at, gives_of, group_at, group_gives, group_of, numbered_outs, outs_at, pass_of, reads_of, reduced, reducer_of, stage_of}
+use Rattle.plan_laws.specs.Operations.{flat_stage, IsFlat, IsGroupedOk, IsHonest, IsReducer, IsTakenPlace, IsPdoOn, TakesInputs, flat_inputs, forest_at, gives_of, group_at, group_gives, group_of, numbered_outs, outs_at, pass_of, reads_of, reduced, reducer_of, stage_of}
 use Rattle.plan_rules.proofs.Counted.{out_stands}
 use Rattle.plan_rules.proofs.Taking.{AreNumbered, IsNodeNumbered}
 use Rattle.plan_rules.proofs.TypedChannels.{AreNamed, AreTyped, all_inputs_typed, channel_types, taken_typed, takes_typed, typed_at}
@@ -120,9 +120,9 @@ group_typed s types t es keys k i n r (Some (Gbk c o l z)) a m w h p q g =
 group_typed s types t es keys k i n r (Some (Barrier ins x y d)) a m w h p q g = absurd p
 
 passes_typed : (s : Signatures) (types : Place → Ty) (t : PlanPlace → Ty) (es : List Entry)
-    (keys : List Key) (k i : ℕ) (cs : List Place) → AllByRecursion (IsTaken es keys) cs
+    (keys : List Key) (k i : ℕ) (cs : List Place) → AllByRecursion (IsTakenPlace es keys) cs
     → GivesTypes types t k i cs
-    → AllByRecursion (OutTyped s t (channel_types types keys) k)
+    → AllByRecursion (OutChannelTyped s t (channel_types types keys) k)
     (numbered_outs i (map (pass_of keys) cs))
 passes_typed s types t es keys k i [] h g = tt
 passes_typed s types t es keys k i (c ∷ cs) h g = (
@@ -134,9 +134,9 @@ passes_typed s types t es keys k i (c ∷ cs) h g = (
 outputs_typed : (s : Signatures) (types : Place → Ty) (t : PlanPlace → Ty) (es : List Entry)
     (keys : List Key) (k i : ℕ) (gs : List Grouped) (cs : List Place) → AreTyped s types es
     → AreNumbered es → AreThere es → AllByRecursion (IsGroupedOk es keys) gs
-    → AllByRecursion (IsTaken es keys) cs
+    → AllByRecursion (IsTakenPlace es keys) cs
     → GivesTypes types t k i (flat_map (group_gives es) gs ++ cs)
-    → AllByRecursion (OutTyped s t (channel_types types keys) k)
+    → AllByRecursion (OutChannelTyped s t (channel_types types keys) k)
     (numbered_outs i (map (group_of es keys) gs ++ map (pass_of keys) cs))
 outputs_typed s types t es keys k i [] cs a m w h p g =
     passes_typed s types t es keys k i cs p g

@@ -14,8 +14,8 @@ use Rattle.plan_making.specs.of_exec_plan.Wellformed.{IsPlanOk}
 use Rattle.plan_laws.specs.declared.operations.Operation.{Operation}
 use Rattle.plan_laws.specs.declared.operations.Operation.TheVariants.{Flat, Class}
 use Rattle.plan_laws.specs.Operations.{DoAll, IsHonest, gives_of, plan_of, runs}
-use Rattle.plan_making.specs.Small.{IsNarrow, IsSmall}
-use Rattle.plan_rules.specs.Fitting.{AreFit, IsFit, IsInBounds}
+use Rattle.plan_making.specs.Small.{IsNarrowOperation, IsSmall}
+use Rattle.plan_rules.specs.Fitting.{AreFit, FitsEntries, IsInBounds}
 use Rattle.plan_rules.proofs.Apart.{IsApart, operations_apart}
 use Rattle.plan_rules.proofs.Beside.{ascending_differ}
 use Rattle.plan_rules.proofs.Collections.{collections, few_collections}
@@ -51,11 +51,11 @@ founds g ok = each_found g.nodes (differ_ascends g.nodes ok.founded.ascends)
 -- what is shown of each operation
 pub record IsGood (es : List Entry) (o : Operation) : Type 0 where
   pub short : IsShort es o
-  pub narrow : IsNarrow es o
+  pub narrow : IsNarrowOperation es o
   pub results : length (gives_of es o) < 2 ^ 32
 
 one_good : (g : Graph) (o : Operation) → IsGraphOk g → length (collections g.nodes) ≤ 131072
-    → IsHonest g.nodes o → IsFit g.nodes o → Differ (runs o) → IsApart o → IsGood g.nodes o
+    → IsHonest g.nodes o → FitsEntries g.nodes o → Differ (runs o) → IsApart o → IsGood g.nodes o
 one_good g (Flat n) ok m h t d a = record { short = tt; narrow = tt; results = omega arith }
 one_good g (Class keys gs cs) ok m h t d a =
     let b = class_bounded g.nodes keys gs cs (founds g ok)
@@ -76,7 +76,7 @@ one_good g (Class keys gs cs) ok m h t d a =
 
 all_good : (g : Graph) (os : List Operation) → IsGraphOk g
     → length (collections g.nodes) ≤ 131072 → AllByRecursion (IsHonest g.nodes) os
-    → AllByRecursion (IsFit g.nodes) os → AllByRecursion (λ o. Differ (runs o)) os
+    → AllByRecursion (FitsEntries g.nodes) os → AllByRecursion (λ o. Differ (runs o)) os
     → AllByRecursion IsApart os → AllByRecursion (IsGood g.nodes) os
 all_good g [] ok m h t d a = tt
 all_good g (o ∷ os) ok m h t d a =
@@ -110,7 +110,7 @@ plan_well_formed n g os ok b d f =
     (Each-weaker (IsGood g.nodes) (IsShort g.nodes) (λ o h. h.short) os
     (operations_good n g os ok b d f))
     (operations_few n g os ok b d f) b.agree ok.objects
-    (Each-weaker (IsFit g.nodes) (PassesCollections g.nodes) (passes_fit g.nodes) os f.fit)
+    (Each-weaker (FitsEntries g.nodes) (PassesCollections g.nodes) (passes_fit g.nodes) os f.fit)
 
 pub operations_small : (n : ℕ) (g : Graph) (os : List Operation) → IsGraphOk g → IsInBounds n g
     → DoAll g os → AreFit g.nodes os → IsSmall g.nodes os
@@ -118,7 +118,7 @@ operations_small n g os ok b d f =
     let h = operations_good n g os ok b d f in
     record {
       stages = operations_few n g os ok b d f;
-      narrow = Each-weaker (IsGood g.nodes) (IsNarrow g.nodes) (λ o q. q.narrow) os h;
+      narrow = Each-weaker (IsGood g.nodes) (IsNarrowOperation g.nodes) (λ o q. q.narrow) os h;
       results = Each-weaker (IsGood g.nodes) (λ o. length (gives_of g.nodes o) < 2 ^ 32)
           (λ o q. q.results) os h;
     }

@@ -67,9 +67,9 @@ pub record IsClassFit (es : List Entry) (keys : List Key) (groups : List Grouped
   pub collections : AllByRecursion (λ c. is_object_at es c ≡ false) passes
   pub reduced : AllByRecursion (IsReduced es) groups
 
-abbrev pub IsFit : List Entry → Operation → Type 0
-IsFit es (Flat n) = Unit {0}
-IsFit es (Class keys groups passes) = IsClassFit es keys groups passes
+abbrev pub FitsEntries : List Entry → Operation → Type 0
+FitsEntries es (Flat n) = Unit {0}
+FitsEntries es (Class keys groups passes) = IsClassFit es keys groups passes
 
 abbrev pub flat_runs : Operation → List ℕ
 flat_runs (Flat n) = n ∷ []
@@ -77,7 +77,7 @@ flat_runs (Class keys groups passes) = []
 
 -- what forming gives: no Flatten is carried out twice
 pub record AreFit (es : List Entry) (os : List Operation) : Type 0 where
-  pub fit : AllByRecursion (IsFit es) os
+  pub fit : AllByRecursion (FitsEntries es) os
   pub flats : (n : ℕ) → times n (flat_map flat_runs os) ≤ 1
 
 -- ---- graphs

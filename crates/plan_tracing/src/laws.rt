@@ -9,7 +9,7 @@ ghost use Rattle.plan_check.specs.Checked.{Forms, IsChecked};
 ghost use Rattle.plan_faults.specs.declared.fault.PlanFault.{PlanFault};
 ghost use Rattle.plan_faults.specs.declared.fault.PlanFault.TheVariants.{Memory};
 ghost use Rattle.plan_file_law.specs.Files.{text_of};
-ghost use Rattle.plan_file_law.specs.of_plan_files.Written.{IsSmall};
+ghost use Rattle.plan_file_law.specs.of_plan_files.Written.{HasSmallNumbers};
 ghost use Rattle.plan_writing.specs.Naming.{Naming};
 
 use plan_check::answer_law;
@@ -19,11 +19,11 @@ use plan_file_law::file_law;
 /// of it is the plan, or there was no memory. So it is as a line, with its line feed.
 pub fn accepted_law()
     ensures text { (names : Naming) (g : Graph) (rewrites : List Rewrite) (plan : Plan)
-        (answer : Result Plan PlanFault) → IsGraphOk g → AllByRecursion IsSmall rewrites →
+        (answer : Result Plan PlanFault) → IsGraphOk g → AllByRecursion HasSmallNumbers rewrites →
         Forms g rewrites plan → IsChecked names g (text_of names plan rewrites) answer →
         (answer ≡ Err Memory → ⊥) → answer ≡ Ok plan }
     ensures line { (names : Naming) (g : Graph) (rewrites : List Rewrite) (plan : Plan)
-        (answer : Result Plan PlanFault) → IsGraphOk g → AllByRecursion IsSmall rewrites →
+        (answer : Result Plan PlanFault) → IsGraphOk g → AllByRecursion HasSmallNumbers rewrites →
         Forms g rewrites plan →
         IsChecked names g (text_of names plan rewrites ++ codes "\n") answer →
         (answer ≡ Err Memory → ⊥) → answer ≡ Ok plan }

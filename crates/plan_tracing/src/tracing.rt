@@ -4,7 +4,7 @@ ghost use Rattle.std.specs.List.{AllByRecursion};
 ghost use Rattle.graph_tracing.specs.Orders.{AreInOrder};
 ghost use Rattle.plan_check.specs.of_optimise.Optimised.{CanOptimise, IsOptimised};
 ghost use Rattle.plan_check.specs.Checked.{Forms};
-ghost use Rattle.plan_file_law.specs.of_plan_files.Written.{IsSmall};
+ghost use Rattle.plan_file_law.specs.of_plan_files.Written.{HasSmallNumbers};
 
 use crate::fusing::Refined;
 use crate::refining::refine_traced;
@@ -30,7 +30,7 @@ pub fn optimise_traced(alloc: Global, scales: &[u32], graph: Graph) -> Result<Tr
     ensures optimised { IfOk result (λ t. IsOptimised scales.now graph t.plan) }
     ensures forms { IfOk result (λ t. Forms graph t.rewrites t.plan) }
     ensures order { IfOk result (λ t. AreInOrder t.rewrites) }
-    ensures small { IfOk result (λ t. AllByRecursion IsSmall t.rewrites) }
+    ensures small { IfOk result (λ t. AllByRecursion HasSmallNumbers t.rewrites) }
 {
     replay_law();
     let sources = count_sources(graph.nodes.as_slice())?;
@@ -52,7 +52,7 @@ fn next_number(blocked: &Blocked) -> u32
 
 /// The numbers of rewrites have 32 bits.
 fn are_small(rewrites: &[Rewrite])
-    ensures { AllByRecursion IsSmall rewrites.now }
+    ensures { AllByRecursion HasSmallNumbers rewrites.now }
 {
     for rewrite in rewrites {
         is_small(*rewrite);
@@ -60,7 +60,7 @@ fn are_small(rewrites: &[Rewrite])
 }
 
 fn is_small(rewrite: Rewrite)
-    ensures { IsSmall rewrite }
+    ensures { HasSmallNumbers rewrite }
 {
     match rewrite {
         Rewrite::Merge { outer, inner } => are_two(outer, inner),

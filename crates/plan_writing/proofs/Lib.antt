@@ -1,3 +1,2 @@
 pub mod Branching
 pub mod Listing
-pub mod Keeping

@@ -6,6 +6,7 @@ use outside::{Failed, Shelf};
 use std::fs;
 use std::io::Write;
 use std::marker::Model;
+use std::mem::replace;
 use std::rt::Files;
 
 /// The files of the system, to write. It tells nothing of what they hold.
@@ -53,11 +54,13 @@ impl<R: Files> Shelf for FileShelf<'_, R> {
 
     /// Makes an empty file, or empties the one that is there.
     fn begin(&mut self, name: &str) -> Result<(), Failed> {
-        if self.begun.take().is_some() {
+        let former = self.begun.take();
+        if former.is_some() {
             self.left = self.left.saturating_add(1);
         }
+        drop(former);
         let file = self.faults.told(fs::create(self.system, name))?;
-        self.begun = Some(file);
+        drop(replace(&mut self.begun, Some(file)));
         Ok(())
     }
 

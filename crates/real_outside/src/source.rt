@@ -6,6 +6,7 @@ use outside::{BeginFault, Failed, Source};
 use std::fs::OpenFile;
 use std::io::{ErrorKind, Read};
 use std::marker::Model;
+use std::mem::replace;
 use std::rt::Files;
 use std::{fs, io};
 
@@ -68,9 +69,9 @@ impl<R: Files> Source for FileSource<'_, R> {
     /// Opens a file. Missing is a name that isn't there; a folder, and a file that may not be read,
     /// is Failed.
     fn begin(&mut self, name: &str) -> Result<(), BeginFault> {
-        self.begun = None;
+        drop(self.begun.take());
         let file = self.faults.opened(open(self.system, name))?;
-        self.begun = Some(file);
+        drop(replace(&mut self.begun, Some(file)));
         Ok(())
     }
 

@@ -9,9 +9,9 @@ use Rattle.flume_collection.specs.Calls.{Called}
 use Rattle.bag_groups.specs.Groups.{grouped}
 use Rattle.crew.specs.declared.attempts.Attempt.{Attempt}
 use Rattle.crew.specs.declared.attempts.Attempt.TheVariants.{Made, Down}
-use Rattle.crew.specs.Attempts.{IsMadeOf}
+use Rattle.crew.specs.Attempts.{MadeHas}
 use Rattle.exec_graph.specs.World.{World}
-use Rattle.exec_plan.specs.Wellformed.{AreOuts, width}
+use Rattle.exec_plan.specs.Wellformed.{AreOutChannels, width}
 use Rattle.exec_plan.specs.declared.plan.Grouping.{Grouping}
 use Rattle.exec_plan.specs.declared.plan.InChannel.{InChannel}
 use Rattle.exec_plan.specs.declared.plan.OutChannel.{OutChannel}
@@ -24,13 +24,13 @@ use Rattle.reduce_part.proofs.Gathering.{places_gathered}
 
 -- behind a pass-through channel none groups
 none_behind : (ins : List InChannel) (n : ℕ) (channels : List OutChannel)
-    → AreOuts ins true n channels → groupings channels ≡ []
+    → AreOutChannels ins true n channels → groupings channels ≡ []
 none_behind ins n [] ok = refl
 none_behind ins n (Group g ∷ channels) ok = cc ok.0.before
 none_behind ins n (Pass k i ∷ channels) ok = none_behind ins (n + 1) channels ok.1
 
 pub groups_first : (ins : List InChannel) (n : ℕ) (channels : List OutChannel)
-    → AreOuts ins false n channels → AreGroupsFirst channels
+    → AreOutChannels ins false n channels → AreGroupsFirst channels
 groups_first ins n [] ok r g is = cc is
 groups_first ins n (Group h ∷ channels) ok zero g is =
     let same : h ≡ g = cc in ap (λ (c : Grouping). Some (Group c)) same
@@ -104,18 +104,18 @@ module _ {F : Type 0} {r : Reducing F} {w : World} {takes : ℕ → Value → Ty
 
       values_are : {E : Type 0} (called : ℕ → Value → Called)
           (a : Result (Attempt (Result ReduceOut Trap)) E)
-          → IfOk a (IsMadeOf
+          → IfOk a (MadeHas
           (IsReducedFrom called r.outs (k / r.partitions) (k % r.partitions) g))
-          → IfOk a (IsMadeOf (IsReducingValue called r k))
+          → IfOk a (MadeHas (IsReducingValue called r k))
       values_are called (Ok (Made out)) is = value_is called out is
       values_are called (Ok Down) is = tt
       values_are called (Err fault) is = tt
 
       pub values_by : {E : Type 0} (called : F → ℕ → Value → Called)
           (a : Result (Attempt (Result ReduceOut Trap)) E)
-          → IfOk a (IsMadeOf
+          → IfOk a (MadeHas
           (IsReducedFrom (called r.functions) r.outs (k / r.partitions) (k % r.partitions) g))
-          → IfOk a (IsMadeOf (IsReducingValue (called x.functions) x k))
+          → IfOk a (MadeHas (IsReducingValue (called x.functions) x k))
       values_by called a is =
-          subst (λ (y : Reducing F). IfOk a (IsMadeOf (IsReducingValue (called y.functions) y k)))
+          subst (λ (y : Reducing F). IfOk a (MadeHas (IsReducingValue (called y.functions) y k)))
           view (values_are (called r.functions) a is)

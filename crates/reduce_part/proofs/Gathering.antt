@@ -14,7 +14,7 @@ use Rattle.shuffle_parts.specs.declared.out.MapOut.{MapOut}
 use Rattle.shuffle_parts.specs.Outs.{all_pairs, all_partials}
 use Rattle.crew.specs.declared.attempts.Attempt.{Attempt}
 use Rattle.crew.specs.declared.attempts.Attempt.TheVariants.{Made, Down}
-use Rattle.crew.specs.Attempts.{IsMadeOf}
+use Rattle.crew.specs.Attempts.{MadeHas}
 use Rattle.exec_graph.specs.Calls.{called}
 use Rattle.exec_graph.specs.Forests.{Forest}
 use Rattle.exec_graph.specs.World.{World}
@@ -98,8 +98,8 @@ module _ (outs : List MapOut) (r p : ℕ) (g : Grouping) (unlifted : g.lifted �
 
     pub groups_reduced : {E : Type 0} (called : ℕ → Value → Called)
         (a : Result (Attempt (Result ReduceOut Trap)) E)
-        → IfOk a (IsMadeOf (IsValueOf called g.does groups))
-        → IfOk a (IsMadeOf (IsReducedFrom called outs r p g))
+        → IfOk a (MadeHas (IsValueOf called g.does groups))
+        → IfOk a (MadeHas (IsReducedFrom called outs r p g))
     groups_reduced called (Ok (Made out)) is = from_groups called out is
     groups_reduced called (Ok Down) is = tt
     groups_reduced called (Err fault) is = tt
@@ -129,28 +129,33 @@ found_by P None h = absurd h
 found_by P (Some partials) h = (partials, refl)
 
 -- the accumulators that are there
-pub partials_gathered : (w : World) (takes : ℕ → Value → Type 0) (outs : List MapOut) (r p : ℕ)
+partials_gathered : (w : World) (takes : ℕ → Value → Type 0) (outs : List MapOut) (r p : ℕ)
     (g : Grouping) (c : Comb) → g.lifted ≡ Some c → IsReducible w takes outs r p g
     → (partials : Pairs) × (all_partials outs r p ≡ Some partials)
 partials_gathered w takes outs r p g c lifted ready =
     found_by (All (IsPartialOf c)) (all_partials outs r p)
     (shape_gathered w takes outs r p g c lifted ready)
 
-pub merged_has_shape : (c : Comb) (partials merged : Pairs) → merged ≡ merged_by_key c partials
-    → All (IsPartialOf c) merged
-merged_has_shape c partials merged e =
-    subst (All (IsPartialOf c)) (sym e) (merged_shape c partials)
-
 module _ (called : ℕ → Value → Called) (outs : List MapOut) (r p : ℕ) (g : Grouping) (c : Comb)
     (f : Forest) (merged : Pairs) (lifted : g.lifted ≡ Some c) (does : g.does ≡ Some f)
-    (partials : Pairs) (found : all_partials outs r p ≡ Some partials)
-    (all : merged ≡ merged_by_key c partials) where
+    (takes : ℕ → Value → Type 0) (ready : IsReducible (world_of called) takes outs r p g)
+    (made : (partials : Pairs) → all_partials outs r p ≡ Some partials
+    → merged ≡ merged_by_key c partials) where
+  found : (partials : Pairs) × (all_partials outs r p ≡ Some partials)
+  found = partials_gathered (world_of called) takes outs r p g c lifted ready
+
+  all : merged ≡ merged_by_key c found.0
+  all = made found.0 found.1
+
+  pub merged_has_shape : All (IsPartialOf c) merged
+  merged_has_shape = subst (All (IsPartialOf c)) (sym all) (merged_shape c found.0)
+
   answers_for : (pairs : List Value) → IsGathered g.lifted outs r p pairs
       → AnswerFor (world_of called) c merged (grouped pairs)
   answers_for pairs gathered =
       subst (λ (ps : Pairs). AnswerFor (world_of called) c ps (grouped pairs)) (sym all)
-      (merged_answers (world_of called) c partials pairs
-      (subst (λ o. IsSomeAnd o (λ l. StandFor c l (pairs_of pairs))) found
+      (merged_answers (world_of called) c found.0 pairs
+      (subst (λ o. IsSomeAnd o (λ l. StandFor c l (pairs_of pairs))) found.1
       (stand outs r p g c lifted pairs gathered)))
 
   pub count_merged : (pairs : List Value) → IsGathered g.lifted outs r p pairs
@@ -158,9 +163,8 @@ module _ (called : ℕ → Value → Called) (outs : List MapOut) (r p : ℕ) (g
   count_merged pairs gathered =
       many (world_of called) c merged (grouped pairs) (answers_for pairs gathered)
 
-  pub can_run : (takes : ℕ → Value → Type 0) → IsReducible (world_of called) takes outs r p g
-      → CanRun (world_of called) takes c f merged
-  can_run takes ready = record {
+  pub can_run : CanRun (world_of called) takes c f merged
+  can_run = record {
     groups = grouped ready.pairs;
     answers = answers_for ready.pairs ready.gathered;
     safe = subst (λ (d : Option Forest).
@@ -177,10 +181,10 @@ module _ (called : ℕ → Value → Called) (outs : List MapOut) (r p : ℕ) (g
       (is (grouped pairs) (answers_for pairs gathered) w alike)
 
   pub all_reduced : {E : Type 0} (a : Result (Attempt (Result ReduceOut Trap)) E)
-      → IfOk a (IsMadeOf (λ out. (groups : List Value)
+      → IfOk a (MadeHas (λ out. (groups : List Value)
       → AnswerFor (world_of called) c merged groups
       → IsValueOf called (Some f) groups out))
-      → IfOk a (IsMadeOf (IsReducedFrom called outs r p g))
+      → IfOk a (MadeHas (IsReducedFrom called outs r p g))
   all_reduced (Ok (Made out)) is = reduced_from out is
   all_reduced (Ok Down) is = tt
   all_reduced (Err fault) is = tt

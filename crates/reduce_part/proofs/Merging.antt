@@ -11,7 +11,7 @@ use Rattle.partial_tables.specs.Merges.{merged_all, merged_by_key, values_at}
 use Rattle.partial_tables.proofs.Standing.{merged_all-HasShape}
 use Rattle.crew.specs.declared.attempts.Attempt.{Attempt}
 use Rattle.crew.specs.declared.attempts.Attempt.TheVariants.{Made, Down}
-use Rattle.crew.specs.Attempts.{IsMadeOf}
+use Rattle.crew.specs.Attempts.{MadeHas}
 use Rattle.exec_graph.specs.Calls.{called}
 use Rattle.exec_graph.specs.Forests.{Branch, Forest, Bare, after, grown, limb, numbered}
 use Rattle.exec_graph.specs.Wellformed.{root_comb}
@@ -96,8 +96,8 @@ module _ (w : World) (c : Comb) (f : Forest) (b : Branch) (root : IsRoot c f b) 
           (sym (same_run groups answers) ∙ e)
 
       pub courses_merged : {E : Type 0} (r : Result (Attempt Run) E)
-          → IfOk r (IsMadeOf (λ end. in_turn (map (run_partial w sizes b c) merged) start ≡ end))
-          → IfOk r (IsMadeOf (λ end. (groups : List Value) → AnswerFor w c merged groups
+          → IfOk r (MadeHas (λ end. in_turn (map (run_partial w sizes b c) merged) start ≡ end))
+          → IfOk r (MadeHas (λ end. (groups : List Value) → AnswerFor w c merged groups
           → IsCourse w (Some f) groups end))
       courses_merged (Ok (Made end)) e = course_merged end e
       courses_merged (Ok Down) e = tt

@@ -20,7 +20,7 @@ use Rattle.exec_plan.specs.declared.plan.Mscr.{Mscr}
 use Rattle.exec_plan.specs.declared.plan.OutChannel.{OutChannel}
 use Rattle.exec_plan.specs.declared.plan.OutChannel.TheVariants.{Group}
 use Rattle.exec_plan.specs.contracts.plan.Mscr as stages
-use Rattle.lifted_root.specs.of_task_lists.Outs.{IsFirstTrap, IsReduceOut}
+use Rattle.lifted_root.specs.of_task_lists.Outs.{IsFirstTaskTrap, IsReduceOut}
 use Rattle.lifted_root.specs.of_task_lists.Tasks.{Task, groupings}
 use Rattle.forest_steps.specs.Safety.{SafeOf}
 use Rattle.reduce_part.specs.declared.out.ReduceOut.{ReduceOut}
@@ -123,7 +123,7 @@ pub record CanReduce {F : Type 0} (w : World) (takes : ℕ → Value → Type 0)
 -- the value of a reduce task: its out, or its first trap
 abbrev pub IsReduceValue : World → Task → Result ReduceOut Trap → Type 0
 IsReduceValue w task (Ok out) = IsReduceOut w task out.outputs out.counts out.groups
-IsReduceValue w task (Err trap) = IsFirstTrap w task trap
+IsReduceValue w task (Err trap) = IsFirstTaskTrap w task trap
 
 -- the reducer on the groups of pairs, beside no object
 abbrev pub group_task : Grouping → List Value → Task

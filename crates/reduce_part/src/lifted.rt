@@ -4,12 +4,12 @@ ghost use Rattle.flume_value.specs.declared.value.Value.{Value as GhostValue};
 ghost use Rattle.partial_tables.specs.Merges.{merged_by_key};
 ghost use Rattle.partial_tables.specs.Tables.{IsPartialOf, Pairs};
 ghost use Rattle.shuffle_parts.specs.Outs.{all_partials};
-ghost use Rattle.crew.specs.Attempts.{IsMadeOf};
+ghost use Rattle.crew.specs.Attempts.{MadeHas};
 ghost use Rattle.crew.specs.Drills.{attempt_at};
 ghost use Rattle.exec_graph.specs.Forests.{numbered};
 ghost use Rattle.exec_graph.specs.Wellformed.{root_comb};
 ghost use Rattle.task_safety.specs.of_forest_courses.Courses.{IsCourse};
-ghost use Rattle.forest_run.specs.Asked.{Asked};
+ghost use Rattle.forest_run.specs.Asked.{WasAsked};
 ghost use Rattle.forest_steps.specs.Functions.{world_of};
 ghost use Rattle.reduce_part.specs.inner.Merged.{AnswerFor, CanRun, IsValueOf};
 
@@ -42,10 +42,10 @@ pub(crate) fn reduce_merged<F: Functions, H: Host>(
     requires shape { All (IsPartialOf comb) merged.items }
     requires ready { CanRun (world_of (F.called functions.now)) (F.can_call functions.now) comb
         roots.now merged.items }
-    ensures value { IfOk result (IsMadeOf (λ out. (groups : List GhostValue) →
+    ensures value { IfOk result (MadeHas (λ out. (groups : List GhostValue) →
         AnswerFor (world_of (F.called functions.now)) comb merged.items
         groups → IsValueOf (F.called functions.now) (Some roots.now) groups out)) }
-    ensures asked { Asked (attempt_at spot.now task) (length merged.items)
+    ensures asked { WasAsked (attempt_at spot.now task) (length merged.items)
         (H.account host.old) (H.account host.new) result }
 {
     let groups = merged.len();
@@ -89,10 +89,10 @@ fn run_merged<F: Functions, H: Host>(
     requires shape { All (IsPartialOf comb) merged.items }
     requires ready { CanRun (world_of (F.called functions.now)) (F.can_call functions.now) comb
         roots.now merged.items }
-    ensures value { IfOk result (IsMadeOf (λ end. (groups : List GhostValue) →
+    ensures value { IfOk result (MadeHas (λ end. (groups : List GhostValue) →
         AnswerFor (world_of (F.called functions.now)) comb merged.items groups →
         IsCourse (world_of (F.called functions.now)) (Some roots.now) groups end)) }
-    ensures asked { Asked (attempt_at spot.now task) (length merged.items)
+    ensures asked { WasAsked (attempt_at spot.now task) (length merged.items)
         (H.account host.old) (H.account host.new) result }
 {
     let (sizes, outputs) = begin(alloc, roots)?;

@@ -6,12 +6,12 @@ ghost use Rattle.bag_groups.specs.Groups.{grouped};
 ghost use Rattle.bag_groups.specs.Pairs.{IsPair};
 ghost use Rattle.shuffle_parts.specs.Outs.{all_pairs};
 ghost use Rattle.crew.specs.Drills.{attempt_at};
-ghost use Rattle.crew.specs.Attempts.{IsMadeOf};
+ghost use Rattle.crew.specs.Attempts.{MadeHas};
 ghost use Rattle.exec_graph.specs.Forests.{Forest};
 ghost use Rattle.exec_graph.specs.World.{World};
 ghost use Rattle.exec_plan.specs.Wellformed.{IsNumbered};
 ghost use Rattle.task_safety.specs.of_forest_courses.Courses.{IsCourse};
-ghost use Rattle.forest_run.specs.Asked.{Asked};
+ghost use Rattle.forest_run.specs.Asked.{WasAsked};
 ghost use Rattle.forest_steps.specs.Functions.{world_of};
 ghost use Rattle.forest_steps.specs.Safety.{SafeOf};
 ghost use Rattle.reduce_part.specs.Reducing.{IsGathered, IsReducedFrom, IsReduceValue, IsReducible};
@@ -45,10 +45,10 @@ pub(crate) fn reduce_partition<F: Functions, H: Host>(
 ) -> Result<Attempt<Reduced>, AllocError>
     requires ready { IsReducible (world_of (F.called functions.now)) (F.can_call functions.now)
         outs.now channel partition grouping.now }
-    ensures value { IfOk result (IsMadeOf (IsReducedFrom (F.called functions.now) outs.now channel
+    ensures value { IfOk result (MadeHas (IsReducedFrom (F.called functions.now) outs.now channel
         partition grouping.now)) }
     ensures asked { (pairs : List GhostValue) → IsGathered grouping.now.lifted outs.now channel
-        partition pairs → Asked (attempt_at spot.now task) (length (grouped pairs))
+        partition pairs → WasAsked (attempt_at spot.now task) (length (grouped pairs))
         (H.account host.old) (H.account host.new) result }
 {
     match (grouping.lifted, &grouping.does) {
@@ -93,9 +93,9 @@ fn reduce_groups<F: Functions, H: Host>(
     requires numbered { IsNumbered does.now }
     requires safe { AllByRecursion (SafeOf (world_of (F.called functions.now))
         (F.can_call functions.now) does.now) groups.items }
-    ensures value { IfOk result (IsMadeOf (IsValueOf (F.called functions.now) does.now
+    ensures value { IfOk result (MadeHas (IsValueOf (F.called functions.now) does.now
         groups.items)) }
-    ensures asked { Asked (attempt_at spot.now task) (length groups.items)
+    ensures asked { WasAsked (attempt_at spot.now task) (length groups.items)
         (H.account host.old) (H.account host.new) result }
 {
     let count = groups.len();

@@ -2,11 +2,8 @@
 use Rattle.std.proofs.Common.{◌≡◌, ℕ, List, [], ◌∷◌, ◌++◌, length, nat_lt, Ok, refl, sym, subst}
 use Rattle.std.proofs.Common.{ap, ◌∙◌, append_assoc, append-nil}
 use Rattle.flume_types.specs.Columns.{columns_of, input_columns_of}
-use Rattle.flume_grammar.specs.declared.tree.Type as tree
 use Rattle.flume_grammar.specs.declared.tree.Form.{Form}
 use Rattle.flume_grammar.specs.declared.tree.Form.TheVariants as form
-use Rattle.flume_grammar.specs.declared.tree.Function.{Function as WrittenFunction}
-use Rattle.flume_grammar.specs.declared.tree.Operation.{Operation}
 use Rattle.flume_grammar.specs.declared.tree.Repeat.{Repeat as WrittenRepeat}
 use Rattle.flume_grammar.specs.declared.tree.Statement.{Statement}
 use Rattle.flume_grammar.specs.declared.fault.ScriptKind.TheVariants.{NoOutput, NotFlat}
@@ -35,60 +32,36 @@ record Adds (s after : State) : Type 0 where
 none : (s : State) → Adds s s
 none s = record { more = []; is = append-nil s.nodes }
 
-module _ (line : ℕ) (s after : State) where
-  type_adds : (name : List ℕ) (type : tree.Type) → spec.rule_type line name type s ≡ Ok after
-      → Adds s after
-  type_adds name type e =
-      let new = both (fresh line name s.types) _ after e in
-      let t = both (whole_type line type s.types) _ after new.then in
-      subst (Adds s) (ok-same _ after t.then) (record { more = []; is = append-nil s.nodes })
-
-  input_adds : (name : List ℕ) (type : tree.Type) (file : List ℕ)
-      → spec.rule_input line name type file s ≡ Ok after → Adds s after
-  input_adds name type file e =
-      let few = both (spec.room line 1 most_collections s.nodes) _ after e in
-      let new = both (fresh line name s.names) _ after few.then in
-      let t = both (whole_type line type s.types) _ after new.then in
-      let columns = both (or_fault line NotFlat (input_columns_of t.part)) _ after t.then in
-      subst (Adds s) (ok-same _ after columns.then) (record { more = _ ∷ []; is = refl })
-
-  function_adds : (function : WrittenFunction) → spec.rule_function line function s ≡ Ok after
-      → Adds s after
-  function_adds function e =
-      subst (Adds s) (ruled line function s after e).is
-      (record { more = []; is = append-nil s.nodes })
-
-  let_adds : (names : List (List ℕ)) (by : Operation) → spec.rule_let line names by s ≡ Ok after
-      → Adds s after
-  let_adds names by e =
-      let few = both (spec.room line (length names) most_collections s.nodes) _ after e in
-      let it = has-named line s after names by few.then in
-      record { more = it.has.lets; is = sym it.has.nodes }
-
-  repeat_adds : (names : List (List ℕ)) (written : WrittenRepeat)
-      → spec.rule_repeat line names written s ≡ Ok after → Adds s after
-  repeat_adds names written e =
-      let it = both (spec.repeated line names written s) _ after e in
-      let has = has-turns line names written s it.part (length s.names) it.first in
-      subst (Adds s) (ok-same _ after it.then)
-      (record { more = unrolled it.part.repeat; is = sym has.nodes })
-
-  output_adds : (name file : List ℕ) → spec.rule_output line name file s ≡ Ok after
-      → Adds s after
-  output_adds name file e =
-      let few = both (spec.room line 1 most_files s.outputs) _ after e in
-      let one = both (collection line name s) _ after few.then in
-      let columns = both (or_fault line NotFlat (columns_of one.part.type)) _ after one.then in
-      let new = both (fresh line file s.outputs) _ after columns.then in
-      subst (Adds s) (ok-same _ after new.then) (record { more = []; is = append-nil s.nodes })
-
-  rule_adds : (form : Form) → spec.rule line form s ≡ Ok after → Adds s after
-  rule_adds (form.Type name type) e = type_adds name type e
-  rule_adds (form.Input name type file) e = input_adds name type file e
-  rule_adds (form.Function function) e = function_adds function e
-  rule_adds (form.Let names by) e = let_adds names by e
-  rule_adds (form.Repeat names written) e = repeat_adds names written e
-  rule_adds (form.Output name file) e = output_adds name file e
+rule_adds : (line : ℕ) (s after : State) (form : Form) → spec.rule line form s ≡ Ok after
+    → Adds s after
+rule_adds line s after (form.Type name type) e =
+    let new = both (fresh line name s.types) _ after e in
+    let t = both (whole_type line type s.types) _ after new.then in
+    subst (Adds s) (ok-same _ after t.then) (record { more = []; is = append-nil s.nodes })
+rule_adds line s after (form.Input name type file) e =
+    let few = both (spec.room line 1 most_collections s.nodes) _ after e in
+    let new = both (fresh line name s.names) _ after few.then in
+    let t = both (whole_type line type s.types) _ after new.then in
+    let columns = both (or_fault line NotFlat (input_columns_of t.part)) _ after t.then in
+    subst (Adds s) (ok-same _ after columns.then) (record { more = _ ∷ []; is = refl })
+rule_adds line s after (form.Function function) e =
+    subst (Adds s) (ruled line function s after e).is
+    (record { more = []; is = append-nil s.nodes })
+rule_adds line s after (form.Let names by) e =
+    let few = both (spec.room line (length names) most_collections s.nodes) _ after e in
+    let it = has-named line s after names by few.then in
+    record { more = it.has.lets; is = sym it.has.nodes }
+rule_adds line s after (form.Repeat names written) e =
+    let it = both (spec.repeated line names written s) _ after e in
+    let has = has-turns line names written s it.part (length s.names) it.first in
+    subst (Adds s) (ok-same _ after it.then)
+    (record { more = unrolled it.part.repeat; is = sym has.nodes })
+rule_adds line s after (form.Output name file) e =
+    let few = both (spec.room line 1 most_files s.outputs) _ after e in
+    let one = both (collection line name s) _ after few.then in
+    let columns = both (or_fault line NotFlat (columns_of one.part.type)) _ after one.then in
+    let new = both (fresh line file s.outputs) _ after columns.then in
+    subst (Adds s) (ok-same _ after new.then) (record { more = []; is = append-nil s.nodes })
 
 defined_adds : (statements : List Statement) (s after : State)
     → spec.defined statements s ≡ Ok after → Adds s after

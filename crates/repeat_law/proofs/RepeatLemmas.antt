@@ -13,7 +13,7 @@ use Rattle.direct_meaning.specs.Direct.{made_at, meaning}
 use Rattle.repeat_law.proofs.EquationLemmas.{as_long}
 use Rattle.repeat_law.proofs.TurnLemmas.{turns_agree}
 use Rattle.repeat_law.specs.Turns.{MeansTurns, turns_left}
-use Rattle.repeat_law.specs.Reading.{HasRepeat, IsRepeat, number_in}
+use Rattle.repeat_law.specs.Reading.{HasRepeat, IsClosedRepeat, number_in}
 use Rattle.script_rules.specs.Repeats.{Repeat, last_gives, unrolled}
 use Rattle.script_laws.proofs.MemberLemmas.{in_first, in_second, in_taken, taken_length, within}
 
@@ -46,7 +46,7 @@ from_means whole (n ∷ numbers) zero number is =
     let same : n ≡ number = cc in ap (made_at whole) (sym same)
 from_means whole (n ∷ numbers) (suc place) number is = from_means whole numbers place number is
 
-pub repeat_means : (script : Script) (repeat : Repeat) → IsWellFormed script → IsRepeat repeat
+pub repeat_means : (script : Script) (repeat : Repeat) → IsWellFormed script → IsClosedRepeat repeat
     → HasRepeat script repeat → MeansTurns script repeat
 repeat_means script repeat well ok has inputs whole place number means at needed =
     let long = as_long script well inputs whole means in

@@ -17,7 +17,7 @@ use Rattle.direct_meaning.specs.Direct.{made_as, made_at, top_by}
 use Rattle.direct_meaning.specs.Calls.{answer_of}
 use Rattle.direct_meaning.specs.Objects.{combined_whole, done_beside, operated_by}
 use Rattle.repeat_law.specs.Turns.{only}
-use Rattle.repeat_law.specs.Reading.{IsLet}
+use Rattle.repeat_law.specs.Reading.{ReadsInFront}
 use Rattle.script_rules.specs.Repeats.{renumbered}
 
 -- from no file, and from nothing that is kept
@@ -93,7 +93,7 @@ kept_made script number how here there inputs others none same =
 
 -- ---- lets
 
-pub let_no_file : (place front : ℕ) (how : Made) → IsLet place front how → FromNoFile how
+pub let_no_file : (place front : ℕ) (how : Made) → ReadsInFront place front how → FromNoFile how
 let_no_file place front (made.Input file columns) is = absurd is
 let_no_file place front (made.Saved is_object call) is = absurd is
 let_no_file place front _ is = tt
@@ -116,7 +116,7 @@ each_has P (x ∷ xs) each n is =
     (head_or_tail x xs n is)
 
 -- what a let reads stands in front of it
-pub let_reads : (place front : ℕ) (how : Made) → IsLet place front how → (n : ℕ)
+pub let_reads : (place front : ℕ) (how : Made) → ReadsInFront place front how → (n : ℕ)
     → Contains (operands how) n → n < front
 let_reads place front (made.Input file columns) is n reads = absurd is
 let_reads place front (made.Do source called output) is n reads =

@@ -10,7 +10,7 @@ use Rattle.script_program.specs.declared.made.Made.TheVariants as made
 use Rattle.script_program.specs.Script.{Function, Node}
 use Rattle.script_laws.proofs.NeededLemmas.{operand_before, read_at}
 use Rattle.script_laws.specs.WellFormed.{AllFit, Fits}
-use Rattle.repeat_law.specs.Reading.{AreLets, IsLet, IsRepeat, in_front}
+use Rattle.repeat_law.specs.Reading.{EachReadsInFront, ReadsInFront, IsClosedRepeat, in_front}
 use Rattle.script_rules.specs.Repeats.{Repeat}
 use Rattle.script_laws.proofs.MemberLemmas.{zip_length}
 use Rattle.script_laws.specs.Fitting.{AreInPlace, IsInPlace, IsOfType, RepeatFits}
@@ -32,7 +32,7 @@ zip_within nodes most long (number ∷ numbers) (entry ∷ entries) zipped =
 
 module _ (functions : Named Function) where
   is_let : (place : ℕ) (front : Named Node) (how : Made) (type : Ty) → IsInPlace place how
-      → Fits functions front how type → IsLet place (length front) how
+      → Fits functions front how type → ReadsInFront place (length front) how
   is_let place front (made.Input file columns) type here fits = absurd here
   is_let place front (made.Do source called output) type here fits =
       (read_at front source fits.function.signature.takes fits.takes, here)
@@ -67,17 +67,17 @@ module _ (functions : Named Function) where
 
   are_lets : (lets : Named Node) (place number : ℕ) (front : Named Node) → length front ≡ number
       → AreInPlace place (map (λ entry. entry.1.made) lets) → AllFit functions front lets
-      → AreLets place number (map (λ entry. entry.1.made) lets)
+      → EachReadsInFront place number (map (λ entry. entry.1.made) lets)
   are_lets [] place number front long here fit = tt
   are_lets (entry ∷ lets) place number front long here fit =
       let longer = length-append front (entry ∷ []) in (
-        subst (λ (n : ℕ). IsLet place n entry.1.made) long
+        subst (λ (n : ℕ). ReadsInFront place n entry.1.made) long
             (is_let place front entry.1.made entry.1.type here.0 fit.0),
         are_lets lets (suc place) (suc number) (front ++ entry ∷ []) (omega arith) here.1 fit.1,
       )
 
 pub is_repeat : (functions : Named Function) (before : Named Node) (repeat : Repeat)
-    → RepeatFits functions before repeat → IsRepeat repeat
+    → RepeatFits functions before repeat → IsClosedRepeat repeat
 is_repeat functions before repeat fits =
     let many = fits.many in
     let entered = zip_length (IsOfType before) repeat.from fits.entering fits.enter in

@@ -20,7 +20,7 @@ use Rattle.repeat_law.proofs.SameLemmas.{let_no_file, let_reads, renumbered_no_f
 use Rattle.repeat_law.proofs.SameLemmas.{renumbered_reads, same_made}
 use Rattle.repeat_law.specs.Turns.{one, only, turns_left, with_lets}
 use Rattle.direct_meaning.proofs.PlaceLemmas.{mapped_has}
-use Rattle.repeat_law.specs.Reading.{AreLets, IsLet, IsRepeat, in_front, number_in}
+use Rattle.repeat_law.specs.Reading.{EachReadsInFront, ReadsInFront, IsClosedRepeat, in_front, number_in}
 use Rattle.script_rules.specs.Repeats.{Repeat, copied, gives_left, nodes_left, seen}
 use Rattle.script_rules.specs.Repeats.{turn_gives, turn_nodes, turn_to}
 use Rattle.script_laws.proofs.MemberLemmas.{at_end, in_first, in_second, of_mapped, within}
@@ -97,7 +97,7 @@ module _ (script : Script) (well : IsWellFormed script) (inputs : List (List Val
 
     module _ (place : ℕ) (entry : List ℕ × Node) (table : List (Option Collection))
         (inner : place < length repeat.body) (long : length table ≡ in_front repeat + place)
-        (is_let : IsLet place (length table) entry.1.made)
+        (is_let : ReadsInFront place (length table) entry.1.made)
         (there : slice_get script.nodes (start + place) ≡ Some (copied turn to entry))
         (agrees : Agrees table) where
       abbrev how : Made
@@ -164,7 +164,7 @@ module _ (script : Script) (well : IsWellFormed script) (inputs : List (List Val
     lets_agree : (lets : Named Node) (place front : ℕ) (table : List (Option Collection))
         → place + length lets ≡ length repeat.body → length table ≡ in_front repeat + place
         → front ≡ length table
-        → AreLets place front (made_of_all lets)
+        → EachReadsInFront place front (made_of_all lets)
         → ((i : ℕ) (entry : List ℕ × Node) → slice_get lets i ≡ Some entry
         → slice_get script.nodes (start + (place + i)) ≡ Some (copied turn to entry))
         → Agrees table
@@ -181,7 +181,7 @@ module _ (script : Script) (well : IsWellFormed script) (inputs : List (List Val
         let next : start + (place + suc i) ≡ start + (suc place + i) = omega arith in
         ap (slice_get script.nodes) (sym next) ∙ there (suc i) other is)
         (let_agrees place entry table (omega (arith, inner)) long
-        (subst (λ (n : ℕ). IsLet place n entry.1.made) fronts are.0)
+        (subst (λ (n : ℕ). ReadsInFront place n entry.1.made) fronts are.0)
         (ap (slice_get script.nodes) (sym first) ∙ there 0 entry refl) agrees)
 
     given_agree : (table : List (Option Collection)) → Agrees table → (numbers : List ℕ)
@@ -201,7 +201,7 @@ module _ (script : Script) (well : IsWellFormed script) (inputs : List (List Val
         subst (λ (m : ℕ). Each (λ number. number < m) numbers) same each
 
     turn_agrees : (entered : List (Option Collection)) → Means entering entered
-        → length entered ≡ length entering → IsRepeat repeat
+        → length entered ≡ length entering → IsClosedRepeat repeat
         → ((i : ℕ) (entry : List ℕ × Node) → slice_get repeat.body i ≡ Some entry
         → slice_get script.nodes (start + i) ≡ Some (copied turn to entry))
         → Means (turn_gives repeat entering start)
@@ -240,7 +240,7 @@ module _ (script : Script) (well : IsWellFormed script) (inputs : List (List Val
       next ∙ (ap (λ (n : ℕ). repeat.outside + n + place) product
       ∙ added repeat.outside (turn * length repeat.body) (length repeat.body) place start now)
 
-  pub turns_agree : IsRepeat repeat → (left turn : ℕ) (entering : List ℕ) (start : ℕ)
+  pub turns_agree : IsClosedRepeat repeat → (left turn : ℕ) (entering : List ℕ) (start : ℕ)
       → ((place : ℕ) → number_in repeat (suc turn) place ≡ start + place)
       → length entering ≡ length repeat.from
       → ((i : ℕ) (entry : List ℕ × Node)

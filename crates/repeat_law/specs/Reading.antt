@@ -20,31 +20,31 @@ in_front repeat = repeat.outside + length repeat.from
 
 -- A let reads so many collections in front of it alone, and neither a file nor what is kept. Of the
 -- outputs of a call those before its own stand in front of it, as lets of the body.
-abbrev pub IsLet : ℕ → ℕ → Made → Type 0
-IsLet place front (made.Input file columns) = ⊥
-IsLet place front (made.Do source called output) = source < front × output ≤ place
-IsLet place front (made.Group source) = source < front
-IsLet place front (made.Combine source by) = source < front
-IsLet place front (made.Flatten sources) = Each (λ source. source < front) sources
-IsLet place front (made.Count source) = source < front
-IsLet place front (made.Join left right) = left < front × right < front
-IsLet place front (made.Top many source) = source < front
-IsLet place front (made.CombineAll source by) = source < front
-IsLet place front (made.Operate objects called) = Each (λ object. object < front) objects
-IsLet place front (made.DoWith source called object) = source < front × object < front
-IsLet place front (made.Saved is_object call) = ⊥
+abbrev pub ReadsInFront : ℕ → ℕ → Made → Type 0
+ReadsInFront place front (made.Input file columns) = ⊥
+ReadsInFront place front (made.Do source called output) = source < front × output ≤ place
+ReadsInFront place front (made.Group source) = source < front
+ReadsInFront place front (made.Combine source by) = source < front
+ReadsInFront place front (made.Flatten sources) = Each (λ source. source < front) sources
+ReadsInFront place front (made.Count source) = source < front
+ReadsInFront place front (made.Join left right) = left < front × right < front
+ReadsInFront place front (made.Top many source) = source < front
+ReadsInFront place front (made.CombineAll source by) = source < front
+ReadsInFront place front (made.Operate objects called) = Each (λ object. object < front) objects
+ReadsInFront place front (made.DoWith source called object) = source < front × object < front
+ReadsInFront place front (made.Saved is_object call) = ⊥
 
 -- the same of each let, where the first has that place in the body
-abbrev pub AreLets : ℕ → ℕ → List Made → Type 0
-AreLets place front [] = ⊤
-AreLets place front (how ∷ lets) =
-    IsLet place front how × AreLets (suc place) (suc front) lets
+abbrev pub EachReadsInFront : ℕ → ℕ → List Made → Type 0
+EachReadsInFront place front [] = ⊤
+EachReadsInFront place front (how ∷ lets) =
+    ReadsInFront place front how × EachReadsInFront (suc place) (suc front) lets
 
 -- what enters stands outside, each let reads what stands in front of it, and as many collections
 -- are given as enter
-pub record IsRepeat (repeat : Repeat) : Type 0 where
+pub record IsClosedRepeat (repeat : Repeat) : Type 0 where
   pub enter : Each (λ number. number < repeat.outside) repeat.from
-  pub lets : AreLets 0 (in_front repeat) (lets_of repeat)
+  pub lets : EachReadsInFront 0 (in_front repeat) (lets_of repeat)
   pub given : Each (λ number. number < in_front repeat + length repeat.body) repeat.gives
   pub many : length repeat.gives ≡ length repeat.from
 
@@ -73,5 +73,5 @@ pub record IsUnrolled (statements : List Statement) (line : ℕ) (names : List (
   pub defines : defined statements nothing ≡ Ok front
   pub it : Repeated
   pub rules : repeated line names written front ≡ Ok it
-  pub reads : IsRepeat it.repeat
+  pub reads : IsClosedRepeat it.repeat
   pub has : HasRepeat script it.repeat

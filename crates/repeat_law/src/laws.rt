@@ -14,7 +14,7 @@ ghost use Rattle.script_rules.specs.Rules.{Repeated, repeated, script_of};
 ghost use Rattle.script_laws.specs.Fitting.{RepeatFits};
 ghost use Rattle.script_laws.specs.WellFormed.{AllFit, IsWellFormed};
 ghost use Rattle.direct_meaning.specs.Direct.{made_at, meaning};
-ghost use Rattle.repeat_law.specs.Reading.{HasRepeat, IsRepeat, IsUnrolled, let_repeat, number_in};
+ghost use Rattle.repeat_law.specs.Reading.{HasRepeat, IsClosedRepeat, IsUnrolled, let_repeat, number_in};
 ghost use Rattle.repeat_law.specs.Turns.{MeansTurns, one, turns};
 ghost use Rattle.repeat_law.specs.Worked.{called_nodes, calls, doubled_nodes, doubles, sevens};
 
@@ -25,7 +25,7 @@ pub fn fitting_law()
         (it : Repeated) → repeated line names written s ≡ Ok it →
         RepeatFits s.functions s.nodes it.repeat }
     ensures sound { (functions : Named Function) (before : Named Node) (repeat : Repeat) →
-        RepeatFits functions before repeat → IsRepeat repeat }
+        RepeatFits functions before repeat → IsClosedRepeat repeat }
     ensures unrolled { (functions : Named Function) (before : Named Node) (repeat : Repeat) →
         RepeatFits functions before repeat → AllFit functions before (unrolled repeat) }
 {}
@@ -49,8 +49,8 @@ pub fn turns_law()
 /// the turns make of the collections that enter the first one. Each let with repeat of an accepted
 /// script is such a repeat.
 pub fn repeat_law()
-    ensures means { (script : Script) (repeat : Repeat) → IsWellFormed script → IsRepeat repeat →
-        HasRepeat script repeat → MeansTurns script repeat }
+    ensures means { (script : Script) (repeat : Repeat) → IsWellFormed script →
+        IsClosedRepeat repeat → HasRepeat script repeat → MeansTurns script repeat }
     ensures accepted { (before after : List Statement) (line : ℕ) (names : List (List ℕ))
         (written : WrittenRepeat) (script : Script) →
         script_of (before ++ let_repeat line names written ∷ after) ≡ Ok script →

@@ -21,7 +21,7 @@ use Rattle.run_course.specs.Asked.{AskFor, IsAskedFor, AskOn, inputs_read, plan_
 use Rattle.run_course.specs.Plans.{HasPlan, IsPlanFor}
 use Rattle.run_course.specs.Promises.{IsUnlessFailed}
 use Rattle.run_course.specs.World.{World}
-use Rattle.run_course.specs.Written.{IsMeant, IsWritten, Table, Writes}
+use Rattle.run_course.specs.Written.{IsMeant, IsWritten, CollectionTable, Writes}
 use Rattle.run_course.proofs.ReadLemmas.{Told, Words}
 use Rattle.run_course.proofs.StopLemmas.{Stops, asked_some, input_stops, no_file_stops, no_run, one_stop, plan_stops, script_stops, too_long_stops}
 
@@ -74,7 +74,7 @@ written_read words told olds news files text it =
     written_rows words told olds news files text it.0 it.1 it.2 it.3
 
 trap_rows : (words : Words) (told : Told) (command : Command) (script : Script)
-    (rows : List (List Value)) (table : Table) (olds news : List Account) (trap : TrapOf)
+    (rows : List (List Value)) (table : CollectionTable) (olds news : List Account) (trap : TrapOf)
     → AskOn words told command script → IsMeant told script rows table
     → MayTell command told script rows olds news (traps_of table) trap → HasRead words told
 trap_rows words told Check script rows table olds news trap reads meant tells = absurd tells

@@ -20,7 +20,7 @@ use Rattle.run_course.specs.Asks as call
 use Rattle.run_course.specs.Plans.{IsFileCause}
 use Rattle.run_course.specs.declared.stop.Stop.{Stop}
 use Rattle.run_course.specs.declared.stop.Stop.TheVariants as stop
-use Rattle.run_course.specs.inner.Course.{AsksInCall, AsksUntil, AsksWith, Delivers, IsPlanStop, IsRunStop, IsStop}
+use Rattle.run_course.specs.inner.Course.{AsksInCall, AsksUntil, AsksWith, Delivers, IsPlanStop, IsRunStop, IsStop, TellsStop}
 use Rattle.run_course.proofs.ReadLemmas.{Words}
 
 abbrev Names : Type 0
@@ -157,25 +157,15 @@ module _ (words : Words) (command : Command) (name : List ℕ) where
     until_for : (last : List ℕ) → AsksUpTo (tries_of command) others middle after last
         → call.AsksUntil words before after last
     until_for last front =
-        let all = behind_first (front.0 ++ last ∷ []) front.3 in (
-          command,
-          name,
-          script,
-          asked,
-          loaded,
-          (name ∷ front.0, front.1, ap (λ l. name ∷ l) front.2, all),
-        )
+        let all = behind_first (front.0 ++ last ∷ []) front.3 in
+        let more = ap (λ (l : Names). name ∷ l) front.2 in
+        (command, name, script, asked, loaded, (name ∷ front.0, front.1, more, all))
 
     some_for : AsksFront (tries_of command) others middle after → AsksSome words before after
     some_for front =
-        let all = behind_first front.0 front.3 in (
-          command,
-          name,
-          script,
-          asked,
-          loaded,
-          (name ∷ front.0, front.1, ap (λ l. name ∷ l) front.2, all),
-        )
+        let all = behind_first front.0 front.3 in
+        let more = ap (λ (l : Names). name ∷ l) front.2 in
+        (command, name, script, asked, loaded, (name ∷ front.0, front.1, more, all))
 
     status_for : (status : Status) → AsksWith (tries_of command) others middle after status
         → AsksFor words before after status
@@ -206,3 +196,12 @@ delivered_for words before after files text shelf shelf' screen screen' Done is 
 delivered_for words before after files text shelf shelf' screen screen' (WriteFault place) is all =
     all
 delivered_for words before after files text shelf shelf' screen screen' _ is all = absurd is
+
+-- this stops it
+pub stopped_for : (T : Type 0) (words : Words) (before after : SeenSource) (why : Stop)
+    (screen screen' : SeenScreen) (status : Status) → TellsStop why screen screen' status
+    → AsksInCall words before after {T = T} (Err why) → AsksFor words before after status
+stopped_for T words before after (stop.Refused told) screen screen' status tells asks =
+    subst (λ (s : Status). AsksFor words before after s) (sym tells.0) asks
+stopped_for T words before after (stop.Trapped trap) screen screen' status tells asks =
+    subst (λ (s : Status). AsksFor words before after s) (sym tells.0) asks

@@ -27,7 +27,7 @@ use Rattle.run_course.specs.declared.stop.Stop.{Stop}
 use Rattle.run_course.specs.declared.stop.Stop.TheVariants as stop
 use Rattle.run_course.specs.declared.stop.Trapped.{Trapped}
 use Rattle.script_loading.specs.Causes.{IsInputCause, IsInputsCause, IsLoadCause, IsLoaded, IsScriptCause}
-use Rattle.run_course.specs.inner.Course.{Delivers, HasTrap, IsCommandStop, IsMeaningStop, IsPlanStop, IsRunStop, IsStopped, IsTrappedAt}
+use Rattle.run_course.specs.inner.Course.{Delivers, HasTrap, IsCommandStop, IsMeaningStop, IsPlanStop, IsRunStop, IsStopped, IsTrappedAt, TellsStop}
 use Rattle.script_loading.proofs.SinceLemmas.{inputs_since, load_since}
 use Rattle.run_course.proofs.ReadLemmas.{Told, Words}
 
@@ -253,7 +253,7 @@ delivered words before after files text (WriteFault Screen) writes left =
 delivered words before after files text _ writes left = absurd left
 
 -- what a call that was refused answers
-pub refusal : (words : Words) (before after : World) (status : Status)
+refusal : (words : Words) (before after : World) (status : Status)
     → IsCause words before.source after.source before.hosts after.hosts status
     → IsRefused status before after
     → Answers words before after status
@@ -263,9 +263,21 @@ refusal words before after (Trap origin kind element) cause left = absurd cause
 refusal words before after _ cause left = (cause, left)
 
 -- what a call answers whose script has this trap
-pub trapped : (words : Words) (before after : World) (trap : Trapped)
+trapped : (words : Words) (before after : World) (trap : Trapped)
     → HasTrap words before.source.files before.hosts after.hosts trap → after.shelf ≡ before.shelf
     → HasLine (trap_line trap.name trap.trap.kind trap.trap.element) before.screen after.screen
     → Answers words before after (Trap trap.trap.origin trap.trap.kind trap.trap.element)
 trapped words before after trap has shelf line =
     (has.0, has.1, has.2, has.3, trap.name, has.4, has.5, has.6, has.7, shelf, line)
+
+-- what a call answers that this stops
+pub stopped : (words : Words) (before after : World) (why : Stop) (status : Status)
+    → IsStopped words before.source after.source before.hosts after.hosts why
+    → TellsStop why before.screen after.screen status → after.shelf ≡ before.shelf
+    → Answers words before after status
+stopped words before after (stop.Refused told) status is tells same =
+    subst (λ (s : Status). Answers words before after s) (sym tells.0)
+    (refusal words before after told is (record { shelf = same; line = tells.1 }))
+stopped words before after (stop.Trapped trap) status is tells same =
+    subst (λ (s : Status). Answers words before after s) (sym tells.0)
+    (trapped words before after trap is same tells.1)

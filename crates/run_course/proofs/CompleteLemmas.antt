@@ -26,7 +26,7 @@ use Rattle.run_course.specs.Asked.{IsAskedFor, AskOn, inputs_read, tries_of}
 use Rattle.run_course.specs.Lent.{lent}
 use Rattle.run_course.specs.Promises.{CanEnd, CanRun, EndsAs, EndsWith, IsEnd, IsShelfCalm}
 use Rattle.run_course.specs.World.{World}
-use Rattle.run_course.specs.Written.{IsThrough, Table, Writes}
+use Rattle.run_course.specs.Written.{IsThrough, CollectionTable, Writes}
 use Rattle.run_course.proofs.AlwaysLemmas.{none_asked}
 use Rattle.run_course.proofs.GivenUpLemmas.{not_given_up}
 use Rattle.run_course.proofs.ReadLemmas.{Told, Words, same_asked, same_command, same_meaning, same_rows, same_script}
@@ -40,7 +40,7 @@ done_end traps none = subst (λ (l : List TrapOf). EndsWith l Done) (sym none) r
 -- the same script is written that can be read: its command came to its end
 through_end : (words : Words) (told : Told) (c d : Command) (p q : Script)
     (rows others : List (List Value)) (front text : List ℕ) (files : List NamedBytes)
-    (table : Table) → IsSome told → AskOn words told c p → AskOn words told d q
+    (table : CollectionTable) → IsSome told → AskOn words told c p → AskOn words told d q
     → AllHaveRows told (inputs_of p) rows → IsThrough told q front files text others table
     → EndsAs Direct p rows Done
 through_end words told c d p q rows others front text files table tells reads read inputs t = (

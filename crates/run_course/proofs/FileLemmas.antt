@@ -7,7 +7,7 @@ use Rattle.std.specs.Option.{option_map}
 use Rattle.std.proofs.lemmas.List.Elements.{recursion_from_All}
 use Rattle.csv_rows.specs.Text.{table_text}
 use Rattle.script_loading.specs.of_direct_meaning.Direct.{made_at}
-use Rattle.script_loading.specs.of_direct_meaning.Evaluated.{IsWritten as Holds, bag_at}
+use Rattle.script_loading.specs.of_direct_meaning.Evaluated.{AreWritten as Holds, bag_at}
 use Rattle.flume_collection.specs.Collection.{Collection}
 use Rattle.flume_value.specs.declared.value.Value.{Value}
 use Rattle.outside.specs.Saves.{FailsAt}
@@ -16,7 +16,7 @@ use Rattle.run_texts.specs.Texts.{NamedOutput}
 use Rattle.script_program.specs.declared.made.Output.{Output}
 use Rattle.script_program.specs.Script.{Script}
 use Rattle.run_course.specs.Answers.{FailsAtFile}
-use Rattle.run_course.specs.Written.{Table, file_of, files_of}
+use Rattle.run_course.specs.Written.{CollectionTable, file_of, files_of}
 use Rattle.script_loading.specs.Ready.{IsReady}
 use Rattle.run_course.specs.inner.Course.{AreFiles, HaveMembers, IsFileOf, file_with}
 
@@ -27,20 +27,20 @@ pub same_some : {A : Type 0} (o : Option A) (a b : A) → o ≡ Some a → o ≡
 same_some {A = A} o a b first second = let same : Some a ≡ Some b = sym first ∙ second in cc
 
 -- an output's file has the members of the collection that it reads
-pub file_from : (table : Table) (output : NamedOutput) (collection : Collection)
+pub file_from : (table : CollectionTable) (output : NamedOutput) (collection : Collection)
     → made_at table output.1.reads ≡ Some collection
     → file_of table output ≡ Some (file_with output collection.bag)
 file_from table output collection reads =
     ap (option_map (λ (c : Collection). file_with output c.bag)) reads
 
 -- each output that is held reads members
-pub ready : (script : Script) (table : Table) (bags : Bags)
+pub ready : (script : Script) (table : CollectionTable) (bags : Bags)
     → All (λ (entry : NamedOutput). Holds script table bags entry.1) script.outputs
     → HaveMembers script bags
 ready script table bags all =
     λ place other within. subst IsSome (sym (all place other within).bag) refl
 
-file_made : (script : Script) (table : Table) (bags : Bags) (output : NamedOutput)
+file_made : (script : Script) (table : CollectionTable) (bags : Bags) (output : NamedOutput)
     (file : NamedBytes) → Holds script table bags output.1 → IsFileOf bags output file
     → file_of table output ≡ Some file
 file_made script table bags output file held is =
@@ -49,7 +49,7 @@ file_made script table bags output file held is =
     file_from table output held.collection held.reads
     ∙ ap Some (ap (file_with output) bag ∙ sym is.2)
 
-files_by : (script : Script) (table : Table) (bags : Bags) (outputs : List NamedOutput)
+files_by : (script : Script) (table : CollectionTable) (bags : Bags) (outputs : List NamedOutput)
     (files : List NamedBytes)
     → AllByRecursion (λ (entry : NamedOutput). Holds script table bags entry.1) outputs
     → AreFiles bags outputs files → files_of table outputs ≡ Some files
@@ -63,7 +63,7 @@ files_by script table bags (output ∷ outputs) (file ∷ files) all are =
     )
     refl
 
-pub files_made : (script : Script) (table : Table) (bags : Bags) (files : List NamedBytes)
+pub files_made : (script : Script) (table : CollectionTable) (bags : Bags) (files : List NamedBytes)
     → All (λ (entry : NamedOutput). Holds script table bags entry.1) script.outputs
     → AreFiles bags script.outputs files → files_of table script.outputs ≡ Some files
 files_made script table bags files all are =

@@ -20,7 +20,7 @@ use Rattle.run_course.specs.Lent.{lent}
 use Rattle.run_course.specs.Plans.{IsPlanFor}
 use Rattle.run_course.specs.declared.stop.Stop.{Stop}
 use Rattle.run_course.specs.declared.stop.Stop.TheVariants as stop
-use Rattle.run_course.specs.inner.Course.{AsksHostsInCall, AsksHostsUntil, Delivers, IsRunStop, MayHaveCome}
+use Rattle.run_course.specs.inner.Course.{AsksHostsInCall, AsksHostsUntil, Delivers, IsRunStop, MayHaveCome, TellsStop}
 use Rattle.run_course.proofs.CauseLemmas.{IsAt, reads}
 use Rattle.run_course.proofs.ReadLemmas.{Told, Words}
 
@@ -130,3 +130,20 @@ delivered_asks words told olds news files text shelf shelf' screen screen' statu
     inl none
 delivered_asks words told olds news files text shelf shelf' screen screen' status it is (inr run) =
     inr (may_deliver files text shelf shelf' screen screen' status is, run.1)
+
+-- a call that this stops asked hosts for what was asked for so far
+pub may_have_run : (T : Type 0) (why : Stop) (screen screen' : SeenScreen) (status : Status)
+    → TellsStop why screen screen' status → MayHaveCome {T = T} (Err why)
+    → MayHaveRun status
+may_have_run T (stop.Refused told) screen screen' status tells may =
+    subst MayHaveRun (sym tells.0) may
+may_have_run T (stop.Trapped trap) screen screen' status tells may =
+    subst MayHaveRun (sym tells.0) tt
+
+pub stopped_asks : (T : Type 0) (words : Words) (told : Told) (olds news : List Account)
+    (why : Stop) (screen screen' : SeenScreen) (status : Status)
+    → TellsStop why screen screen' status → AsksHostsInCall {T = T} words told olds news (Err why)
+    → AsksHosts words told olds news status
+stopped_asks T words told olds news why screen screen' status tells (inl none) = inl none
+stopped_asks T words told olds news why screen screen' status tells (inr run) =
+    inr (may_have_run T why screen screen' status tells run.0, run.1)

@@ -27,7 +27,7 @@ use Rattle.script_program.specs.Sources.{in_order}
 use Rattle.script_loading.specs.of_script_laws.WellFormed.{function_at}
 use Rattle.script_program.specs.Needed.{is_needed}
 use Rattle.written_types.specs.Named.{Named}
-use Rattle.run_course.specs.Written.{Table}
+use Rattle.run_course.specs.Written.{CollectionTable}
 
 -- ---- traps below a number
 
@@ -75,29 +75,29 @@ call_below n origin below (Err pair) =
 -- ---- tables
 
 -- the traps behind what is made are of collections below a number
-abbrev AreBelow : ℕ → Table → Type 0
+abbrev AreBelow : ℕ → CollectionTable → Type 0
 AreBelow n [] = ⊤
 AreBelow n (None ∷ table) = AreBelow n table
 AreBelow n (Some c ∷ table) = Below n c.traps × AreBelow n table
 
-push_made : (n : ℕ) (table : Table) (c : Collection) → AreBelow n table → Below n c.traps
+push_made : (n : ℕ) (table : CollectionTable) (c : Collection) → AreBelow n table → Below n c.traps
     → AreBelow n (table ++ Some c ∷ [])
 push_made n [] c all own = (own, tt)
 push_made n (None ∷ table) c all own = push_made n table c all own
 push_made n (Some d ∷ table) c all own = (all.0, push_made n table c all.1 own)
 
-push_none : (n : ℕ) (table : Table) → AreBelow n table → AreBelow n (table ++ None ∷ [])
+push_none : (n : ℕ) (table : CollectionTable) → AreBelow n table → AreBelow n (table ++ None ∷ [])
 push_none n [] all = tt
 push_none n (None ∷ table) all = push_none n table all
 push_none n (Some d ∷ table) all = (all.0, push_none n table all.1)
 
-more_made : (n m : ℕ) (table : Table) → n ≤ m → AreBelow n table → AreBelow m table
+more_made : (n m : ℕ) (table : CollectionTable) → n ≤ m → AreBelow n table → AreBelow m table
 more_made n m [] more all = tt
 more_made n m (None ∷ table) more all = more_made n m table more all
 more_made n m (Some c ∷ table) more all =
     (more_below n m c.traps more all.0, more_made n m table more all.1)
 
-at_below : (n : ℕ) (table : Table) (number : ℕ) (c : Collection) → AreBelow n table
+at_below : (n : ℕ) (table : CollectionTable) (number : ℕ) (c : Collection) → AreBelow n table
     → spec.made_at table number ≡ Some c → Below n c.traps
 at_below n [] number c all is = absurd (cc)
 at_below n (None ∷ table) zero c all is = absurd (cc)
@@ -106,7 +106,7 @@ at_below n (Some d ∷ table) zero c all is =
 at_below n (None ∷ table) (suc number) c all is = at_below n table number c all is
 at_below n (Some d ∷ table) (suc number) c all is = at_below n table number c all.1 is
 
-behind_below : (n : ℕ) (table : Table) → AreBelow n table
+behind_below : (n : ℕ) (table : CollectionTable) → AreBelow n table
     → Below n (flat_map spec.traps_behind table)
 behind_below n [] all = none_below n
 behind_below n (None ∷ table) all = behind_below n table all
@@ -133,12 +133,12 @@ Own n c = Below (suc n) c.traps
 as_own : (n : ℕ) (c d : Collection) → c ≡ d → Own n c → Own n d
 as_own n c d same own = subst (Own n) same own
 
-behind_own : (n : ℕ) (table : Table) (number : ℕ) (c : Collection) → AreBelow n table
+behind_own : (n : ℕ) (table : CollectionTable) (number : ℕ) (c : Collection) → AreBelow n table
     → spec.made_at table number ≡ Some c → Below (suc n) c.traps
 behind_own n table number c all is =
     more_below n (suc n) c.traps (omega arith) (at_below n table number c all is)
 
-all_below : (n : ℕ) (table : Table) (numbers : List ℕ) (cs : List Collection)
+all_below : (n : ℕ) (table : CollectionTable) (numbers : List ℕ) (cs : List Collection)
     → AreBelow n table
     → spec.all_made table numbers ≡ Some cs → Below (suc n) (flat_map (λ c. c.traps) cs)
 all_below n table [] cs all is =
@@ -219,9 +219,9 @@ beside_below n answer c object None d first second is =
 
 -- ---- by each way in which a collection is made
 
-own_below : (script : Script) (n : ℕ) (by : Made) (inputs : List (List Value)) (table : Table)
-    (d : Collection) → AreBelow n table → spec.made_as script n by inputs table ≡ Some d
-    → Own n d
+own_below : (script : Script) (n : ℕ) (by : Made) (inputs : List (List Value))
+    (table : CollectionTable) (d : Collection) → AreBelow n table
+    → spec.made_as script n by inputs table ≡ Some d → Own n d
 own_below script n (made.Input file columns) [] table d all is = absurd (cc)
 own_below script n (made.Input file columns) (rows ∷ inputs) table d all is =
     let same : spec.rows_as rows ≡ d = cc in
@@ -279,23 +279,24 @@ own_below script n (made.Saved is_object call) (rows ∷ inputs) table d all is 
 
 -- ---- all collections
 
-record Stands (nodes : Named Node) (table made : Table) : Type 0 where
+record Stands (nodes : Named Node) (table made : CollectionTable) : Type 0 where
   pub long : length made ≡ length table + length nodes
   pub below : AreBelow (length made) made
 
-pushed : (table : Table) (o : Option Collection) → length (table ++ o ∷ [])
+pushed : (table : CollectionTable) (o : Option Collection) → length (table ++ o ∷ [])
     ≡ suc (length table)
 pushed table o = omega (arith, length-append table (o ∷ []))
 
 -- what is so of what stands behind these
-abbrev Goes : Script → Named Node → Table → Type 0
-Goes script nodes made = (others : List (List Value)) (longer : Table)
+abbrev Goes : Script → Named Node → CollectionTable → Type 0
+Goes script nodes made = (others : List (List Value)) (longer : CollectionTable)
     → AreBelow (length longer) longer → spec.collections script nodes others longer
     ≡ Some made
     → Stands nodes longer made
 
-one_more : (script : Script) (entry : List ℕ × Node) (nodes : Named Node) (table made : Table)
-    (o : Option Collection) (others : List (List Value)) → Goes script nodes made
+one_more : (script : Script) (entry : List ℕ × Node) (nodes : Named Node)
+    (table made : CollectionTable) (o : Option Collection) (others : List (List Value))
+    → Goes script nodes made
     → AreBelow (suc (length table)) (table ++ o ∷ [])
     → spec.collections script nodes others (table ++ o ∷ []) ≡ Some made
     → Stands (entry ∷ nodes) table made
@@ -307,9 +308,9 @@ one_more script entry nodes table made o others goes below is =
     record { long = omega arith; below = it.below }
 
 -- going on behind a node, where it is needed or not
-abbrev next : Bool → Script → List ℕ × Node → Named Node → List (List Value) → Table
+abbrev next : Bool → Script → List ℕ × Node → Named Node → List (List Value) → CollectionTable
     →
-    Option Table
+    Option CollectionTable
 next needed script entry nodes inputs table =
     if needed
     then option_and_then (λ c.
@@ -318,7 +319,7 @@ next needed script entry nodes inputs table =
     else spec.collections script nodes inputs (table ++ None ∷ [])
 
 behind : (script : Script) (entry : List ℕ × Node) (nodes : Named Node)
-    (inputs : List (List Value)) (table made : Table) → AreBelow (length table) table
+    (inputs : List (List Value)) (table made : CollectionTable) → AreBelow (length table) table
     → Goes script nodes made → (needed : Bool) → next needed script entry nodes inputs table
     ≡ Some made
     → Stands (entry ∷ nodes) table made
@@ -334,12 +335,14 @@ behind script entry nodes inputs table made all goes false is =
     (push_none (suc (length table)) table
     (more_made (length table) (suc (length table)) table (omega arith) all)) is
 
-stands : (script : Script) (nodes : Named Node) (inputs : List (List Value)) (table made : Table)
-    → AreBelow (length table) table → spec.collections script nodes inputs table ≡ Some made
+stands : (script : Script) (nodes : Named Node) (inputs : List (List Value))
+    (table made : CollectionTable) → AreBelow (length table) table
+    → spec.collections script nodes inputs table ≡ Some made
     → Stands nodes table made
 stands script [] [] table made all is =
     let same : table ≡ made = cc in
-    subst (λ (t : Table). Stands [] table t) same (record { long = omega arith; below = all })
+    subst (λ (t : CollectionTable). Stands [] table t) same
+    (record { long = omega arith; below = all })
 stands script [] (rows ∷ inputs) table made all is = absurd (cc)
 stands script (entry ∷ nodes) inputs table made all is =
     behind script entry nodes inputs table made all
@@ -347,7 +350,7 @@ stands script (entry ∷ nodes) inputs table made all is =
     (is_needed script (length table)) is
 
 -- each trap of a script is of one of its collections
-pub origins : (script : Script) (inputs : List (List Value)) (made : Table)
+pub origins : (script : Script) (inputs : List (List Value)) (made : CollectionTable)
     → spec.meaning script inputs ≡ Some made
     → Below (length script.nodes) (spec.traps_of made)
 origins script inputs made is =

@@ -1,5 +1,8 @@
 -- What a call promises, from what its answer says.
-use Rattle.std.proofs.Common.{◌≡◌, subst}
+use Rattle.std.proofs.Common.{◌≡◌, ◌≤◌, Err, arith, subst, sym}
+use Rattle.std.specs.List.{AllZip}
+use Rattle.crew.specs.Hosts.{Grew}
+use Rattle.outside.specs.Seen.{SeenShelf}
 use Rattle.run_texts.specs.declared.status.Place.TheVariants.{File, Screen}
 use Rattle.run_texts.specs.declared.status.Status.{Status}
 use Rattle.run_texts.specs.declared.status.Status.TheVariants.{Done, GaveUp, Usage, ScriptRefused, InputRefused, Trap, ReadFault, WriteFault, TooLong, NoFile, PlanRefused}
@@ -8,11 +11,29 @@ use Rattle.run_course.specs.Asks.{AsksFor}
 use Rattle.run_course.specs.Hosts.{AsksHosts}
 use Rattle.run_course.specs.Promises.{Promises}
 use Rattle.run_course.specs.World.{Keeps, World}
+use Rattle.run_course.specs.declared.stop.Stop.{Stop}
+use Rattle.run_course.specs.inner.Course.{AsksHostsInCall, AsksInCall, IsStopped, TellsStop}
+use Rattle.run_course.proofs.AskLemmas.{stopped_for}
 use Rattle.run_course.proofs.AlwaysLemmas.{always, always_usage}
+use Rattle.run_course.proofs.CauseLemmas.{stopped}
 use Rattle.run_course.proofs.CompleteLemmas.{complete}
+use Rattle.run_course.proofs.HostLemmas.{stopped_asks}
 use Rattle.run_course.proofs.LeftLemmas.{ended, left, refused_part}
 use Rattle.run_course.proofs.ReadLemmas.{Words}
 use Rattle.run_course.proofs.StopLemmas.{input_stops, plan_stops, script_stops, too_long_stops}
+
+-- what is kept where the shelf was let alone
+pub shelf_alone : (before after : World) → after.shelf ≡ before.shelf
+    → after.source.files ≡ before.source.files → before.source.faults ≤ after.source.faults
+    → before.screen.faults ≤ after.screen.faults → AllZip Grew before.hosts after.hosts
+    → Keeps before after
+shelf_alone before after same told later screen grew = record {
+  told = told;
+  source = later;
+  shelf = subst (λ (s : SeenShelf). before.shelf.faults ≤ s.faults) (sym same) (omega arith);
+  screen = screen;
+  hosts = grew;
+}
 
 pub promises : (words : Words) (before after : World) (status : Status)
     → Answers words before after status → Keeps before after
@@ -57,3 +78,22 @@ promises words before after status answers kept asked hosts =
       ended = λ none. ended words before after status none answers;
       left = λ none. left words before after status none answers;
     }
+
+-- what a call promises that something stops: it has let the shelf alone
+pub stop_promises : (T : Type 0) (words : Words) (before after : World) (why : Stop)
+    (status : Status)
+    → IsStopped words before.source after.source before.hosts after.hosts why
+    → TellsStop why before.screen after.screen status → after.shelf ≡ before.shelf
+    → after.source.files ≡ before.source.files → before.source.faults ≤ after.source.faults
+    → before.screen.faults ≤ after.screen.faults → AllZip Grew before.hosts after.hosts
+    → AsksInCall words before.source after.source {T = T} (Err why)
+    → AsksHostsInCall {T = T} words before.source.files before.hosts after.hosts (Err why)
+    → Promises words before after status
+stop_promises T words before after why status is tells same told later screen grew asked
+    hosts =
+    promises words before after status (stopped words before after why status is tells same)
+    (shelf_alone before after same told later screen grew)
+    (stopped_for T words before.source after.source why before.screen after.screen status
+    tells asked)
+    (stopped_asks T words before.source.files before.hosts after.hosts why before.screen
+    after.screen status tells hosts)

@@ -12,7 +12,7 @@ use Rattle.script_loading.specs.Accepted.{Accepted}
 use Rattle.script_loading.specs.Loads.{AllHaveRows, HasRows, IsAbove, IsMissing, Loads}
 use Rattle.run_course.specs.Asked.{AskFor, AskOn}
 use Rattle.command_words.specs.Words.{Asked, asked_for}
-use Rattle.run_course.specs.Written.{IsMeant, Table}
+use Rattle.run_course.specs.Written.{IsMeant, CollectionTable}
 use Rattle.script_loading.specs.Limits.{script_limit}
 use Rattle.command_words.specs.declared.words.Command.{Command}
 use Rattle.script_loading.proofs.AcceptedLemmas.{accepted_once}
@@ -103,7 +103,7 @@ same_rows told (wanted ∷ inputs) (r ∷ rows) (o ∷ others) tells first secon
 
 -- what a script means, whichever way it and its rows are found
 pub same_meaning : (words : Words) (told : Told) (c d : Command) (p q : Script)
-    (rows others : List (List Value)) (table : Table) → IsSome told → AskOn words told c p
+    (rows others : List (List Value)) (table : CollectionTable) → IsSome told → AskOn words told c p
     → AskOn words told d q → AllHaveRows told (inputs_of p) rows → IsMeant told q others table
     → meaning p rows ≡ Some table
 same_meaning words told c d p q rows others table tells first second inputs meant =

@@ -14,14 +14,14 @@ use Rattle.outside.specs.declared.file.File.{File as NamedBytes}
 use Rattle.run_settings.specs.Settings.{RunSettings}
 use Rattle.run_texts.specs.Texts.{NamedOutput, size_lines}
 use Rattle.script_program.specs.Script.{Script}
-use Rattle.script_run.specs.Comes.{AreMembers}
+use Rattle.script_run.specs.Comes.{AreMembersOf}
 use Rattle.script_run.specs.Runs.{IsFirstTrap, IsRan}
 use Rattle.script_run.specs.declared.run.Ran.{Ran}
 use Rattle.run_course.specs.Answers.{IsFirstOfPlan, name_at}
 use Rattle.script_loading.specs.Loads.{AllHaveRows}
 use Rattle.run_course.specs.Lent.{lent}
 use Rattle.run_course.specs.Plans.{IsPlanFor}
-use Rattle.run_course.specs.Written.{AllTasksRan, Table, WritesRun, file_of, files_of, text_shown}
+use Rattle.run_course.specs.Written.{AllTasksRan, CollectionTable, WritesRun, file_of, files_of, text_shown}
 use Rattle.run_course.specs.declared.stop.Stop.{Stop}
 use Rattle.run_course.specs.declared.stop.Stop.TheVariants as stop
 use Rattle.run_course.specs.inner.Course.{GivesFiles, IsRunStop, IsTrapOf, file_with, files_with}
@@ -39,8 +39,8 @@ as_many R [] (y ∷ ys) all = absurd all
 as_many R (x ∷ xs) [] all = absurd all
 as_many R (x ∷ xs) (y ∷ ys) all = ap suc (as_many R xs ys all.1)
 
-file_at : (table : Table) (output : NamedOutput) (members : List Value)
-    → AreMembers table output.1.reads members
+file_at : (table : CollectionTable) (output : NamedOutput) (members : List Value)
+    → AreMembersOf table output.1.reads members
     → file_of table output ≡ Some (file_with output members)
 file_at table output members are = by (made_at table output.1.reads) refl are
   where
@@ -51,8 +51,8 @@ file_at table output members are = by (made_at table output.1.reads) refl are
     by (Some collection) is own =
         file_from table output collection is ∙ ap (λ l. Some (file_with output l)) (sym own)
 
-pub files_at : (table : Table) (outputs : List NamedOutput) (members : List (List Value))
-    → AllZip (λ output own. AreMembers table output.1.reads own) outputs members
+pub files_at : (table : CollectionTable) (outputs : List NamedOutput) (members : List (List Value))
+    → AllZip (λ output own. AreMembersOf table output.1.reads own) outputs members
     → files_of table outputs ≡ Some (files_with outputs members)
 files_at table [] [] all = refl
 files_at table [] (own ∷ members) all = absurd all

@@ -41,7 +41,7 @@ use Rattle.command_words.specs.Words.{asked_for}
 use Rattle.run_course.specs.Lent.{lent}
 use Rattle.run_course.specs.Plans.{IsPlanFor}
 use Rattle.run_course.specs.World.{World}
-use Rattle.run_course.specs.Written.{IsMeant, IsWritten, Table}
+use Rattle.run_course.specs.Written.{IsMeant, IsWritten, CollectionTable}
 use Rattle.script_loading.specs.Limits.{script_limit, input_limit, plan_limit}
 use Rattle.command_words.specs.declared.words.Command.{Command}
 use Rattle.command_words.specs.declared.words.Command.TheVariants.{Check, Plan as Show, Direct, Run}
@@ -49,7 +49,7 @@ use Rattle.command_words.specs.declared.words.Command.TheVariants.{Check, Plan a
 -- ---- what is written
 
 -- the screen has got the text, and has not failed
-pub record HasText (text : List ℕ) (before after : SeenScreen) : Type 0 where
+pub record HasShown (text : List ℕ) (before after : SeenScreen) : Type 0 where
   pub told : after.text ≡ option_map (λ old. old ++ text) before.text
   pub faults : after.faults ≡ before.faults
 
@@ -72,7 +72,7 @@ abbrev pub IsDone : List (List ℕ) → World → World → Type 0
 IsDone words before after =
     (files : List NamedBytes) × (text : List ℕ)
     × IsWritten words before.source.files before.hosts after.hosts files text
-    × HasFiles files before.shelf after.shelf × HasText text before.screen after.screen
+    × HasFiles files before.shelf after.shelf × HasShown text before.screen after.screen
 
 -- WriteFault of a file: the call came to its writing, so no call of a function traps, and the shelf
 -- failed there
@@ -132,7 +132,7 @@ name_at script number = option_map (λ entry. entry.0) (slice_get script.nodes n
 -- and the screen has the line, with the name of the collection that the trap's call makes
 abbrev pub IsTrap : ℕ → Kind → Value → List (List ℕ) → World → World → Type 0
 IsTrap origin kind element words before after =
-    (command : Command) × (script : Script) × (rows : List (List Value)) × (table : Table)
+    (command : Command) × (script : Script) × (rows : List (List Value)) × (table : CollectionTable)
     × (name : List ℕ)
     × AskOn words before.source.files command script
     × IsMeant before.source.files script rows table
@@ -195,7 +195,7 @@ IsPlanRefused step kind words source =
 abbrev pub GivesUp : RunSettings → Option (List ℕ) → Option (List NamedBytes) → List Account
     → List Account → Script → ℕ → Phase → ℕ → Type 0
 GivesUp s from told olds news script stage phase task =
-    (rows : List (List Value)) × (plan : Plan) × (table : Table)
+    (rows : List (List Value)) × (plan : Plan) × (table : CollectionTable)
     × IsMeant told script rows table × IsPlanFor told script from plan
     × IsGivenUp s.tries s.drill (script_world script rows) (phases_of s script rows plan)
     (lent s olds) (lent s news) stage phase task

@@ -22,7 +22,7 @@ use Rattle.run_course.specs.Hosts.{AsksHosts}
 use Rattle.run_course.specs.Lent.{lent}
 use Rattle.run_course.specs.Plans.{HasPlan, IsPlanFor}
 use Rattle.run_course.specs.World.{Keeps, World}
-use Rattle.run_course.specs.Written.{Table}
+use Rattle.run_course.specs.Written.{CollectionTable}
 use Rattle.command_words.specs.declared.words.Command.{Command}
 use Rattle.command_words.specs.declared.words.Command.TheVariants.{Check, Plan as Show, Direct, Run}
 use Rattle.script_program.specs.Script.{Script}
@@ -72,7 +72,7 @@ IsShelfCalm (Run s from) before after = Rose before.faults after.faults → ⊥
 abbrev pub CanEnd : Command → Option (List NamedBytes) → Script → List (List Value)
     → List Account → List Account → Type 0
 CanEnd (Run s from) told script rows olds news =
-    (plan : Plan) (table : Table) → IsPlanFor told script from plan
+    (plan : Plan) (table : CollectionTable) → IsPlanFor told script from plan
     → meaning script rows ≡ Some table
     → CanFinishAll s.tries s.drill (with_tasks (phases_of s script rows plan)) (lent s olds)
     (lent s news)
@@ -105,7 +105,8 @@ EndsWith (trap ∷ traps) status = IsTrapped status
 -- a script came to its end by its meaning over these rows
 abbrev pub EndsByMeaning : Script → List (List Value) → Status → Type 0
 EndsByMeaning script rows status =
-    (table : Table) × (meaning script rows ≡ Some table) × EndsWith (traps_of table) status
+    (table : CollectionTable) × (meaning script rows ≡ Some table)
+    × EndsWith (traps_of table) status
 
 -- a command came to its end: a script is checked and planned whatever its traps, else they decide
 abbrev pub EndsAs : Command → Script → List (List Value) → Status → Type 0

@@ -32,11 +32,11 @@ use Rattle.command_words.specs.declared.words.PlanForm.{PlanForm}
 use Rattle.command_words.specs.declared.words.PlanForm.TheVariants.{Text, Json, Rewrites}
 
 -- the collections of a script by their numbers, where they are made
-abbrev pub Table : Type 0
-Table = List (Option Collection)
+abbrev pub CollectionTable : Type 0
+CollectionTable = List (Option Collection)
 
 -- an output's file: the sorted text of the collection that it reads, under its columns
-abbrev pub file_of : Table → List ℕ × Output → Option File
+abbrev pub file_of : CollectionTable → List ℕ × Output → Option File
 file_of table output =
     option_map
     (λ collection.
@@ -44,7 +44,7 @@ file_of table output =
     (made_at table output.1.reads)
 
 -- the files of outputs that read these collections
-abbrev pub files_of : Table → List (List ℕ × Output) → Option (List File)
+abbrev pub files_of : CollectionTable → List (List ℕ × Output) → Option (List File)
 files_of table [] = Some []
 files_of table (output ∷ outputs) =
     option_and_then (λ file. option_map (λ files. file ∷ files) (files_of table outputs))
@@ -52,13 +52,13 @@ files_of table (output ∷ outputs) =
 
 -- The needed inputs of a script have these rows, and over them it means these collections.
 pub record IsMeant (told : Option (List File)) (script : Script) (rows : List (List Value))
-    (table : Table) : Type 0 where
+    (table : CollectionTable) : Type 0 where
   pub inputs : AllHaveRows told (inputs_of script) rows
   pub means : meaning script rows ≡ Some table
 
 -- The same, without a trap: the files of the outputs, and a text of the sizes behind another text.
 pub record IsThrough (told : Option (List File)) (script : Script) (front : List ℕ)
-    (files : List File) (text : List ℕ) (rows : List (List Value)) (table : Table)
+    (files : List File) (text : List ℕ) (rows : List (List Value)) (table : CollectionTable)
     : Type 0 where
   pub meant : IsMeant told script rows table
   pub through : traps_of table ≡ []
@@ -67,7 +67,7 @@ pub record IsThrough (told : Option (List File)) (script : Script) (front : List
 
 abbrev pub WritesMeaning : Option (List File) → Script → List ℕ → List File → List ℕ → Type 0
 WritesMeaning told script front files text =
-    (rows : List (List Value)) × (table : Table)
+    (rows : List (List Value)) × (table : CollectionTable)
     × IsThrough told script front files text rows table
 
 -- a plan, shown as text behind the text of the execution graph
@@ -111,7 +111,7 @@ AllTasksRan s script rows plan olds news =
 abbrev pub WritesRun : RunSettings → Option (List ℕ) → Option (List File) → List Account
     → List Account → Script → List File → List ℕ → Type 0
 WritesRun s from told olds news script files text =
-    (plan : Plan) × (rows : List (List Value)) × (table : Table)
+    (plan : Plan) × (rows : List (List Value)) × (table : CollectionTable)
     × IsPlanFor told script from plan
     × IsThrough told script (text_shown script plan) files text rows table
     × AllTasksRan s script rows plan (lent s olds) (lent s news)

@@ -4,14 +4,11 @@ ghost use Rattle.std.specs.List.{AllZip};
 ghost use Rattle.std.specs.Option.{option_map};
 ghost use Rattle.crew.specs.Hosts.{Grew};
 ghost use Rattle.outside.specs.Saves.{output_file};
-ghost use Rattle.run_course.specs.Answers.{Answers};
-ghost use Rattle.run_course.specs.Asks.{AsksFor};
-ghost use Rattle.run_course.specs.Hosts.{AsksHosts};
 ghost use Rattle.run_course.specs.Lent.{lent_to};
 ghost use Rattle.run_course.specs.Promises.{Promises};
-ghost use Rattle.run_course.specs.World.{Keeps, world};
+ghost use Rattle.run_course.specs.World.{world};
 ghost use Rattle.run_course.specs.Written.{IsWritten};
-ghost use Rattle.run_course.specs.inner.Course.{AsksHostsInCall, AsksInCall, Delivers, IsStopped};
+ghost use Rattle.run_course.specs.inner.Course.{AsksHostsInCall, AsksInCall, Delivers, IsStopped, TellsStop};
 
 use crate::commands::{carried_out, tries_of};
 use crate::files::Written;
@@ -43,50 +40,9 @@ pub fn run<X: Threads + Sync, R: Source, H: Host + Send, K: Shelf, P: Screen>(
     ensures hosts { drop (lent_to (map string_bytes words.now)) hosts.new
         ≡ drop (lent_to (map string_bytes words.now)) hosts.old }
 {
-    answer(rt, alloc, words, source, hosts, shelf, screen)
-}
-
-// Runs the command, and tells of a refusal or a trap.
-fn answer<X: Threads + Sync, R: Source, H: Host + Send, K: Shelf, P: Screen>(
-    rt: &X,
-    alloc: Global,
-    words: &[String],
-    source: &mut R,
-    hosts: &mut [H],
-    shelf: &mut K,
-    screen: &mut P,
-) -> Status
-    requires { length hosts.old ≡ 16 }
-    ensures answers { Answers (map string_bytes words.now)
-        (world (R.seen source.old) (K.seen shelf.old) (P.seen screen.old) (map H.account hosts.old))
-        (world (R.seen source.new) (K.seen shelf.new) (P.seen screen.new) (map H.account hosts.new))
-        result }
-    ensures kept { Keeps
-        (world (R.seen source.old) (K.seen shelf.old) (P.seen screen.old) (map H.account hosts.old))
-        (world (R.seen source.new) (K.seen shelf.new) (P.seen screen.new)
-        (map H.account hosts.new)) }
-    ensures asked { AsksFor (map string_bytes words.now) (R.seen source.old)
-        (R.seen source.new) result }
-    ensures asked_hosts { AsksHosts (map string_bytes words.now) (R.seen source.old).files
-        (map H.account hosts.old) (map H.account hosts.new) result }
-    ensures hosts { drop (lent_to (map string_bytes words.now)) hosts.new
-        ≡ drop (lent_to (map string_bytes words.now)) hosts.old }
-{
     match prepare(rt, alloc, words, source, hosts) {
         Ok(written) => deliver(written, shelf, screen),
-        Err(Stop::Refused(status)) => {
-            tell(screen, &status);
-            status
-        }
-        Err(Stop::Trapped(trapped)) => {
-            let trap = trapped.trap;
-            tell_trap(screen, trapped.name.as_bytes(), trap.kind, &trap.element);
-            Status::Trap {
-                origin: trap.origin,
-                kind: trap.kind,
-                element: trap.element,
-            }
-        }
+        Err(stop) => stop_told(stop, screen),
     }
 }
 
@@ -118,8 +74,39 @@ fn prepare<X: Threads + Sync, R: Source, H: Host + Send>(
     let Some(asked) = asked_for(alloc, words)? else {
         return Err(Stop::Refused(Status::Usage));
     };
-    let program = script_of(alloc, asked.script, source, tries_of(&asked.command))?;
-    carried_out(rt, alloc, &asked.command, &program, source, hosts)
+    let program = match script_of(alloc, asked.script, source, tries_of(&asked.command)) {
+        Ok(program) => program,
+        Err(status) => {
+            drop(asked);
+            return Err(Stop::Refused(status));
+        }
+    };
+    let written = carried_out(rt, alloc, &asked.command, &program, source, hosts);
+    program.let_go();
+    drop(asked);
+    written
+}
+
+/// Tells of what stops a call, and gives its answer. It takes no memory.
+pub fn stop_told<P: Screen>(stop: Stop, screen: &mut P) -> Status
+    ensures told { TellsStop stop (P.seen screen.old) (P.seen screen.new) result }
+    ensures later { (P.seen screen.old).faults ≤ (P.seen screen.new).faults }
+{
+    match stop {
+        Stop::Refused(status) => {
+            tell(screen, &status);
+            status
+        }
+        Stop::Trapped(trapped) => {
+            let trap = trapped.trap;
+            tell_trap(screen, trapped.name.as_bytes(), trap.kind, &trap.element);
+            Status::Trap {
+                origin: trap.origin,
+                kind: trap.kind,
+                element: trap.element,
+            }
+        }
+    }
 }
 
 /// Writes the files, and then the text of the screen. It takes no memory.

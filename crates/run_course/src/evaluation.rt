@@ -32,8 +32,18 @@ pub fn written_meaning(
     let held = program.as_program();
     let Direct { bags, sizes, traps } = direct(alloc, held, inputs)?;
     match first(traps) {
-        Some(trap) => Err(trapped(alloc, held, trap)?),
-        None => Ok(write_out(alloc, program, &bags, &sizes)?),
+        Some(trap) => {
+            drop(sizes);
+            drop(bags);
+            Err(trapped(alloc, held, trap)?)
+        }
+        None => {
+            let written = write_out(alloc, program, &bags, &sizes);
+            drop(sizes);
+            drop(bags);
+            let out = written?;
+            Ok(out)
+        }
     }
 }
 

@@ -71,6 +71,11 @@ pub fn trapped(alloc: Global, program: &Program, trap: Trap) -> Result<Stop, All
     requires within { trap.origin < length program.now.script.nodes }
     ensures { IfOk result (IsTrapOf program.now.script trap) }
 {
-    let name = program.node_name(trap.origin as usize).copy(alloc)?;
-    Ok(Stop::Trapped(Trapped { trap, name }))
+    match program.node_name(trap.origin as usize).copy(alloc) {
+        Ok(name) => Ok(Stop::Trapped(Trapped { trap, name })),
+        Err(e) => {
+            drop(trap);
+            Err(e)
+        }
+    }
 }

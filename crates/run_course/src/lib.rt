@@ -18,7 +18,7 @@ mod running;
 mod showing;
 mod stop;
 
-pub use course::{deliver, run};
+pub use course::{deliver, run, stop_told};
 pub use files::{Written, file_of, with_sizes};
 pub use limits::TRIES;
 pub use running::{output_files, ran_on, ran_through};

@@ -59,5 +59,7 @@ fn plan_in_file<R: Source>(
     ensures later { (R.seen source.old).faults ≤ (R.seen source.new).faults }
 {
     let bytes = plan_bytes(alloc, name, source, tries)?;
-    taken_shown(alloc, program, bytes.as_slice())
+    let shown = taken_shown(alloc, program, bytes.as_slice());
+    drop(bytes);
+    shown
 }

@@ -55,8 +55,18 @@ pub fn written_run<X: Threads + Sync, H: Host + Send>(
 {
     let ShownPlan { plan, text } = shown;
     match ran_through(rt, alloc, program, &plan, inputs, hosts, settings) {
-        Ok(ran) => Ok(write_out(alloc, program, &ran, text)?),
-        Err(why) => Err(why),
+        Ok(ran) => {
+            drop(plan);
+            let written = write_out(alloc, program, &ran, text);
+            drop(ran);
+            let out = written?;
+            Ok(out)
+        }
+        Err(why) => {
+            drop(text);
+            drop(plan);
+            Err(why)
+        }
     }
 }
 
@@ -89,11 +99,13 @@ pub fn ran_through<X: Threads + Sync, H: Host + Send>(
     let held = program.as_program();
     match ran_on(rt, alloc, program, plan, inputs, hosts, settings) {
         Ok(ran) => Ok(ran),
-        Err(RunFault::Trap(trap)) => Err(trapped(alloc, held, trap)?),
-        Err(RunFault::GaveUp { stage, phase, task }) => {
-            Err(Stop::Refused(Status::GaveUp { stage, phase, task }))
-        }
-        Err(RunFault::Memory) => Err(Stop::Refused(Status::WantOfMemory)),
+        Err(fault) => match fault {
+            RunFault::Trap(trap) => Err(trapped(alloc, held, trap)?),
+            RunFault::GaveUp { stage, phase, task } => {
+                Err(Stop::Refused(Status::GaveUp { stage, phase, task }))
+            }
+            RunFault::Memory => Err(Stop::Refused(Status::WantOfMemory)),
+        },
     }
 }
 

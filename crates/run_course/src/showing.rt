@@ -1,8 +1,10 @@
 // A script's plan, as it is shown.
-ghost use Rattle.std.specs.Prelude.{◌≡◌, IfErr, IfOk};
+ghost use Rattle.std.specs.Prelude.{◌≡◌, ◌++◌, IfErr, IfOk};
 ghost use Rattle.command_words.specs.declared.words.PlanForm.TheVariants.{Json, Rewrites, Text};
 ghost use Rattle.script_loading.specs.of_graph_build.Graphs.{graph_of};
 ghost use Rattle.outer_plans.specs.Plans.{IsTaken};
+ghost use Rattle.outer_plans.specs.of_graph_print.GraphText.{graph_text};
+ghost use Rattle.outer_plans.specs.of_plan_texts.Texts.{plan_text_of};
 ghost use Rattle.outer_plans.specs.of_script_plans.Plans.{IsScriptPlan};
 ghost use Rattle.script_run.specs.Runs.{IsPlanOf};
 ghost use Rattle.run_course.specs.Written.{ShowsPlan, file_shown, text_shown};
@@ -44,7 +46,8 @@ pub fn shown(alloc: Global, program: &ReadyProgram, form: PlanForm) -> Result<Ve
 fn text_shown(alloc: Global, program: &ReadyProgram) -> Result<Vec<u8>, AllocError>
     ensures { IfOk result (λ text. ShowsPlan Text program.now.script text.items) }
 {
-    let ShownPlan { plan: _, text } = plan_shown(alloc, program)?;
+    let ShownPlan { plan, text } = plan_shown(alloc, program)?;
+    drop(plan);
     Ok(text)
 }
 
@@ -56,12 +59,15 @@ pub fn plan_shown(alloc: Global, program: &ReadyProgram) -> Result<ShownPlan, Al
 {
     types_law();
     let held = program.as_program();
-    let graph = build(alloc, held)?;
-    let mut text = graph_text(alloc, held, &graph)?;
+    let (graph, front) = graph_shown(alloc, held)?;
     let plan = plan_of(alloc, held, graph)?;
-    let mut behind = plan_text(alloc, held, &plan)?;
-    text.append(&mut behind)?;
-    Ok(ShownPlan { plan, text })
+    match text_behind(alloc, held, front, &plan) {
+        Ok(text) => Ok(ShownPlan { plan, text }),
+        Err(e) => {
+            drop(plan);
+            Err(e)
+        }
+    }
 }
 
 /// The plan that the bytes of a file tell, if it is one of the script, and its text.
@@ -76,12 +82,47 @@ pub(crate) fn taken_shown(
     ensures stop { IfErr result (IsTakingStop program.now.script bytes.now) }
 {
     let held = program.as_program();
-    let graph = build(alloc, held)?;
-    let mut text = graph_text(alloc, held, &graph)?;
+    let (graph, front) = graph_shown(alloc, held)?;
     let plan = plan_taken(alloc, program, graph, bytes)?;
-    let mut behind = plan_text(alloc, held, &plan)?;
+    match text_behind(alloc, held, front, &plan) {
+        Ok(text) => Ok(ShownPlan { plan, text }),
+        Err(_) => {
+            drop(plan);
+            Err(Status::WantOfMemory)
+        }
+    }
+}
+
+// A script's execution graph, and its text.
+fn graph_shown(alloc: Global, program: &Program) -> Result<(Graph, Vec<u8>), AllocError>
+    ensures graph { IfOk result (λ it. it.0 ≡ graph_of program.now.script) }
+    ensures text { IfOk result (λ it. it.1.items
+        ≡ graph_text program.now.script (graph_of program.now.script)) }
+{
+    let graph = build(alloc, program)?;
+    match graph_text(alloc, program, &graph) {
+        Ok(text) => Ok((graph, text)),
+        Err(e) => {
+            drop(graph);
+            Err(e)
+        }
+    }
+}
+
+// The text of a plan behind the one that stands first.
+fn text_behind(
+    alloc: Global,
+    program: &Program,
+    front: Vec<u8>,
+    plan: &Plan,
+) -> Result<Vec<u8>, AllocError>
+    ensures { IfOk result (λ text.
+        text.items ≡ front.items ++ plan_text_of program.now.script plan.now) }
+{
+    let mut text = front;
+    let mut behind = plan_text(alloc, program, plan)?;
     text.append(&mut behind)?;
-    Ok(ShownPlan { plan, text })
+    Ok(text)
 }
 
 // The plan that the bytes of a file tell, if it is one of the script, which has this execution
@@ -135,7 +176,9 @@ fn rewrites_shown(alloc: Global, program: &ReadyProgram) -> Result<Vec<u8>, Allo
     let held = program.as_program();
     let graph = build(alloc, held)?;
     let traced = traced_plan(alloc, held, graph)?;
-    traced_text(alloc, held, &traced)
+    let text = traced_text(alloc, held, &traced);
+    drop(traced);
+    text
 }
 
 // A plan with its rewrites, on a line.

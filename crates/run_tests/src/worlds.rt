@@ -72,7 +72,11 @@ pub fn is_done<X: Threads + Sync>(
         &mut world.shelf,
         &mut world.screen,
     );
-    Ok(status.code() == 0 && world.has(screen))
+    let code = status.code();
+    drop(status);
+    let is_done = code == 0 && world.has(screen);
+    drop(world);
+    Ok(is_done)
 }
 
 fn words(alloc: Global, command: &str) -> Result<Vec<String>, AllocError> {

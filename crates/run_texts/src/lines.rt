@@ -8,7 +8,7 @@ use crate::status::{Place, Status};
 use csv_rows::RowKind;
 use flume_grammar::ScriptKind;
 use flume_value::{Kind, Value};
-use itoa::Buffer;
+use itoa::{Buffer, Integer};
 use outside::{Failed, Phase, Screen, say, say_all};
 use plan_faults::PlanKind;
 use printing::{say_named, say_value};
@@ -97,8 +97,15 @@ fn say_at<P: Screen>(screen: &mut P, front: &[u8], number: u32, kind: &[u8]) -> 
         (P.seen screen.old) (P.seen screen.new) result }
 {
     let mut digits = Buffer::new();
-    let number = digits.format(number).as_bytes();
+    let number = digits_of(&mut digits, number);
     say_all(screen, &[front, number, b": ", kind, b"\n"])
+}
+
+// The decimal digits of a number.
+fn digits_of<N: Integer>(digits: &mut Buffer, number: N) -> &[u8]
+    ensures { result.now ≡ N.text number }
+{
+    digits.format(number).as_bytes()
 }
 
 fn say_input_refused<P: Screen>(
@@ -113,8 +120,8 @@ fn say_input_refused<P: Screen>(
 {
     let mut row_digits = Buffer::new();
     let mut column_digits = Buffer::new();
-    let row = row_digits.format(row).as_bytes();
-    let column = column_digits.format(column).as_bytes();
+    let row = digits_of(&mut row_digits, row);
+    let column = digits_of(&mut column_digits, column);
     let behind: [&[u8]; 7] = [
         b" row ",
         row,
@@ -133,8 +140,8 @@ fn say_gave_up<P: Screen>(screen: &mut P, stage: u32, phase: Phase, task: u32) -
 {
     let mut stage_digits = Buffer::new();
     let mut task_digits = Buffer::new();
-    let stage = stage_digits.format(stage).as_bytes();
-    let task = task_digits.format(task).as_bytes();
+    let stage = digits_of(&mut stage_digits, stage);
+    let task = digits_of(&mut task_digits, task);
     let pieces: [&[u8]; 7] = [
         b"gave up at stage ",
         stage,
@@ -152,7 +159,7 @@ fn say_too_long<P: Screen>(screen: &mut P, name: &[u8], limit: u64) -> Result<()
         (P.seen screen.old) (P.seen screen.new) result }
 {
     let mut digits = Buffer::new();
-    let limit = digits.format(limit).as_bytes();
+    let limit = digits_of(&mut digits, limit);
     say_named(
         screen,
         b"too long: ",

@@ -15,12 +15,13 @@ use Rattle.flume_collection.specs.declared.trap.Trap.{Trap}
 use Rattle.script_program.specs.declared.made.Made.{Made}
 use Rattle.script_program.specs.declared.made.Made.TheVariants as made
 use Rattle.script_program.specs.Needed.{operands}
-use Rattle.script_program.specs.Script.{Script}
+use Rattle.script_program.specs.Script.{Function, Script}
 use Rattle.direct_meaning.specs.of_script_laws.WellFormed.{function_at}
+use Rattle.direct_meaning.proofs.DoneLemmas.{has_done}
 use Rattle.direct_meaning.specs.Calls.{answer_of, called_by, calls_on}
-use Rattle.direct_meaning.specs.Direct.{all_made, combined_by, counted_by, counts_behind, done_at, done_beside_at, done_by, joined_at, joined_by, made_as, made_at, operated_at, top_by}
+use Rattle.direct_meaning.specs.Direct.{all_made, combined_by, counted_by, counts_behind, done_beside_at, joined_at, joined_by, made_as, made_at, operated_at, top_by}
 use Rattle.direct_meaning.specs.Objects.{answer_beside, combined_whole, done_beside, done_on, nothing_behind, only, operated_by, operated_on, value_of, values_of, whole_behind}
-use Rattle.saved_meaning.proofs.Tables.{and_then_some}
+use Rattle.saved_meaning.proofs.Tables.{and_then_some, map_some}
 
 -- ---- sets of traps
 
@@ -34,11 +35,6 @@ back-none (x ∷ xs) ys e = cc
 
 pub none-in : (xs : List Trap) → trap_set xs ≡ [] → xs ≡ []
 none-in xs e = no_members trap_le trap_order xs e
-
-map_some : {A B : Type 0} (f : A → B) (o : Option A) (y : B) → option_map f o ≡ Some y
-    → (x : A) × (o ≡ Some x) × (f x ≡ y)
-map_some f None y h = cc
-map_some f (Some x) y h = (x, refl, cc)
 
 -- a collection of that number is made, and has no traps where another has none
 pub record Hands (table : List (Option Collection)) (n : ℕ) (c : Collection) : Type 0 where
@@ -166,16 +162,9 @@ module _ (script : Script) (number : ℕ) (table : List (Option Collection))
       → made_as script number (made.Do source called output) rows table ≡ Some c
       → Contains (source ∷ []) n → Hands table n c
   by-function source called output n h reads =
-      let (function, calls_it, done) =
-      and_then_some (λ function. done_at (number - output) output function source table)
-      (function_at script.functions called) c h in
-      let (d, read, done_d) =
-      and_then_some (done_by (number - output) output function) (made_at table source) c done in
-      let (calls, all, is) =
-      map_some (called_by (number - output) output d.traps) (calls_on (answer_of function) d.bag) c
-      done_d in
-      one-source table source n c d read
-      (front-of-set d.traps _ c (ap (λ (x : Collection). x.traps) is)) reads
+      let it = has_done script table (number - output) source called output c h in
+      one-source table source n c it.from it.read
+      (front-of-set it.from.traps _ c (ap (λ (x : Collection). x.traps) it.is)) reads
 
   by-map : (f : Collection → Collection) (source n : ℕ)
       → option_map f (made_at table source) ≡ Some c
@@ -198,25 +187,32 @@ module _ (script : Script) (number : ℕ) (table : List (Option Collection))
       two-sources table left second n c a b left_read second_read
       (λ e. front-none a.traps b.traps (both e)) (λ e. back-none a.traps b.traps (both e)) reads
 
+  -- of what a function makes
+  by-callee : (called n : ℕ) (makes : Function → Option Collection)
+      → ((function : Function) → makes function ≡ Some c → Hands table n c)
+      → option_and_then makes (function_at script.functions called) ≡ Some c → Hands table n c
+  by-callee called n makes hands h =
+      let (function, calls_it, made_so) =
+      and_then_some makes (function_at script.functions called) c h in
+      hands function made_so
+
   by-operating : (objects : List ℕ) (called n : ℕ)
       → made_as script number (made.Operate objects called) rows table ≡ Some c
       → Contains objects n → Hands table n c
   by-operating objects called n h reads =
-      let (function, calls_it, done) =
-      and_then_some (λ function. operated_at number function objects table)
-      (function_at script.functions called) c h in
+      by-callee called n (λ function. operated_at number function objects table)
+      (λ function done.
       let (cs, read, is) =
       and_then_some (operated_by number (answer_of function)) (all_made table objects) c done in
       many-sources table objects cs c read (operated-none number (answer_of function) cs c is) n
-      reads
+      reads) h
 
   by-beside : (source called object n : ℕ)
       → made_as script number (made.DoWith source called object) rows table ≡ Some c
       → Contains (source ∷ object ∷ []) n → Hands table n c
   by-beside source called object n h reads =
-      let (function, calls_it, done) =
-      and_then_some (λ function. done_beside_at number function source object table)
-      (function_at script.functions called) c h in
+      by-callee called n (λ function. done_beside_at number function source object table)
+      (λ function done.
       let (d, read, rest) =
       and_then_some (λ d. option_and_then (done_beside number (answer_of function) d)
       (made_at table object)) (made_at table source) c done in
@@ -224,7 +220,7 @@ module _ (script : Script) (number : ℕ) (table : List (Option Collection))
       and_then_some (done_beside number (answer_of function) d) (made_at table object) c rest in
       two-sources table source object n c d e read value_read
       (λ none. (beside-none number (answer_of function) d e c is none).0)
-      (λ none. (beside-none number (answer_of function) d e c is none).1) reads
+      (λ none. (beside-none number (answer_of function) d e c is none).1) reads) h
 
   pub hands-on : (how : Made) (n : ℕ) → made_as script number how rows table ≡ Some c
       → Contains (operands how) n → Hands table n c

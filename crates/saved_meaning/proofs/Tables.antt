@@ -15,11 +15,7 @@ use Rattle.script_program.specs.Script.{Node, Script}
 use Rattle.direct_meaning.specs.Direct.{collections, inputs_behind, made_as, made_at, rows_as}
 use Rattle.direct_meaning.specs.Made.{IsMadeFor}
 use Rattle.saved_meaning.specs.Found.{MayBeFound, members_of, where_needed}
-
-pub and_then_some : {A B : Type 0} (f : A → Option B) (o : Option A) (y : B)
-    → option_and_then f o ≡ Some y → (x : A) × (o ≡ Some x) × (f x ≡ Some y)
-and_then_some f None y h = cc
-and_then_some f (Some x) y h = (x, refl, h)
+pub use Rattle.direct_meaning.proofs.PlaceLemmas.{found_then as and_then_some, mapped as map_some}
 
 -- ---- what is made stays
 

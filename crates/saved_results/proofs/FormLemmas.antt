@@ -25,16 +25,21 @@ map_some f (Some x) y e = (x, refl, cc)
 
 -- ---- one level
 
-same_out : (v w : Value) → out-Value v ≡ out-Value w → v ≡ w
-same_out v w e = sym (roll-out-Value v) ∙ ap roll-Value e ∙ roll-out-Value w
+-- what holds of the layers of a variant holds of its values
+is_variant : {A : Type 0} (part : Value-F Value → Option A) (layer : A → Value-F Value)
+    (make : A → Value) → ((a : A) → out-Value (make a) ≡ layer a)
+    → ((x : Value-F Value) (a : A) → part x ≡ Some a → x ≡ layer a)
+    → (v : Value) (a : A) → part (out-Value v) ≡ Some a → v ≡ make a
+is_variant part layer make outs told v a e =
+    sym (roll-out-Value v) ∙ ap roll-Value (told (out-Value v) a e ∙ sym (outs a))
+    ∙ roll-out-Value (make a)
 
 rec_layer : (x : Value-F Value) (xs : List Value) → record_layer x ≡ Some xs → x ≡ Value-F.Rec xs
 rec_layer (Value-F.Rec ys) xs e = let same : ys ≡ xs = cc in ap Value-F.Rec same
 rec_layer _ xs e = absurd (cc)
 
 is_rec : (v : Value) (xs : List Value) → fields_of v ≡ Some xs → v ≡ variant.Rec xs
-is_rec v xs e =
-    same_out v (variant.Rec xs) (rec_layer (out-Value v) xs e ∙ sym (variant.outs-Rec xs))
+is_rec = is_variant record_layer (λ xs. Value-F.Rec xs) variant.Rec variant.outs-Rec rec_layer
 
 members_layer : (x : Value-F Value) (xs : List Value) → list_layer x ≡ Some xs
     → x ≡ Value-F.List xs
@@ -42,24 +47,21 @@ members_layer (Value-F.List ys) xs e = let same : ys ≡ xs = cc in ap Value-F.L
 members_layer _ xs e = absurd (cc)
 
 is_list : (v : Value) (xs : List Value) → members_of v ≡ Some xs → v ≡ variant.List xs
-is_list v xs e =
-    same_out v (variant.List xs) (members_layer (out-Value v) xs e ∙ sym (variant.outs-List xs))
+is_list = is_variant list_layer (λ xs. Value-F.List xs) variant.List variant.outs-List members_layer
 
 bytes_layer : (x : Value-F Value) (s : List ℕ) → text_layer x ≡ Some s → x ≡ Value-F.Text s
 bytes_layer (Value-F.Text t) s e = let same : t ≡ s = cc in ap Value-F.Text same
 bytes_layer _ s e = absurd (cc)
 
 is_text : (v : Value) (s : List ℕ) → text_of v ≡ Some s → v ≡ variant.Text s
-is_text v s e =
-    same_out v (variant.Text s) (bytes_layer (out-Value v) s e ∙ sym (variant.outs-Text s))
+is_text = is_variant text_layer (λ s. Value-F.Text s) variant.Text variant.outs-Text bytes_layer
 
 number_layer : (x : Value-F Value) (n : ℤ) → wide_layer x ≡ Some n → x ≡ Value-F.Wide n
 number_layer (Value-F.Wide m) n e = let same : m ≡ n = cc in ap Value-F.Wide same
 number_layer _ n e = absurd (cc)
 
 is_wide : (v : Value) (n : ℤ) → wide_of v ≡ Some n → v ≡ variant.Wide n
-is_wide v n e =
-    same_out v (variant.Wide n) (number_layer (out-Value v) n e ∙ sym (variant.outs-Wide n))
+is_wide = is_variant wide_layer (λ n. Value-F.Wide n) variant.Wide variant.outs-Wide number_layer
 
 -- ---- two fields
 

@@ -52,9 +52,16 @@ fn size_in(value: Value) -> Option<Size>
     ensures { result ≡ spec.size_of value }
 {
     let (first, second) = two_in(value)?;
+    let members = count_in(&second);
+    drop(second);
     let name = text_in(first)?;
-    let members = count_in(&second)?;
-    Some(Size { name, members })
+    match members {
+        Some(members) => Some(Size { name, members }),
+        None => {
+            drop(name);
+            None
+        }
+    }
 }
 
 // The two fields of a record that has two.
@@ -63,7 +70,10 @@ fn two_in(value: Value) -> Option<(Value, Value)>
 {
     match value {
         Value::Rec(fields) => two_among(fields),
-        _ => None,
+        other => {
+            drop(other);
+            None
+        }
     }
 }
 
@@ -75,8 +85,13 @@ fn two_among(fields: Items) -> Option<(Value, Value)>
         return None;
     }
     let second = fields.pop()?;
-    let first = fields.pop()?;
-    Some((first, second))
+    match fields.pop() {
+        Some(first) => Some((first, second)),
+        None => {
+            drop(second);
+            None
+        }
+    }
 }
 
 fn list_in(value: Value) -> Option<Items>
@@ -84,7 +99,10 @@ fn list_in(value: Value) -> Option<Items>
 {
     match value {
         Value::List(members) => Some(members),
-        _ => None,
+        other => {
+            drop(other);
+            None
+        }
     }
 }
 
@@ -93,7 +111,10 @@ fn text_in(value: Value) -> Option<Str>
 {
     match value {
         Value::Text(text) => Some(text),
-        _ => None,
+        other => {
+            drop(other);
+            None
+        }
     }
 }
 

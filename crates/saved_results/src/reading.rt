@@ -2,7 +2,7 @@
 ghost use Rattle.std.specs.Prelude.{◌≡◌, IfOk, IfSome, IfNone, Some};
 ghost use Rattle.saved_results.specs.Saved as spec;
 ghost use Rattle.saved_results.specs.declared.saved.Saved.{Saved as Kept};
-ghost use Rattle.value_reading.specs.Written.{IsWritten};
+ghost use Rattle.value_reading.specs.Written.{IsCanonical};
 
 use crate::parts::saved_in;
 use crate::saved::Saved;
@@ -13,9 +13,9 @@ use value_reading::{ReadFault, read_canonical};
 /// levels.
 pub fn read_saved(alloc: Global, bytes: &[u8]) -> Result<Option<Saved>, AllocError>
     ensures some { IfOk result (λ found. IfSome found (λ saved.
-        IsWritten (spec.saved_value saved) bytes.now)) }
+        IsCanonical (spec.saved_value saved) bytes.now)) }
     ensures none { IfOk result (λ found. IfNone found ((saved : Kept) →
-        spec.AreCounts saved → IsWritten (spec.saved_value saved) bytes.now → ⊥)) }
+        spec.AreCounts saved → IsCanonical (spec.saved_value saved) bytes.now → ⊥)) }
 {
     match read_canonical(alloc, bytes) {
         Ok(value) => saved_in(alloc, value),

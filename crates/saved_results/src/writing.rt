@@ -15,7 +15,9 @@ pub fn saved_bytes(alloc: Global, saved: Saved) -> Result<Vec<u8>, AllocError>
     ensures held { OnOk result (IsHeld (saved_value saved)) }
 {
     let value = value_of(alloc, saved)?;
-    canonical_bytes(alloc, &value)
+    let bytes = canonical_bytes(alloc, &value);
+    drop(value);
+    bytes
 }
 
 // What is kept, as a value.
@@ -32,9 +34,16 @@ fn both(alloc: Global, first: Value, second: Value) -> Result<Value, AllocError>
     ensures { IfOk result (λ value. value ≡ variant.Rec (first ∷ second ∷ [])) }
 {
     let mut parts = Pile::new(alloc);
-    parts.push(first)?;
-    parts.push(second)?;
-    Ok(Value::Rec(parts))
+    match parts.push(first) {
+        Ok(()) => {
+            parts.push(second)?;
+            Ok(Value::Rec(parts))
+        }
+        Err(fault) => {
+            drop(second);
+            Err(fault)
+        }
+    }
 }
 
 // Each size as a value.

@@ -13,7 +13,6 @@ use Rattle.flume_grammar.specs.declared.fault.ScriptKind.TheVariants.{NotFlat}
 use Rattle.operation_check.specs.of_written_types.Answer.{or_fault}
 use Rattle.operation_check.specs.of_written_types.Named.{fresh}
 use Rattle.operation_check.specs.of_written_types.Written.{whole_type}
-use Rattle.operation_check.specs.of_body_check.Bodies.{body_of}
 use Rattle.script_program.specs.Limits.{most_collections, most_files}
 use Rattle.script_program.specs.declared.made.Standing.TheVariants.{Hidden}
 use Rattle.script_program.specs.Script.{Making, Operand, State, with_hidden, with_name}
@@ -21,7 +20,7 @@ use Rattle.script_program.specs.Script.{with_node, with_nodes}
 use Rattle.script_rules.specs.Operations.{collection, made_by}
 use Rattle.script_rules.specs.Rules as spec
 use Rattle.script_rules.proofs.CheckedLemmas.{both, ok-same}
-use Rattle.script_rules.proofs.FoundLemmas.{before, found}
+use Rattle.script_rules.proofs.FoundLemmas.{before, found, ruled}
 
 nodes-count : (names : List (List ℕ)) (makings : List Making) (s : State)
     → s.statements ≡ (with_nodes names makings s).statements
@@ -64,13 +63,7 @@ module _ (line : ℕ) (s after : State) where
   function-count : (function : Written) → spec.rule_function line function s ≡ Ok after
       → count s ≡ count after
   function-count function e =
-      let signature = both (spec.signature_of line function s) _ after e in
-      let takes = signature.part.takes in
-      let gives = signature.part.gives in
-      let body =
-      both (body_of s.types function.argument takes gives function.body) _ after
-      signature.then in
-      ap count (ok-same _ after body.then)
+      ap count (ruled line function s after e).is
 
   named-count : (names : List (List ℕ)) (by : Operation) → spec.named line names by s ≡ Ok after
       → count s ≡ count after

@@ -17,11 +17,19 @@ pub fn check(alloc: Global, ast: Ast) -> Result<Program, ScriptFault>
     ensures { Gives (λ program. program.script) result (spec.script_of ast.statements) }
 {
     let mut state = State::new(alloc);
-    define(alloc, ast.statements, &mut state)?;
-    if state.output_count() == 0 {
-        return Err(refused(0, ScriptKind::NoOutput));
+    match define(alloc, ast.statements, &mut state) {
+        Ok(()) => {
+            if state.output_count() == 0 {
+                drop(state);
+                return Err(refused(0, ScriptKind::NoOutput));
+            }
+            Ok(state.into_program(alloc)?)
+        }
+        Err(fault) => {
+            drop(state);
+            Err(fault)
+        }
     }
-    Ok(state.into_program(alloc)?)
 }
 
 /// Statements in order, behind none.

@@ -25,10 +25,22 @@ pub fn rule(alloc: Global, statement: Statement, state: &mut State) -> Result<()
 {
     let Statement { line, form } = statement;
     match form {
-        Form::Type(name, ty) => rule_type(alloc, line, name, &ty, state),
-        Form::Input(name, ty, file) => rule_input(alloc, line, name, &ty, file, state),
+        Form::Type(name, ty) => {
+            let ruled = rule_type(alloc, line, name, &ty, state);
+            drop(ty);
+            ruled
+        }
+        Form::Input(name, ty, file) => {
+            let ruled = rule_input(alloc, line, name, &ty, file, state);
+            drop(ty);
+            ruled
+        }
         Form::Function(function) => rule_function(alloc, line, function, state),
-        Form::Let(names, by) => rule_let(alloc, line, names, &by, state),
+        Form::Let(names, by) => {
+            let ruled = rule_let(alloc, line, names, &by, state);
+            drop(by);
+            ruled
+        }
         Form::Repeat(names, written) => rule_repeat(alloc, line, names, written, state),
         Form::Output(name, file) => rule_output(alloc, line, name, file, state),
     }
@@ -93,9 +105,16 @@ fn rule_function(
     ensures { Gives (λ _. state.new.state) result
         (spec.rule_function line function state.old.state) }
 {
-    let (signature, fun) = checked(alloc, line, &function, state)?;
-    state.add_function(function, signature, fun)?;
-    Ok(())
+    match checked(alloc, line, &function, state) {
+        Ok((signature, fun)) => {
+            state.add_function(function, signature, fun)?;
+            Ok(())
+        }
+        Err(fault) => {
+            drop(function);
+            Err(fault)
+        }
+    }
 }
 
 fn rule_let(

@@ -4,7 +4,7 @@ ghost use Rattle.operation_check.specs.of_expression_types.Held.{AreTypes};
 ghost use Rattle.type_table.specs.Table.{type_at, Extends};
 ghost use Rattle.operation_check.specs.of_written_types.Answer.{Gives};
 ghost use Rattle.operation_check.specs.of_written_types.Named.{find};
-ghost use Rattle.script_program.specs.Program.{signature_in, HasTypes, Does};
+ghost use Rattle.script_program.specs.Program.{signature_in, HasTypes, DoesAsWritten};
 ghost use Rattle.script_program.specs.Script.{function_from, with_function};
 ghost use Rattle.script_rules.specs.Rules as spec;
 
@@ -32,7 +32,7 @@ pub fn checked(
     ensures new { OnOk result
         (is_some (find function.now.name state.old.state.functions) ≡ false) }
     ensures within { IfOk result (λ it. HasTypes state.new.types it.0) }
-    ensures does { IfOk result (λ it. Does it.1 (function_from function.now
+    ensures does { IfOk result (λ it. DoesAsWritten it.1 (function_from function.now
         (signature_in state.new.types it.0) state.old.state)) }
     ensures state { state.new.state ≡ state.old.state }
 {

@@ -13,7 +13,7 @@ use Rattle.dofn_eval.specs.Function.{Function as Fun}
 use Rattle.dofn_eval.specs.Outcome.{Gives, IsFaultIn}
 use Rattle.dofn_eval.specs.Run.{means}
 use Rattle.forest_steps.specs.Functions.{IsCallFault}
-use Rattle.build_law.specs.of_script_program.Program.{Does}
+use Rattle.build_law.specs.of_script_program.Program.{DoesAsWritten}
 use Rattle.build_law.specs.of_script_program.Script.{Function}
 use Rattle.build_law.specs.of_script_laws.WellFormed.{function_at}
 use Rattle.build_law.proofs.of_direct_meaning.CallLemmas.{gives_answer, same_answer, traps_answer}
@@ -22,7 +22,7 @@ use Rattle.build_law.specs.Worlds.{answered_by, or_silent}
 -- ---- a function's number
 
 module _ (found : Option Function) (function : Function) (at : found ≡ Some function) (fun : Fun)
-    (does : Does fun function) (x : Value) where
+    (does : DoesAsWritten fun function) (x : Value) where
   answered : (called : Called) → answered_by (Some function) x ≡ called
       → answered_by found x ≡ called
   answered called is = ap (λ (o : Option Function). answered_by o x) at ∙ is

@@ -6,7 +6,7 @@ use Rattle.flume_value.specs.declared.value.Value.{Value}
 use Rattle.flume_types.specs.declared.types.Ty.{Ty}
 use Rattle.flume_types.specs.Typing.{AllHave, Has}
 use Rattle.flume_collection.specs.Calls.{Called}
-use Rattle.exec_graph.specs.Typing.{IsWorldTyped, Answers}
+use Rattle.exec_graph.specs.Typing.{IsWorldTyped, EmitsTyped}
 use Rattle.build_law.specs.of_script_program.Script.{Function, Script}
 use Rattle.build_law.specs.of_script_laws.WellFormed.{IsWellFormed, IsWellTyped, function_at}
 use Rattle.build_law.specs.of_direct_meaning.Calls.{answer_of}
@@ -30,21 +30,21 @@ lists_typed (one ∷ sources) (list ∷ lists) have (suc r) = lists_typed source
 
 -- ---- calls
 
-answer_typed : (gives : List Ty) (called : Called) → CalledOf gives called → Answers gives called
+answer_typed : (gives : List Ty) (called : Called) → CalledOf gives called → EmitsTyped gives called
 answer_typed gives (Ok lists) has = has
 answer_typed gives (Err trap) has = tt
 
 call_typed : (function : Function) → IsWellTyped function → (x : Value)
     → Has function.signature.takes x
-    → Answers function.signature.gives (or_silent (answer_of function x))
+    → EmitsTyped function.signature.gives (or_silent (answer_of function x))
 call_typed function typed x has =
     let it = answers function typed x has in
-    subst (λ o. Answers function.signature.gives (or_silent o)) (sym it.is)
+    subst (λ o. EmitsTyped function.signature.gives (or_silent o)) (sym it.is)
     (answer_typed function.signature.gives it.called it.has)
 
 function_typed : (found : Option Function)
     → ((function : Function) → found ≡ Some function → IsWellTyped function)
-    → (x : Value) → Has (taken_by found) x → Answers (given_by found) (answered_by found x)
+    → (x : Value) → Has (taken_by found) x → EmitsTyped (given_by found) (answered_by found x)
 function_typed None typed x has = tt
 function_typed (Some function) typed x has = call_typed function (typed function refl) x has
 

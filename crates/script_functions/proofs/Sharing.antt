@@ -7,16 +7,11 @@ use Rattle.flume_value.specs.contracts.value.Value as value
 use Rattle.flume_value.proofs.value.Value.TheLaws.TheKnot as value_knot
 use Rattle.flume_value.proofs.CrossLemmas.{Held-sync, Pile-sync, Str-sync}
 use Rattle.flume_grammar.specs.contracts.tree.Type as type
-use Rattle.flume_grammar.specs.contracts.tree.Binary as operator
-use Rattle.flume_grammar.specs.contracts.tree.Unary as prefix
-use Rattle.flume_grammar.specs.contracts.tree.Side as side
 use Rattle.flume_grammar.specs.contracts.tree.Expr as written
 use Rattle.flume_grammar.specs.contracts.tree.Body as body
 use Rattle.flume_grammar.proofs.tree.Type.TheLaws.TheKnot as type_knot
 use Rattle.flume_grammar.proofs.tree.Expr.TheLaws.TheKnot as written_knot
 use Rattle.flume_grammar.proofs.tree.Body.TheLaws.TheKnot as body_knot
-use Rattle.dofn_eval.specs.contracts.expr.Unary as unary
-use Rattle.dofn_eval.specs.contracts.expr.Binary as binary
 use Rattle.dofn_eval.specs.contracts.expr.Expr as expr
 use Rattle.dofn_eval.specs.contracts.stmt.Stmt as stmt
 use Rattle.dofn_eval.specs.contracts.fun.Fun as fun
@@ -36,15 +31,8 @@ ruleset parts = (Str-sync, Pile-sync, Held-sync)
 Value-sync : IsSync (value.the_field).row
 Value-sync = search (sendable, value_knot.crosses, parts) depth 60
 
-Unary-sync : IsSync (unary.the_field).row
-Unary-sync = search sendable depth 60
-
-Binary-sync : IsSync (binary.the_field).row
-Binary-sync = search sendable depth 60
-
 Expr-sync : IsSync (expr.the_field).row
-Expr-sync =
-    search (sendable, expr_knot.crosses, parts, Value-sync, Unary-sync, Binary-sync) depth 60
+Expr-sync = search (sendable, expr_knot.crosses, parts, Value-sync) depth 60
 
 Stmt-sync : IsSync (stmt.the_field).row
 Stmt-sync = search (sendable, stmt_knot.crosses, parts, Expr-sync) depth 60
@@ -57,20 +45,8 @@ Fun-sync = search (sendable, parts, Stmt-sync) depth 60
 Type-sync : IsSync (type.the_field).row
 Type-sync = search (sendable, type_knot.crosses, parts) depth 60
 
-Operator-sync : IsSync (operator.the_field).row
-Operator-sync = search sendable depth 60
-
-Prefix-sync : IsSync (prefix.the_field).row
-Prefix-sync = search sendable depth 60
-
-Side-sync : IsSync (side.the_field).row
-Side-sync = search sendable depth 60
-
 Written-sync : IsSync (written.the_field).row
-Written-sync =
-    search
-    (sendable, written_knot.crosses, parts, Type-sync, Operator-sync, Prefix-sync, Side-sync)
-    depth 60
+Written-sync = search (sendable, written_knot.crosses, parts, Type-sync) depth 60
 
 Body-sync : IsSync (body.the_field).row
 Body-sync = search (sendable, crosses, body_knot.crosses, parts, Written-sync) depth 60

@@ -1,6 +1,6 @@
 // The functions of a script, by their numbers.
 ghost use Rattle.std.specs.Prelude.{◌≡◌, ◌∷◌, [], IfErr, IfOk, length};
-ghost use Rattle.dofn_eval.specs.Function.{Accepts};
+ghost use Rattle.dofn_eval.specs.Function.{CanBeCalledOn};
 ghost use Rattle.dofn_eval.specs.Outcome.{Gives, IsFaultIn};
 ghost use Rattle.dofn_eval.specs.Run.{means};
 ghost use Rattle.forest_steps.specs.Answers.{lists_of};
@@ -72,7 +72,7 @@ impl<'a> Functions for ScriptFunctions<'a> {
 
 /// What a call of a function gives to each of its outputs, in order, or its trap.
 fn call_function(alloc: Global, fun: &Fun, element: &Value) -> Result<Answer, CallFault>
-    requires { Accepts fun.now element.now }
+    requires { CanBeCalledOn fun.now element.now }
     ensures emissions { IfOk result (λ answer.
         means fun.now.outputs fun.now.body element.now ≡ Gives (lists_of answer)) }
     ensures trap { IfErr result (IsFaultIn (means fun.now.outputs fun.now.body element.now)) }
@@ -85,7 +85,7 @@ fn call_function(alloc: Global, fun: &Fun, element: &Value) -> Result<Answer, Ca
 
 /// The same of any function: its statements run one after another.
 fn run_body(alloc: Global, fun: &Fun, element: &Value) -> Result<Answer, CallFault>
-    requires { Accepts fun.now element.now }
+    requires { CanBeCalledOn fun.now element.now }
     ensures emissions { IfOk result (λ answer.
         means fun.now.outputs fun.now.body element.now ≡ Gives (lists_of answer)) }
     ensures trap { IfErr result (IsFaultIn (means fun.now.outputs fun.now.body element.now)) }

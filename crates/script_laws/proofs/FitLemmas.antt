@@ -12,7 +12,7 @@ use Rattle.script_rules.specs.of_script_program.declared.made.Made.TheVariants a
 use Rattle.script_rules.specs.of_script_program.declared.made.Output.{Output}
 use Rattle.script_rules.specs.of_script_program.Script.{Function, Node}
 use Rattle.script_rules.specs.Repeats.{renumbered}
-use Rattle.script_laws.specs.WellFormed.{Fits, AllFit, AllReadKinds, HasColumns, IsKept, function_at}
+use Rattle.script_laws.specs.WellFormed.{Fits, AllFit, AllReadKinds, HasColumns, ComesOfEarlierRun, function_at}
 use Rattle.script_laws.specs.WellFormed.{members_at}
 use Rattle.script_laws.proofs.PlaceLemmas.{mapped-kept}
 
@@ -31,8 +31,8 @@ module _ (functions others : Named Function) (a b : Named Node) (to : ℕ → �
     all-reads (object ∷ objects) (t ∷ types) all =
         (reads object t all.0, all-reads objects types all.1)
 
-    kept-fits : (call : Option Emitted) (type : Ty) → IsKept functions call type
-        → IsKept others call type
+    kept-fits : (call : Option Emitted) (type : Ty) → ComesOfEarlierRun functions call type
+        → ComesOfEarlierRun others call type
     kept-fits None type kept = tt
     kept-fits (Some it) type kept = record {
       function = kept.function;

@@ -31,9 +31,8 @@ pub record IsAlone (functions : Named Function) (nodes : Named Node)
     (makings : List Making) : Type 0 where
   pub making : Making
   pub are : makings ≡ making ∷ []
-  pub fits : Fits functions nodes making.made making.type
-  pub other : IsOther making.made
-  pub kinds : ReadsKinds nodes making.made
+  pub makes : MakingFits functions nodes making
+  pub open makes use *
 
 -- the outputs of a call
 pub record AreOutputs (functions : Named Function) (nodes : Named Node)

@@ -6,12 +6,13 @@ use Rattle.std.specs.List.{All}
 use Rattle.std.proofs.lemmas.Bool.{leb-true}
 use Rattle.std.proofs.lemmas.List.Elements.{All-push, All-nil, recursion_from_All}
 use Rattle.flume_value.proofs.BoolLemmas.{both_true}
+use Rattle.combine_table.specs.declared.comb.Comb.{Comb}
 use Rattle.flume_grammar.specs.declared.tree.Operation.{Operation}
 use Rattle.flume_grammar.specs.declared.tree.Operation.TheVariants as operation
 use Rattle.flume_grammar.specs.declared.fault.ScriptKind.TheVariants.{BadNumber}
 use Rattle.flume_grammar.specs.declared.tree.Combiner.{Combiner}
 use Rattle.int_text.specs.Ints.{int_of_text}
-use Rattle.script_rules.specs.of_written_types.Answer.{Checked}
+use Rattle.script_rules.specs.of_written_types.Answer.{Checked, ◌>>=◌}
 use Rattle.script_rules.specs.of_expression_check.Numbers.{within}
 use Rattle.script_rules.specs.of_script_program.Script.{State, Operand, Making}
 use Rattle.script_rules.specs.Operations as spec
@@ -92,13 +93,27 @@ module _ (line : ℕ) (s : State) where
       group-fits line s.functions s.nodes one.part making
       (is-read line s source one.part one.first) one.then
 
-  combined-fits : (source : List ℕ) (combiner : Combiner) (making : Making)
-      → spec.combined line source combiner s ≡ Ok making → Makes making
-  combined-fits source combiner making e =
-      let one = both (spec.collection line source s) _ making e in
-      let by = both (spec.comb_of line combiner) _ making one.then in
-      combine-fits line s.functions s.nodes one.part by.part making
-      (is-read line s source one.part one.first) by.then
+  -- what two results make, one behind the other
+  of-two : {A B C : Type 0} (P : C → Type 0) (a : Checked A) (b : Checked B)
+      (of : A → B → Checked C)
+      → ((x : A) (y : B) (z : C) → a ≡ Ok x → b ≡ Ok y → of x y ≡ Ok z → P z)
+      → (z : C) → (a >>= (λ x. b >>= of x)) ≡ Ok z → P z
+  of-two P a b of each z e =
+      let one = both a _ z e in
+      let two = both b _ z one.then in
+      each one.part two.part z one.first two.first two.then
+
+  -- what is made of a collection by a combiner
+  combined-fits : (of : Operand → Comb → Checked Making)
+      → ((one : Operand) (by : Comb) (making : Making) → IsRead s.nodes one
+      → of one by ≡ Ok making → Makes making)
+      → (source : List ℕ) (combiner : Combiner) (making : Making)
+      → (spec.collection line source s >>= (λ one. spec.comb_of line combiner >>= of one))
+      ≡ Ok making
+      → Makes making
+  combined-fits of fits source combiner =
+      of-two Makes (spec.collection line source s) (spec.comb_of line combiner) of
+      (λ one by making first second. fits one by making (is-read line s source one first))
 
   counted-fits : (source : List ℕ) (making : Making) → spec.counted line source s ≡ Ok making
       → Makes making
@@ -112,12 +127,12 @@ module _ (line : ℕ) (s : State) where
 
   joined-fits : (left right : List ℕ) (making : Making) → spec.joined line left right s ≡ Ok making
       → Makes making
-  joined-fits left right making e =
-      let one = both (spec.collection line left s) _ making e in
-      let other = both (spec.collection line right s) _ making one.then in
-      join-fits line s.functions s.nodes one.part other.part making
-      (is-read line s left one.part one.first) (is-read line s right other.part other.first)
-      other.then
+  joined-fits left right =
+      of-two Makes (spec.collection line left s) (spec.collection line right s)
+      (spec.join_of line)
+      (λ one other making first second.
+      join-fits line s.functions s.nodes one other making (is-read line s left one first)
+      (is-read line s right other second))
 
   greatest-fits : (digits source : List ℕ) (making : Making)
       → spec.greatest line digits source s ≡ Ok making → Makes making
@@ -129,14 +144,6 @@ module _ (line : ℕ) (s : State) where
       subst Makes (ok-same _ making plain.then)
       (top-fits digits one.part number.part reads
       (plain-read s.nodes line one.part plain.part reads plain.first) number.first)
-
-  whole-fits : (source : List ℕ) (combiner : Combiner) (making : Making)
-      → spec.combined_whole line source combiner s ≡ Ok making → Makes making
-  whole-fits source combiner making e =
-      let one = both (spec.collection line source s) _ making e in
-      let by = both (spec.comb_of line combiner) _ making one.then in
-      combine-all-fits line s.functions s.nodes one.part by.part making
-      (is-read line s source one.part one.first) by.then
 
   operated-fits : (names : List (List ℕ)) (function : List ℕ) (making : Making)
       → spec.operated line names function s ≡ Ok making → Makes making
@@ -169,31 +176,30 @@ module _ (line : ℕ) (s : State) where
       → IsMade makings
   alone-made r makings makes e =
       let one = both r _ makings e in
-      let fits = makes one.part one.first in
       inl (record {
         making = one.part;
         are = sym (ok-same _ makings one.then);
-        fits = fits.fits;
-        other = fits.other;
-        kinds = fits.kinds;
+        makes = makes one.part one.first;
       })
 
   done-makes : (source function : List ℕ) (makings : List Making)
       → spec.done line source function s ≡ Ok makings
       → AreOutputs s.functions s.nodes makings
-  done-makes source function makings e =
-      let one = both (spec.collection line source s) _ makings e in
-      let by = both (spec.callee line function s) _ makings one.then in
-      do-makes line s.functions s.nodes one.part by.part makings
-      (is-read line s source one.part one.first) (is-callee line s function by.part by.first)
-      by.then
+  done-makes source function =
+      of-two (AreOutputs s.functions s.nodes) (spec.collection line source s)
+      (spec.callee line function s) (spec.do_of line)
+      (λ one by makings first second.
+      do-makes line s.functions s.nodes one by makings (is-read line s source one first)
+      (is-callee line s function by second))
 
   pub made-is : (by : Operation) (makings : List Making) → spec.made_by line by s ≡ Ok makings
       → IsMade makings
   made-is (operation.Do source function) makings e = inr (done-makes source function makings e)
   made-is (operation.Group source) makings e = alone-made _ makings (grouped-fits source) e
   made-is (operation.Combine source combiner) makings e =
-      alone-made _ makings (combined-fits source combiner) e
+      alone-made _ makings
+      (combined-fits (spec.combine_of line) (combine-fits line s.functions s.nodes) source combiner)
+      e
   made-is (operation.Flatten sources) makings e =
       alone-made _ makings (flattened-fits sources) e
   made-is (operation.Count source) makings e = alone-made _ makings (counted-fits source) e
@@ -202,7 +208,9 @@ module _ (line : ℕ) (s : State) where
   made-is (operation.Top digits source) makings e =
       alone-made _ makings (greatest-fits digits source) e
   made-is (operation.CombineAll source combiner) makings e =
-      alone-made _ makings (whole-fits source combiner) e
+      alone-made _ makings
+      (combined-fits (spec.combine_all_of line) (combine-all-fits line s.functions s.nodes) source
+      combiner) e
   made-is (operation.Operate objects function) makings e =
       alone-made _ makings (operated-fits objects function) e
   made-is (operation.DoWith source function object) makings e =

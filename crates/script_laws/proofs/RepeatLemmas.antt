@@ -23,7 +23,7 @@ use Rattle.script_rules.specs.Operations.{collection, collections_behind, number
 use Rattle.script_rules.specs.Repeats.{Repeat, copied, nodes_left, turn_gives, turn_nodes, turn_to}
 use Rattle.script_rules.specs.Repeats.{unrolled}
 use Rattle.script_rules.specs.Rules as spec
-use Rattle.script_rules.proofs.CheckedLemmas.{both, holds, ok-same}
+use Rattle.script_rules.proofs.CheckedLemmas.{both, holds, ok-same, there}
 use Rattle.script_rules.proofs.StateLemmas.{nodes-hidden}
 use Rattle.script_rules.proofs.FoundLemmas.{before, found, own}
 use Rattle.script_laws.specs.Fitting.{AreInPlace, IsOfType, RepeatFits, lets_of}
@@ -37,7 +37,7 @@ use Rattle.script_laws.proofs.TypeLemmas.{same-types}
 
 -- ---- names that are taken
 
-functions-hidden : (names : List (List ℕ)) (s : State)
+pub functions-hidden : (names : List (List ℕ)) (s : State)
     → (with_hidden names s).functions ≡ s.functions
 functions-hidden [] s = refl
 functions-hidden (name ∷ names) s = functions-hidden names (with_name name Hidden s)
@@ -102,7 +102,7 @@ module _ (nodes : Named Node) (statement : ℕ) where
       )
 
 -- as many collections are found as names are asked for
-found-many : (line : ℕ) (s : State) (found : List Operand) (names : List (List ℕ))
+pub found-many : (line : ℕ) (s : State) (found : List Operand) (names : List (List ℕ))
     (all : List Operand) → collections_behind line found names s ≡ Ok all
     → length all ≡ length found + length names
 found-many line s found [] all e =
@@ -142,15 +142,24 @@ turns-long repeat (suc left) turn entering start =
 
 -- ---- the whole
 
--- what enters a repeat are collections outside, as many as names in the body
-record IsEntry (nodes : Named Node) (written : WrittenRepeat) (entry : spec.Entry) : Type 0 where
-  pub read : Each (IsRead nodes) entry.from
-  pub many : length written.entering ≡ length entry.from
+-- what enters a repeat: as many collections as it has names, which were free
+pub record HasEntry (line : ℕ) (names : List (List ℕ)) (written : WrittenRepeat) (s : State)
+    (entry : spec.Entry) : Type 0 where
+  pub outer : Unit {0}
+  pub outer_fresh : spec.all_fresh line (keys_of s.names) names ≡ Ok outer
+  pub inner : Unit {0}
+  pub inner_fresh : spec.all_fresh line (keys_of (with_hidden names s).names) written.entering
+      ≡ Ok inner
+  pub from : collections_behind line [] written.from (with_hidden names s) ≡ Ok entry.from
+  pub turns : number_within 1 256 written.turns ≡ Some entry.turns
+  pub many : length entry.from ≡ length names
+  pub entering : length written.entering ≡ length names
+  pub gives : length written.gives ≡ length names
 
-is-entry : (line : ℕ) (names : List (List ℕ)) (written : WrittenRepeat) (s : State)
+pub has-entry : (line : ℕ) (names : List (List ℕ)) (written : WrittenRepeat) (s : State)
     (entry : spec.Entry) → spec.entry_of line names written s ≡ Ok entry
-    → IsEntry s.nodes written entry
-is-entry line names written s entry e =
+    → HasEntry line names written s entry
+has-entry line names written s entry e =
     let hidden = with_hidden names s in
     let new = both (spec.all_fresh line (keys_of s.names) names) _ entry e in
     let free = both (spec.all_fresh line (keys_of hidden.names) written.entering) _ entry
@@ -164,18 +173,39 @@ is-entry line names written s entry e =
     both_true (eqb (length written.from) (length names)) _
     (holds line Mistyped _ many.part many.first) in
     let others = both_true (eqb (length written.entering) (length names)) _ counts.1 in
-    subst (IsEntry s.nodes written) (ok-same _ entry many.then) (record {
-      read =
-          subst (λ nodes. Each (IsRead nodes) from.part) (nodes-hidden names s)
-          (are-read line hidden written.from from.part from.first);
+    subst (HasEntry line names written s) (ok-same _ entry many.then) (record {
+      outer = new.part;
+      outer_fresh = new.first;
+      inner = free.part;
+      inner_fresh = free.first;
+      from = from.first;
+      turns = there line BadNumber _ turns.part turns.first;
       many =
           omega (
             arith,
             found-many line hidden [] written.from from.part from.first,
             eqb-true (length written.from) (length names) counts.0,
-            eqb-true (length written.entering) (length names) others.0,
           );
+      entering = eqb-true (length written.entering) (length names) others.0;
+      gives = eqb-true (length written.gives) (length names) others.1;
     })
+
+-- what enters a repeat are collections outside, as many as names in the body
+record IsEntry (nodes : Named Node) (written : WrittenRepeat) (entry : spec.Entry) : Type 0 where
+  pub read : Each (IsRead nodes) entry.from
+  pub many : length written.entering ≡ length entry.from
+
+is-entry : (line : ℕ) (names : List (List ℕ)) (written : WrittenRepeat) (s : State)
+    (entry : spec.Entry) → spec.entry_of line names written s ≡ Ok entry
+    → IsEntry s.nodes written entry
+is-entry line names written s entry e =
+    let it = has-entry line names written s entry e in
+    record {
+      read =
+          subst (λ nodes. Each (IsRead nodes) entry.from) (nodes-hidden names s)
+          (are-read line (with_hidden names s) written.from entry.from it.from);
+      many = it.entering ∙ sym it.many;
+    }
 
 -- the turns of a repeat that fits stand behind the collections there are
 pub record HasTurns (s after : State) (repeat : Repeat) : Type 0 where

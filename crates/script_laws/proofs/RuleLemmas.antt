@@ -49,17 +49,22 @@ use Rattle.script_laws.proofs.RepeatLemmas.{has-turns, turns-long}
 use Rattle.script_laws.proofs.UnsavedLemmas.{AreUnsaved, both-unsaved, places-unsaved}
 use Rattle.script_laws.proofs.UnsavedLemmas.{turns-unsaved}
 
+-- functions and collections that are well formed
+record AreMade (defined : Named Function) (made_ : Named Node) : Type 0 where
+  pub functions : All (λ (entry : List ℕ × Function). IsWellTyped entry.1) defined
+  pub gives : All (λ (entry : List ℕ × Function). HasOutputs entry.1) defined
+  pub nodes : AllFit defined [] made_
+  pub kinds : AllReadKinds [] made_
+  pub calls : CallsStand defined (map how_made made_)
+  pub unsaved : AreUnsaved made_
+  pub few : length made_ ≤ most_collections
+
 -- what is defined so far is well formed
 record AreGood (defined : Named Function) (made_ : Named Node) (written : Named Output) : Type 0
   where
-    pub functions : All (λ (entry : List ℕ × Function). IsWellTyped entry.1) defined
-    pub gives : All (λ (entry : List ℕ × Function). HasOutputs entry.1) defined
-    pub nodes : AllFit defined [] made_
-    pub kinds : AllReadKinds [] made_
-    pub calls : CallsStand defined (map how_made made_)
-    pub unsaved : AreUnsaved made_
+    pub made_well : AreMade defined made_
+    pub open made_well use *
     pub outputs : All (λ (entry : List ℕ × Output). HasColumns made_ entry.1) written
-    pub few : length made_ ≤ most_collections
 
 abbrev IsGood : State → Type 0
 IsGood s = AreGood s.functions s.nodes s.outputs
@@ -78,14 +83,16 @@ nodes-more : (s after : State) (more : Named Node) → IsGood s → AllFit s.fun
     → length after.nodes ≤ most_collections → IsGood after
 nodes-more s after more good fits kinds calls unsaved nodes functions outputs few =
     let all : AreGood s.functions (s.nodes ++ more) s.outputs = record {
-      functions = good.functions;
-      gives = good.gives;
-      nodes = fit-append s.functions [] s.nodes more good.nodes fits;
-      kinds = kinds-append [] s.nodes more good.kinds kinds;
-      calls = subst (CallsStand s.functions) (sym (map-append how_made s.nodes more)) calls;
-      unsaved = both-unsaved s.nodes more good.unsaved unsaved;
+      made_well = record {
+        functions = good.functions;
+        gives = good.gives;
+        nodes = fit-append s.functions [] s.nodes more good.nodes fits;
+        kinds = kinds-append [] s.nodes more good.kinds kinds;
+        calls = subst (CallsStand s.functions) (sym (map-append how_made s.nodes more)) calls;
+        unsaved = both-unsaved s.nodes more good.unsaved unsaved;
+        few = subst (λ all. length all ≤ most_collections) nodes few;
+      };
       outputs = outputs-kept s.nodes more s.outputs good.outputs;
-      few = subst (λ all. length all ≤ most_collections) nodes few;
     } in
     subst (AreGood after.functions after.nodes) (sym outputs)
     (subst (λ all. AreGood after.functions all s.outputs) (sym nodes)
@@ -165,18 +172,20 @@ module _ (line : ℕ) (s after : State) (good : IsGood s) where
       let it = ruled line function s after e in
       let many = signature-good function it.signature it.signed in
       subst IsGood it.is (record {
-        functions =
-            All-push (λ (entry : List ℕ × Function). IsWellTyped entry.1) s.functions _
-            good.functions it.typed;
-        gives =
-            All-push (λ (entry : List ℕ × Function). HasOutputs entry.1) s.functions _
-            good.gives (record { some = many.0; few = many.1 });
-        nodes = all-fit-more s.functions _ [] s.nodes good.nodes;
-        kinds = good.kinds;
-        calls = calls-more s.functions _ (map how_made s.nodes) good.calls;
-        unsaved = good.unsaved;
+        made_well = record {
+          functions =
+              All-push (λ (entry : List ℕ × Function). IsWellTyped entry.1) s.functions _
+              good.functions it.typed;
+          gives =
+              All-push (λ (entry : List ℕ × Function). HasOutputs entry.1) s.functions _
+              good.gives (record { some = many.0; few = many.1 });
+          nodes = all-fit-more s.functions _ [] s.nodes good.nodes;
+          kinds = good.kinds;
+          calls = calls-more s.functions _ (map how_made s.nodes) good.calls;
+          unsaved = good.unsaved;
+          few = good.few;
+        };
         outputs = good.outputs;
-        few = good.few;
       })
 
   let-good : (names : List (List ℕ)) (by : Operation) → spec.rule_let line names by s ≡ Ok after
@@ -219,12 +228,7 @@ module _ (line : ℕ) (s after : State) (good : IsGood s) where
       let columns = both (or_fault line NotFlat (columns_of one.part.type)) _ after one.then in
       let new = both (fresh line file s.outputs) _ after columns.then in
       subst IsGood (ok-same _ after new.then) (record {
-        functions = good.functions;
-        gives = good.gives;
-        nodes = good.nodes;
-        kinds = good.kinds;
-        calls = good.calls;
-        unsaved = good.unsaved;
+        made_well = good.made_well;
         outputs =
             All-push (λ (entry : List ℕ × Output). HasColumns s.nodes entry.1) s.outputs _
             good.outputs
@@ -233,7 +237,6 @@ module _ (line : ℕ) (s after : State) (good : IsGood s) where
               reads = (is-read line s name one.part one.first).members;
               columns = there line NotFlat _ columns.part columns.first;
             });
-        few = good.few;
       })
 
   rule-good : (form : Form) → spec.rule line form s ≡ Ok after → IsGood after
@@ -254,14 +257,16 @@ defined-good (statement ∷ rest) s after good e =
 
 nothing-good : IsGood nothing
 nothing-good = record {
-  functions = All-nil (λ (entry : List ℕ × Function). IsWellTyped entry.1);
-  gives = All-nil (λ (entry : List ℕ × Function). HasOutputs entry.1);
-  nodes = tt;
-  kinds = tt;
-  calls = λ number source called output is. cc;
-  unsaved = tt;
+  made_well = record {
+    functions = All-nil (λ (entry : List ℕ × Function). IsWellTyped entry.1);
+    gives = All-nil (λ (entry : List ℕ × Function). HasOutputs entry.1);
+    nodes = tt;
+    kinds = tt;
+    calls = λ number source called output is. cc;
+    unsaved = tt;
+    few = omega arith;
+  };
   outputs = All-nil (λ (entry : List ℕ × Output). HasColumns [] entry.1);
-  few = omega arith;
 }
 
 -- ---- calls, where nothing is kept

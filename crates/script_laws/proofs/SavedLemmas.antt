@@ -16,7 +16,7 @@ use Rattle.script_rules.specs.of_script_program.Kinds.{emitted_as, gives_object,
 use Rattle.script_rules.specs.of_script_program.Needed.{has, made_of}
 use Rattle.script_rules.specs.of_script_program.Saved.{saved_as, saved_from, saved_node, with_saved}
 use Rattle.script_rules.specs.of_script_program.Script.{Function, Node, Script}
-use Rattle.script_laws.specs.WellFormed.{AllFit, AllReadKinds, Fits, HasColumns, IsCallOf, IsKept}
+use Rattle.script_laws.specs.WellFormed.{AllFit, AllReadKinds, Fits, HasColumns, IsCallOf, ComesOfEarlierRun}
 use Rattle.script_laws.specs.WellFormed.{IsNameOf, IsWellFormed, ReadsKinds, object_at}
 use Rattle.script_laws.proofs.FitLemmas.{fits-there}
 
@@ -66,7 +66,7 @@ length-saved found n (entry ∷ nodes) = ap suc (length-saved found (suc n) node
 
 -- what is kept of it fits
 kept-fits : (functions : Named Function) (nodes : Named Node) (how : Made) (type : Ty)
-    → Fits functions nodes how type → IsKept functions (emitted_as how) type
+    → Fits functions nodes how type → ComesOfEarlierRun functions (emitted_as how) type
 kept-fits functions nodes (made.Do source function output) type f =
     record { function = f.function; calls = f.calls; gives = f.gives }
 kept-fits functions nodes (made.Saved is_object call) type f = f

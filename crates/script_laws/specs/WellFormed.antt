@@ -43,7 +43,7 @@ function_at functions number = option_map (λ entry. entry.1) (slice_get functio
 -- ---- how a collection is made
 
 -- by a function that takes the members and gives this type to the output of that number
-pub record IsDone (functions : Named Function) (nodes : Named Node)
+pub record ComesOfDo (functions : Named Function) (nodes : Named Node)
     (source called output : ℕ) (type : Ty) : Type 0 where
   pub function : Function
   pub calls : function_at functions called ≡ Some function
@@ -51,14 +51,14 @@ pub record IsDone (functions : Named Function) (nodes : Named Node)
   pub gives : slice_get function.signature.gives output ≡ Some type
 
 -- as the groups of a table
-pub record IsGrouped (nodes : Named Node) (source : ℕ) (type : Ty) : Type 0 where
+pub record ComesOfGroup (nodes : Named Node) (source : ℕ) (type : Ty) : Type 0 where
   pub key : Ty
   pub value : Ty
   pub reads : members_at nodes source ≡ Some (table_of key value)
   pub gives : type ≡ table_of key (ty.List value)
 
 -- by combining the lists of groups, whose members suit the combiner
-pub record IsCombined (nodes : Named Node) (source : ℕ) (by : Comb) (type : Ty) : Type 0 where
+pub record ComesOfCombine (nodes : Named Node) (source : ℕ) (by : Comb) (type : Ty) : Type 0 where
   pub key : Ty
   pub member : Ty
   pub value : Ty
@@ -93,7 +93,8 @@ pub record IsTop (nodes : Named Node) (number source : ℕ) (type : Ty) : Type 0
   pub reads : members_at nodes source ≡ Some type
 
 -- as what a combiner makes of all members, which suit it
-pub record IsWhole (nodes : Named Node) (source : ℕ) (by : Comb) (type : Ty) : Type 0 where
+pub record ComesOfCombineAll (nodes : Named Node) (source : ℕ) (by : Comb) (type : Ty)
+    : Type 0 where
   pub member : Ty
   pub reads : members_at nodes source ≡ Some member
   pub suits : combined_type by member ≡ Some type
@@ -140,27 +141,27 @@ pub record IsEmitted (functions : Named Function) (it : Emitted) (type : Ty) : T
   pub gives : slice_get function.signature.gives it.output ≡ Some type
 
 -- as an earlier run has kept it, which was an output of a call or not
-abbrev pub IsKept : Named Function → Option Emitted → Ty → Type 0
-IsKept functions None type = ⊤
-IsKept functions (Some it) type = IsEmitted functions it type
+abbrev pub ComesOfEarlierRun : Named Function → Option Emitted → Ty → Type 0
+ComesOfEarlierRun functions None type = ⊤
+ComesOfEarlierRun functions (Some it) type = IsEmitted functions it type
 
 -- how a collection behind these nodes is made fits the type of its members
 abbrev pub Fits : Named Function → Named Node → Made → Ty → Type 0
 Fits functions nodes (made.Input file columns) type = input_columns_of type ≡ Some columns
 Fits functions nodes (made.Do source function output) type =
-    IsDone functions nodes source function output type
-Fits functions nodes (made.Group source) type = IsGrouped nodes source type
-Fits functions nodes (made.Combine source by) type = IsCombined nodes source by type
+    ComesOfDo functions nodes source function output type
+Fits functions nodes (made.Group source) type = ComesOfGroup nodes source type
+Fits functions nodes (made.Combine source by) type = ComesOfCombine nodes source by type
 Fits functions nodes (made.Flatten sources) type = IsFlattened nodes sources type
 Fits functions nodes (made.Count source) type = IsCounted nodes source type
 Fits functions nodes (made.Join left right) type = IsJoined nodes left right type
 Fits functions nodes (made.Top number source) type = IsTop nodes number source type
-Fits functions nodes (made.CombineAll source by) type = IsWhole nodes source by type
+Fits functions nodes (made.CombineAll source by) type = ComesOfCombineAll nodes source by type
 Fits functions nodes (made.Operate objects function) type =
     IsOperated functions nodes objects function type
 Fits functions nodes (made.DoWith source function object) type =
     IsDoneWith functions nodes source function object type
-Fits functions nodes (made.Saved is_object call) type = IsKept functions call type
+Fits functions nodes (made.Saved is_object call) type = ComesOfEarlierRun functions call type
 
 -- each node fits where it stands, behind these nodes
 abbrev pub AllFit : Named Function → Named Node → Named Node → Type 0

@@ -4,7 +4,7 @@ use Rattle.std.specs.Prelude.{IfOk}
 use Rattle.build_law.proofs.Accepting.{accepted_kept}
 use Rattle.build_law.proofs.Short.{accepted_short}
 use Rattle.flume_grammar.proofs.FileNames.{files}
-use Rattle.flume_grammar.specs.Answer.{Accepts, IsRefusal}
+use Rattle.flume_grammar.specs.Answer.{Accepts, IsRefusalOf}
 use Rattle.flume_grammar.specs.declared.fault.ScriptFault.{ScriptFault}
 use Rattle.flume_grammar.specs.declared.fault.ScriptFault.TheVariants as script_fault
 use Rattle.flume_grammar.specs.declared.tree.Ast.{Ast}

@@ -63,4 +63,9 @@ impl ReadyProgram {
         let later = program.with_saved(found);
         ReadyProgram { program: later }
     }
+
+    /// Lets the program go, all of its functions and collections.
+    pub fn let_go(self) {
+        drop(self);
+    }
 }

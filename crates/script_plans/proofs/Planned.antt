@@ -1,7 +1,8 @@
 -- The graph of a script is one that the passes take.
-use Rattle.std.proofs.Common.{◌≡◌, ap, sym, ◌∙◌}
+use Rattle.std.proofs.Common.{◌≡◌, ap, sym, subst, ◌∙◌}
 use Rattle.std.specs.Prelude.{slice_get}
 use Rattle.exec_graph.specs.Wellformed.{IsGraphOk}
+use Rattle.exec_graph.specs.declared.graph.Graph.{Graph}
 use Rattle.optimise.specs.of_graph_bounds.Sources.{AreOfKinds, BringsSuch, OfSource}
 use Rattle.build_law.specs.of_graph_build.Graphs.{graph_of}
 use Rattle.graph_laws.specs.Single.{HasNarrowSteps, IsUnfused}
@@ -31,13 +32,14 @@ are_of_kinds script well = (
       }),
 )
 
-pub can_optimise : (script : Script) → IsWellFormed script → IsGraphOk (graph_of script)
-    → IsUnfused (graph_of script) → HasNarrowSteps (graph_of script)
-    → CanOptimise (graph_of script)
-can_optimise script well ok unfused narrow = record {
-  ok = ok;
-  unfused = unfused;
-  narrow = narrow;
-  sources = sources_below script well;
-  kinds = are_of_kinds script well;
-}
+pub can_optimise : (script : Script) (g : Graph) → IsWellFormed script → g ≡ graph_of script
+    → IsGraphOk g → ((s : Script) → IsUnfused (graph_of s))
+    → ((s : Script) → IsWellFormed s → HasNarrowSteps (graph_of s)) → CanOptimise g
+can_optimise script g well built ok unfused narrow =
+    subst CanOptimise (sym built) (record {
+      ok = subst IsGraphOk built ok;
+      unfused = unfused script;
+      narrow = narrow script well;
+      sources = sources_below script well;
+      kinds = are_of_kinds script well;
+    })

@@ -8,6 +8,7 @@ use Rattle.body_check.specs.of_written_types.Named.{Named}
 use Rattle.body_check.specs.of_written_types.Known.{Known}
 use Rattle.script_program.specs.declared.made.Function.{Function as HeldFunction}
 use Rattle.script_program.specs.declared.made.Node.{Node as HeldNode}
+use Rattle.script_program.proofs.SourceSteps.{told_many}
 use Rattle.script_program.specs.Needed.{has}
 use Rattle.script_program.specs.Saved.{saved_from, saved_node}
 use Rattle.script_program.specs.inner.Tables.{AreHeld, held_saved, held_saved_at, held_saved_from}
@@ -63,8 +64,8 @@ type-kept found n (entry ∷ nodes) (suc k) d = type-kept found (suc n) nodes k 
 
 pub as-many-saved : (found : List ℕ) (n : ℕ) (nodes : Named HeldNode)
     → length (held_saved_from found n nodes) ≡ length nodes
-as-many-saved found n [] = refl
-as-many-saved found n (entry ∷ nodes) = ap suc (as-many-saved found (suc n) nodes)
+as-many-saved found =
+    told_many (held_saved_from found) (λ k. refl) (λ k entry nodes. (_, refl))
 
 pub held-saved : (known : Known) (functions : Named HeldFunction) (nodes after : Named HeldNode)
     (found : List ℕ) → after ≡ held_saved_from found 0 nodes → AreHeld known functions nodes

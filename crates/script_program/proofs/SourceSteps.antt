@@ -8,17 +8,27 @@ use Rattle.script_program.specs.Needed.{is_needed, numbered}
 use Rattle.script_program.specs.Script.{Node, Script}
 use Rattle.script_program.specs.Sources.{source_kind, source_kinds}
 
+-- an element below the length
 pub found_below : {A : Type 0} (xs : List A) (i : ℕ) → i < length xs
     → (x : A) × (slice_get xs i ≡ Some x)
 found_below [] i h = absurd (omega arith)
 found_below (x ∷ xs) zero h = (x, refl)
 found_below (x ∷ xs) (suc i) h = found_below xs i (omega arith)
 
-head_of : {A : Type 0} (xs : List A) (i : ℕ) (x : A) → slice_get xs i ≡ Some x
+-- the element of a place in front of those behind it
+pub head_of : {A : Type 0} (xs : List A) (i : ℕ) (x : A) → slice_get xs i ≡ Some x
     → drop i xs ≡ x ∷ drop (suc i) xs
 head_of [] i x h = cc
 head_of (y ∷ xs) zero x h = ap (λ (z : _). z ∷ xs) cc
 head_of (y ∷ xs) (suc i) x h = head_of xs i x h
+
+-- as many are told as there are, where one more is told of each
+pub told_many : {A B : Type 0} (told : ℕ → List A → List B) → ((k : ℕ) → told k [] ≡ [])
+    → ((k : ℕ) (x : A) (xs : List A) → (y : B) × (told k (x ∷ xs) ≡ y ∷ told (suc k) xs))
+    → (k : ℕ) (xs : List A) → length (told k xs) ≡ length xs
+told_many told none more k [] = ap length (none k)
+told_many told none more k (x ∷ xs) =
+    ap length (more k x xs).1 ∙ ap suc (told_many told none more (suc k) xs)
 
 abbrev kinds_of : Script → ℕ → Named Node → List Bool
 kinds_of script number nodes =

@@ -54,7 +54,7 @@ making_in types held = record { made = held.made; type = type_at types held.ty }
 -- A function with slots does what a function with names does: it is well typed at the types of the
 -- argument and the outputs, of which it has as many, and means by slots what the parsed body means
 -- by names.
-pub record Does (fun : Fun) (function : Function) : Type 0 where
+pub record DoesAsWritten (fun : Fun) (function : Function) : Type 0 where
   pub typed : FunTyped function.signature.takes function.signature.gives fun
   pub means : (x : Value)
       → means function.types fun.outputs function.argument function.signature.takes function.body x

@@ -130,10 +130,7 @@ fn mark_operands(how: &Made, flags: &mut Vec<bool>)
         Made::Combine { source, by: _ } => mark(*source, flags),
         Made::Flatten { sources } => mark_all(sources.as_slice(), flags),
         Made::Count { source } => mark(*source, flags),
-        Made::Join { left, right } => {
-            mark(*right, flags);
-            mark(*left, flags)
-        }
+        Made::Join { left, right } => mark_both(*left, *right, flags),
         Made::Top { number: _, source } => mark(*source, flags),
         Made::CombineAll { source, by: _ } => mark(*source, flags),
         Made::Operate {
@@ -144,15 +141,21 @@ fn mark_operands(how: &Made, flags: &mut Vec<bool>)
             source,
             function: _,
             object,
-        } => {
-            mark(*object, flags);
-            mark(*source, flags)
-        }
+        } => mark_both(*source, *object, flags),
         Made::Saved {
             is_object: _,
             call: _,
         } => (),
     }
+}
+
+fn mark_both(first: usize, second: usize, flags: &mut Vec<bool>)
+    ensures many { length flags.new.items ≡ length flags.old.items }
+    ensures marked { (numbers : List ℕ) → AreFlags numbers flags.old.items →
+        AreFlags (first ∷ second ∷ numbers) flags.new.items }
+{
+    mark(second, flags);
+    mark(first, flags);
 }
 
 fn mark_all(sources: &[usize], flags: &mut Vec<bool>)

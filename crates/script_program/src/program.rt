@@ -129,7 +129,8 @@ impl Program {
         requires { number < length self.now.script.functions }
         ensures is { option_map (λ entry. entry.1) (slice_get self.now.script.functions number)
             ≡ Some (spec.function_in self.now.known result.now) }
-        ensures does { spec.Does result.now.fun (spec.function_in self.now.known result.now) }
+        ensures does { spec.DoesAsWritten result.now.fun
+            (spec.function_in self.now.known result.now) }
         ensures within { spec.HasTypes self.now.known.types result.now.signature }
     {
         match self.functions.get_index(number) {

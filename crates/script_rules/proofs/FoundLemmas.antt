@@ -44,17 +44,22 @@ module _ (line : ℕ) (names : List (List ℕ)) (written : WrittenRepeat) (s : S
   own entry body gives =
       spec.repeat_from entry gives (length s.nodes) (length (before entry).nodes) body
 
-  pub record HasFound (it : spec.Repeated) : Type 0 where
-    pub entry : spec.Entry
-    pub enters : spec.entry_of line names written s ≡ Ok entry
-    pub body : State
-    pub lets : spec.all_named written.lets (before entry) ≡ Ok body
+  -- what the rules behind the body find
+  pub record HasRepeat (entry : spec.Entry) (body : State) (it : Repeat) : Type 0 where
     pub gives : List ℕ
     pub given : spec.gives_of line written.gives entry.from body ≡ Ok gives
     pub few : Unit {0}
     pub room : spec.room_for line (length s.nodes) entry.turns
         (length (drop (length (before entry).nodes) body.nodes)) ≡ Ok few
-    pub repeat : own entry body gives ≡ it.repeat
+    pub repeat : own entry body gives ≡ it
+
+  pub record HasFound (it : spec.Repeated) : Type 0 where
+    pub entry : spec.Entry
+    pub enters : spec.entry_of line names written s ≡ Ok entry
+    pub body : State
+    pub lets : spec.all_named written.lets (before entry) ≡ Ok body
+    pub found_behind : HasRepeat entry body it.repeat
+    pub open found_behind use *
     pub behind : with_front (length s.nodes) body ≡ it.behind
 
   pub found : (it : spec.Repeated) → spec.repeated line names written s ≡ Ok it → HasFound it
@@ -79,11 +84,13 @@ module _ (line : ℕ) (names : List (List ℕ)) (written : WrittenRepeat) (s : S
         enters = entry.first;
         body = body.part;
         lets = body.first;
-        gives = gives.part;
-        given = gives.first;
-        few = room.part;
-        room = room.first;
-        repeat =
-            ok-same _ repeat.part room.then ∙ ap (λ (it : spec.Repeated). it.repeat) same;
+        found_behind = record {
+          gives = gives.part;
+          given = gives.first;
+          few = room.part;
+          room = room.first;
+          repeat =
+              ok-same _ repeat.part room.then ∙ ap (λ (it : spec.Repeated). it.repeat) same;
+        };
         behind = ap (λ (it : spec.Repeated). it.behind) same;
       }

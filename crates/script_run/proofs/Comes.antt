@@ -21,7 +21,7 @@ use Rattle.run_sizes.specs.of_script_program.Needed.{made_of}
 use Rattle.run_sizes.specs.of_script_program.Script.{Script}
 use Rattle.run_sizes.specs.of_script_program.declared.made.Made.{Made}
 use Rattle.task_lists.specs.Runs.{kept_count}
-use Rattle.script_run.specs.Comes.{AreMembers}
+use Rattle.script_run.specs.Comes.{AreMembersOf}
 
 -- ---- lists side by side
 
@@ -59,7 +59,7 @@ module _ (w : World) (script : Script) (plan : Plan) (made : List (Option Collec
 
   pub written : (bags : List (List Value))
       → bags ≡ map (λ c. (plan_collection w plan c).bag) plan.outputs
-      → AllZip (λ output members. AreMembers made output.1.reads members) script.outputs bags
+      → AllZip (λ output members. AreMembersOf made output.1.reads members) script.outputs bags
   written bags told =
       bags_zip (λ output. made_at made output.1.reads)
       (map (plan_collection w plan) plan.outputs) script.outputs bags

@@ -5,5 +5,5 @@ use Rattle.flume_collection.specs.Collection.{Collection}
 use Rattle.flume_value.specs.declared.value.Value.{Value}
 
 -- the members are those of the collection of a number
-abbrev pub AreMembers : List (Option Collection) → ℕ → List Value → Type 0
-AreMembers made number members = IsSomeAnd (made_at made number) (λ c. members ≡ c.bag)
+abbrev pub AreMembersOf : List (Option Collection) → ℕ → List Value → Type 0
+AreMembersOf made number members = IsSomeAnd (made_at made number) (λ c. members ≡ c.bag)

@@ -25,7 +25,7 @@ use Rattle.run_sizes.specs.of_script_program.Script.{Script}
 use Rattle.run_sizes.specs.of_script_program.Sources.{source_kinds}
 use Rattle.task_lists.specs.Plans.{first_trap}
 pub use Rattle.stage_exec.specs.Executions.{split_of}
-use Rattle.script_run.specs.Comes.{AreMembers}
+use Rattle.script_run.specs.Comes.{AreMembersOf}
 use Rattle.script_run.specs.declared.run.Ran.{Ran}
 
 -- the plan is well-formed and typed, and means what the script's graph means, over any rows; it has
@@ -69,7 +69,7 @@ pub record IsRan (s : RunSettings) (script : Script) (inputs : List (List Value)
   pub means : meaning script inputs ≡ Some made
   pub through : traps_of made ≡ []
   pub written :
-      AllZip (λ output members. AreMembers made output.1.reads members) script.outputs
+      AllZip (λ output members. AreMembersOf made output.1.reads members) script.outputs
       it.outputs.items
   pub sizes : it.sizes.items ≡ sizes_of script made
   pub ran : WereRun s (phases_of s script inputs plan) olds news it.winners.items

@@ -14,7 +14,7 @@ ghost use Rattle.plan_laws.specs.Operations.{SamePlan};
 ghost use Rattle.run_sizes.specs.Counts.{AreOwnCounts};
 ghost use Rattle.run_sizes.specs.of_script_program.Script.{Script};
 ghost use Rattle.task_lists.specs.Runs.{kept_count};
-ghost use Rattle.script_run.specs.Comes.{AreMembers};
+ghost use Rattle.script_run.specs.Comes.{AreMembersOf};
 
 /// What a plan comes to is what its script means, where the plan means what the script's graph
 /// means, and that what the script means: its traps, the members that outputs write, and what is
@@ -31,7 +31,7 @@ pub fn plan_law()
         (made : List (Option Collection)) (bags : List (List Value)) →
         IsMeaning w script made (graph_of script) → SamePlan w (graph_of script) plan →
         bags ≡ map (λ c. (plan_collection w plan c).bag) plan.outputs →
-        AllZip (λ output bag. AreMembers made output.1.reads bag) script.outputs bags }
+        AllZip (λ output bag. AreMembersOf made output.1.reads bag) script.outputs bags }
     ensures counts { (w : World) (script : Script) (plan : Plan)
         (made : List (Option Collection)) (counts : List ℕ) →
         IsMeaning w script made (graph_of script) → SamePlan w (graph_of script) plan →

@@ -22,7 +22,7 @@ use Rattle.script_program.specs.inner.Tables.{function_of, node_of, FunctionIn, 
 use Rattle.script_state.specs.Held.{Checking}
 use Rattle.script_state.specs.declared.state.State.TheInside.{Inside}
 use Rattle.script_state.specs.inner.States.{checking_of}
-use Rattle.script_program.specs.Program.{signature_in, HasTypes, function_in, Does}
+use Rattle.script_program.specs.Program.{signature_in, HasTypes, function_in, DoesAsWritten}
 use Rattle.body_check.proofs.of_expression_check.KeptLemmas.{types-kept}
 use Rattle.body_check.proofs.FrameLemmas.{more-types}
 
@@ -153,7 +153,7 @@ module _ (old new : Known) (more : Grows old new) (functions : Named HeldFunctio
   function-more function in_ = record {
     within = signature-more old.types new.types more.types function.signature in_.within;
     named = omega (arith, in_.named, more.longer);
-    does = subst (Does function.fun) (sym (function-kept function in_)) in_.does;
+    does = subst (DoesAsWritten function.fun) (sym (function-kept function in_)) in_.does;
   }
 
   pub held-more : AreHeld new functions nodes

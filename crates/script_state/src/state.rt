@@ -9,7 +9,7 @@ ghost use Rattle.type_table.specs.Table.{type_at, tree_of, IsWithin, Extends};
 ghost use Rattle.body_check.specs.of_written_types.Answer.{Gives};
 ghost use Rattle.body_check.specs.of_written_types.Named.{find};
 ghost use Rattle.body_check.specs.of_written_types.Written.{whole_type as whole};
-ghost use Rattle.script_program.specs.Program.{signature_in, HasTypes, making_in, Does};
+ghost use Rattle.script_program.specs.Program.{signature_in, HasTypes, making_in, DoesAsWritten};
 ghost use Rattle.body_check.specs.Bodies.{body_of};
 ghost use Rattle.script_program.specs.Script as spec;
 ghost use Rattle.script_state.specs.Held.{operand_in, callee_in};
@@ -87,16 +87,24 @@ impl State {
     pub fn into_program(self, alloc: Global) -> Result<Program, AllocError>
         ensures { IfOk result (λ program. program.script ≡ spec.script_from self.state) }
     {
-        let needed = needed_flags(alloc, self.nodes.as_slice(), &self.outputs)?;
-        let State {
-            known,
-            functions,
-            nodes,
-            names: _names,
-            outputs,
-            statements: _statements,
-        } = self;
-        Ok(Program::new(known, functions, nodes, outputs, needed))
+        match needed_flags(alloc, self.nodes.as_slice(), &self.outputs) {
+            Ok(needed) => {
+                let State {
+                    known,
+                    functions,
+                    nodes,
+                    names,
+                    outputs,
+                    statements: _statements,
+                } = self;
+                drop(names);
+                Ok(Program::new(known, functions, nodes, outputs, needed))
+            }
+            Err(fault) => {
+                drop(self);
+                Err(fault)
+            }
+        }
     }
 
     // ---- types
@@ -161,7 +169,7 @@ impl State {
         ensures gives { Gives (λ _. tt) result (body_of self.old.state.types
             function.now.argument (type_at self.old.types signature.now.takes)
             (map (type_at self.old.types) signature.now.gives) function.now.body) }
-        ensures does { IfOk result (λ fun. Does fun (spec.function_from function.now
+        ensures does { IfOk result (λ fun. DoesAsWritten fun (spec.function_from function.now
             (signature_in self.old.types signature.now) self.old.state)) }
         ensures signature { signature_in self.new.types signature.now
             ≡ signature_in self.old.types signature.now }
@@ -265,13 +273,6 @@ impl State {
         self.nodes.len()
     }
 
-    /// How many statements made this.
-    pub fn statement_count(&self) -> usize
-        ensures { result ≡ self.now.state.statements }
-    {
-        self.statements
-    }
-
     /// How many outputs there are.
     pub fn output_count(&self) -> usize
         ensures { result ≡ length self.now.state.outputs }
@@ -302,7 +303,7 @@ impl State {
     ) -> Result<(), AllocError>
         requires new { is_some (find function.name self.old.state.functions) ≡ false }
         requires within { HasTypes self.old.types signature }
-        requires does { Does fun (spec.function_from function
+        requires does { DoesAsWritten fun (spec.function_from function
             (signature_in self.old.types signature) self.old.state) }
         ensures state { OnOk result (self.new.state ≡ spec.with_function function.name
             (spec.function_from function (signature_in self.old.types signature) self.old.state)
@@ -313,12 +314,15 @@ impl State {
         let Written {
             name,
             argument,
-            takes: _takes,
-            gives: _gives,
-            more: _more,
+            takes,
+            gives,
+            more,
             scale: _scale,
             body,
         } = function;
+        drop(takes);
+        drop(gives);
+        drop(more);
         let function = Function {
             type_names,
             argument,
@@ -326,7 +330,7 @@ impl State {
             body,
             fun,
         };
-        self.functions.insert(name, function)?;
+        drop(self.functions.insert(name, function)?);
         Ok(())
     }
 
@@ -339,7 +343,14 @@ impl State {
         ensures types { self.new.types ≡ self.old.types }
     {
         let number = self.nodes.len();
-        let key = name.copy(alloc)?;
+        let key = match name.copy(alloc) {
+            Ok(key) => key,
+            Err(fault) => {
+                drop(name);
+                drop(making);
+                return Err(fault);
+            }
+        };
         let Making { made, ty } = making;
         let node = Node {
             made,
@@ -358,7 +369,7 @@ impl State {
             ≡ spec.with_output file output self.old.state) }
         ensures types { self.new.types ≡ self.old.types }
     {
-        self.outputs.insert(file, output)?;
+        drop(self.outputs.insert(file, output)?);
         Ok(())
     }
 

@@ -147,7 +147,7 @@ pub fn finish_each(alloc: Global, parts: Vec<Lifting>) -> Result<Pile<Pile<Parti
 {
     let mut combined = Vec::with_capacity(alloc, parts.len())?;
     for part in parts {
-        combined.push(Pile::from_vec(part.into_partials(alloc)?))?;
+        combined.push(Pile::from_vec(part.into_partials()?))?;
     }
     Ok(Pile::from_vec(combined))
 }

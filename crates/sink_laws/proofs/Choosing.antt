@@ -17,10 +17,10 @@ use Rattle.graph_laws.proofs.of_exec_graph.Soundness.{differ_ascends}
 use Rattle.graph_laws.proofs.ReadPlaces.{all_among}
 use Rattle.graph_laws.proofs.Wellness.{gives_of}
 use Rattle.sink_laws.specs.declared.pair.Pair.{Pair}
-use Rattle.sink_laws.specs.Kept.{IsKept, IsOfPdo}
+use Rattle.sink_laws.specs.Kept.{KeepsTypesAndSteps, IsOfPdo}
 use Rattle.sink_laws.specs.Merging.{spliced, merged, CanMerge}
 use Rattle.sink_laws.specs.Sinking.{sunk_once}
-use Rattle.sink_laws.specs.Chain.{is_before, lesser, least, ins_of, forest_of, nest_of, nest_at, next_nest, after_nest, call_of, call_at, next_call, after_call, CanCall, CanNest, has_room, sink_next, next_by, next_graph, Leads, stay, go, ReadsNoFlatten, NoPdoReadsFlatten, IsFull}
+use Rattle.sink_laws.specs.Chain.{is_before, lesser, least, ins_of, forest_of, nest_of, nest_at, next_nest, after_nest, call_of, call_at, next_call, after_call, CanSinkPdo, CanNest, has_room, sink_next, next_by, next_graph, SinksTo, stay, go, ReadsNoFlatten, NoPdoReadsFlatten, IsFull}
 use Rattle.sink_laws.proofs.Steps.{IsGood-trans, IsGood-merge_step, IsGood-sink_step}
 use Rattle.sink_laws.proofs.TypesKept.{IsTyped-sunk, IsTyped-merged, IsTyped-tidied, AllSteps-sink_step, AllSteps-merge_step, AllSteps-kept, KeepsSteps-self}
 
@@ -53,31 +53,31 @@ some_only P x p y h = let e : x ≡ y = cc in subst P e p
 -- ---- a step that is next
 
 call_can : (g : Graph) (n p : ℕ) (f : Forest) (o : Option Node) → node_at g.nodes n ≡ o
-    → node_at g.nodes p ≡ Some (Pdo (place n 0) f) → Only (CanCall g) (call_of n p o)
+    → node_at g.nodes p ≡ Some (Pdo (place n 0) f) → Only (CanSinkPdo g) (call_of n p o)
 call_can g n p f (Some (Flatten ins)) e h =
-    some_only (CanCall g) (record { flatten = n; other = p })
+    some_only (CanSinkPdo g) (record { flatten = n; other = p })
     (record {
       flatten = e ∙ ap (λ (l : List Place). Some (Flatten l)) (sym (ap ins_of e));
       pdo = h ∙ ap (λ (k : Forest). Some (Pdo (place n 0) k)) (sym (ap forest_of h));
     })
-call_can g n p f _ e h = none_only (CanCall g)
+call_can g n p f _ e h = none_only (CanSinkPdo g)
 
 call_can_at : (g : Graph) (p : ℕ) (x : Node) → node_at g.nodes p ≡ Some x
-    → AllByRecursion (IsThere g.nodes) (reads x) → Only (CanCall g) (call_at g.nodes p x)
-call_can_at g p (Source r) h t = none_only (CanCall g)
-call_can_at g p (Flatten ins) h t = none_only (CanCall g)
+    → AllByRecursion (IsThere g.nodes) (reads x) → Only (CanSinkPdo g) (call_at g.nodes p x)
+call_can_at g p (Source r) h t = none_only (CanSinkPdo g)
+call_can_at g p (Flatten ins) h t = none_only (CanSinkPdo g)
 call_can_at g p (Pdo c f) h t = by (node_at g.nodes c.node) refl
   where
     first : (ins : List Place) → node_at g.nodes c.node ≡ Some (Flatten ins) → c ≡ place c.node 0
     first ins e = ap (λ (j : ℕ). place c.node j)
         (eqb-true c.out 0 (gives_of g.nodes c c.node (Flatten ins) refl e t.0))
 
-    by : (o : Option Node) → node_at g.nodes c.node ≡ o → Only (CanCall g) (call_of c.node p o)
+    by : (o : Option Node) → node_at g.nodes c.node ≡ o → Only (CanSinkPdo g) (call_of c.node p o)
     by (Some (Flatten ins)) e = call_can g c.node p f (Some (Flatten ins)) e
         (h ∙ ap (λ (d : Place). Some (Pdo d f)) (first ins e))
-    by _ e = none_only (CanCall g)
-call_can_at g p (Gbk c o l k) h t = none_only (CanCall g)
-call_can_at g p (Barrier ins o l a) h t = none_only (CanCall g)
+    by _ e = none_only (CanSinkPdo g)
+call_can_at g p (Gbk c o l k) h t = none_only (CanSinkPdo g)
+call_can_at g p (Barrier ins o l a) h t = none_only (CanSinkPdo g)
 
 -- what holds of the pairs of each node holds of the least
 least_node : (P : Pair → Type 0) (g : Graph) (f : ℕ → Node → Option Pair) → IsGraphOk g
@@ -91,9 +91,9 @@ least_node P g f ok one =
     (λ (e : Entry). Only P (f e.number e.node)) (λ e a b. one e.number e.node a b) g.nodes
     (each_found g.nodes (differ_ascends g.nodes ok.founded.ascends)) ok.founded.there)
 
-pub next_call_can : (g : Graph) → IsGraphOk g → Only (CanCall g) (next_call g.nodes)
+pub next_call_can : (g : Graph) → IsGraphOk g → Only (CanSinkPdo g) (next_call g.nodes)
 next_call_can g ok =
-    least_node (CanCall g) g (call_at g.nodes) ok (call_can_at g)
+    least_node (CanSinkPdo g) g (call_at g.nodes) ok (call_can_at g)
 
 -- ---- a merge that is next
 
@@ -141,14 +141,15 @@ next_nest_can g ok =
 
 -- ---- the chain
 
-pub IsKept-trans : (g h i : Graph) → IsKept g h → IsKept h i → IsKept g i
+pub IsKept-trans : (g h i : Graph) → KeepsTypesAndSteps g h → KeepsTypesAndSteps h i
+    → KeepsTypesAndSteps g i
 IsKept-trans g h i a b = record {
   good = IsGood-trans g h i a.good b.good;
   types = λ s t. b.types s (a.types s t);
   steps = AllSteps-kept (IsOfPdo g) h i b.steps a.steps;
 }
 
-pub IsKept-refl : (g : Graph) → IsGraphOk g → IsKept g g
+pub IsKept-refl : (g : Graph) → IsGraphOk g → KeepsTypesAndSteps g g
 IsKept-refl g ok = record {
   good = record {
     ok = ok;
@@ -158,7 +159,8 @@ IsKept-refl g ok = record {
   steps = KeepsSteps-self g ok;
 }
 
-pub IsKept-nest : (g : Graph) (n : Pair) → IsGraphOk g → CanNest g n → IsKept g (after_nest g n)
+pub IsKept-nest : (g : Graph) (n : Pair) → IsGraphOk g → CanNest g n
+    → KeepsTypesAndSteps g (after_nest g n)
 IsKept-nest g n ok can =
     let ins : List Place = ins_of (node_at g.nodes n.flatten) in
     let es : List Place = ins_of (node_at g.nodes n.other) in
@@ -169,8 +171,8 @@ IsKept-nest g n ok can =
       steps = AllSteps-merge_step (IsOfPdo g) g n.flatten ins n.other es (KeepsSteps-self g ok);
     }
 
-pub IsKept-call : (g : Graph) (p : Pair) → IsGraphOk g → CanCall g p
-    → total_size (after_call g p).nodes ≤ most_nodes → IsKept g (after_call g p)
+pub IsKept-call : (g : Graph) (p : Pair) → IsGraphOk g → CanSinkPdo g p
+    → total_size (after_call g p).nodes ≤ most_nodes → KeepsTypesAndSteps g (after_call g p)
 IsKept-call g p ok can room =
     let ins : List Place = ins_of (node_at g.nodes p.flatten) in
     let f : Forest = forest_of (node_at g.nodes p.other) in
@@ -182,7 +184,7 @@ IsKept-call g p ok can room =
           (KeepsSteps-self g ok);
     }
 
-pub Leads-trans : (g h i : Graph) → Leads g h → Leads h i → Leads g i
+pub Leads-trans : (g h i : Graph) → SinksTo g h → SinksTo h i → SinksTo g i
 Leads-trans g h i a (stay x) = a
 Leads-trans g h i a (go x y z b e) = go g y z (Leads-trans g x y a b) e
 

@@ -1,5 +1,5 @@
 -- What is next in the chain is the least that could be, and each link of the chain may be made.
-use Rattle.std.proofs.Common.{◌≡◌, ℕ, ◌≤◌, ◌⊎◌, Bool, true, false, cond, eqb, leb, List, [], ◌∷◌, length, Option, Some, None, refl, sym, ap, ◌∙◌, subst, inl, inr}
+use Rattle.std.proofs.Common.{◌≡◌, ℕ, ◌≤◌, ◌⊎◌, Bool, true, false, cond, eqb, List, [], ◌∷◌, length, Option, Some, None, refl, sym, ap, ◌∙◌, subst, inl, inr}
 use Rattle.std.proofs.lemmas.Bool.{eqb-true, false≢true, le-leb, leb-true}
 use Rattle.graph_laws.specs.of_exec_graph.Forests.{Forest}
 use Rattle.graph_laws.specs.of_exec_graph.Meaning.{place, node_at}
@@ -14,19 +14,19 @@ use Rattle.graph_laws.proofs.of_exec_graph.Bools.{or_cases}
 use Rattle.graph_laws.proofs.of_exec_graph.Entries.{entry}
 use Rattle.graph_laws.proofs.Lexicographic.{Le, le_not, le_self, le_trans, less_le, not_less}
 use Rattle.sink_laws.specs.declared.pair.Pair.{Pair}
-use Rattle.sink_laws.specs.Kept.{IsKept}
+use Rattle.sink_laws.specs.Kept.{KeepsTypesAndSteps}
 use Rattle.sink_laws.specs.Merging.{CanMerge, spliced}
 use Rattle.sink_laws.specs.Sinking.{CanSink}
-use Rattle.sink_laws.specs.Chain.{CanCall, CanNest, IsLeastPair, IsLink, Leads, after_call, after_nest, call_at, call_of, forest_of, go, has_room, ins_of, is_before, least, lesser, nest_at, nest_of, next_by, next_call, next_graph, next_nest, sink_next, stay}
+use Rattle.sink_laws.specs.Chain.{CanSinkPdo, CanNest, IsLeastPair, IsLink, SinksTo, after_call, after_nest, call_at, call_of, forest_of, go, has_room, ins_of, is_before, least, lesser, nest_at, nest_of, next_by, next_call, next_graph, next_nest, sink_next, stay}
 use Rattle.sink_laws.proofs.Choosing.{IsKept-call, IsKept-nest, IsKept-refl, IsKept-trans, next_call_can, next_nest_can}
 use Rattle.sink_laws.proofs.Unread.{same_true}
 
 -- ---- a pair that is found is not behind x
 
-abbrev Upto : Pair → Pair → Type 0
+abbrev pub Upto : Pair → Pair → Type 0
 Upto p x = Le p.flatten p.other x.flatten x.other
 
-record Below (o : Option Pair) (x : Pair) : Type 0 where
+pub record Below (o : Option Pair) (x : Pair) : Type 0 where
   pub pair : Pair
   pub is : o ≡ Some pair
   pub upto : Upto pair x
@@ -138,7 +138,7 @@ nest_found g x ins es can =
     (any_entry (λ (e : Entry). Below (nest_at g.nodes e.number e.node) x) g.nodes x.flatten
     (Flatten ins) can.outer inside)
 
-nest_below : (g : Graph) (x : Pair) → CanNest g x → Below (next_nest g.nodes) x
+pub nest_below : (g : Graph) (x : Pair) → CanNest g x → Below (next_nest g.nodes) x
 nest_below g x can =
     nest_found g x (ins_of (node_at g.nodes x.flatten)) (ins_of (node_at g.nodes x.other))
     can
@@ -149,16 +149,21 @@ not_behind n x o e h =
     le_not n.flatten n.other x.flatten x.other
     (below_some n x (subst (λ (p : Option Pair). Below p x) e h))
 
-pub least_nest : (g : Graph) (n : Pair) → IsGraphOk g → next_nest g.nodes ≡ Some n
-    → IsLeastPair (CanNest g) n
-least_nest g n ok e = record {
-  is = next_nest_can g ok n e;
-  least = λ x can. not_behind n x (next_nest g.nodes) e (nest_below g x can);
+-- what is found is the least, where all that can be are at or behind it
+pub least_of : (P : Pair → Type 0) (o : Option Pair) → ((x : Pair) → P x → Below o x) → (n : Pair)
+    → o ≡ Some n → P n → IsLeastPair P n
+least_of P o below n e is = record {
+  is = is;
+  least = λ x can. not_behind n x o e (below x can);
 }
 
+-- and where nothing is found, none can be
+pub none_of : (P : Pair → Type 0) (o : Option Pair) → ((x : Pair) → P x → Below o x) → o ≡ None
+    → (x : Pair) → P x → ⊥
+none_of P o below e x can = below_none x (subst (λ (p : Option Pair). Below p x) e (below x can))
+
 pub no_nest_left : (g : Graph) → next_nest g.nodes ≡ None → (x : Pair) → CanNest g x → ⊥
-no_nest_left g e x can =
-    below_none x (subst (λ (p : Option Pair). Below p x) e (nest_below g x can))
+no_nest_left g = none_of (CanNest g) (next_nest g.nodes) (nest_below g)
 
 -- ---- steps
 
@@ -172,21 +177,10 @@ call_found g x f ins can =
     (Pdo (place x.flatten 0) f) can.pdo
     (subst (λ (o : Option Pair). Below o x) (sym here) (below_self x)))
 
-call_below : (g : Graph) (x : Pair) → CanCall g x → Below (next_call g.nodes) x
+pub call_below : (g : Graph) (x : Pair) → CanSinkPdo g x → Below (next_call g.nodes) x
 call_below g x can =
     call_found g x (forest_of (node_at g.nodes x.other)) (ins_of (node_at g.nodes x.flatten))
     can
-
-pub least_call : (g : Graph) (p : Pair) → IsGraphOk g → next_call g.nodes ≡ Some p
-    → IsLeastPair (CanCall g) p
-least_call g p ok e = record {
-  is = next_call_can g ok p e;
-  least = λ x can. not_behind p x (next_call g.nodes) e (call_below g x can);
-}
-
-pub no_call_left : (g : Graph) → next_call g.nodes ≡ None → (x : Pair) → CanCall g x → ⊥
-no_call_left g e x can =
-    below_none x (subst (λ (p : Option Pair). Below p x) e (call_below g x can))
 
 -- ---- the chain
 
@@ -224,14 +218,14 @@ pub next_link : (g h : Graph) → IsGraphOk g → next_graph g ≡ Some h → Is
 unfolding next_graph
 next_link g h ok e = link_by g h (next_nest g.nodes) refl ok e
 
-link_kept : (g h : Graph) → IsGraphOk g → IsLink g h → IsKept g h
-link_kept g h ok (inl l) = subst (IsKept g) l.2 (IsKept-nest g l.0 ok l.1)
+link_kept : (g h : Graph) → IsGraphOk g → IsLink g h → KeepsTypesAndSteps g h
+link_kept g h ok (inl l) = subst (KeepsTypesAndSteps g) l.2 (IsKept-nest g l.0 ok l.1)
 link_kept g h ok (inr l) =
-    subst (IsKept g) l.3 (IsKept-call g l.0 ok l.1
+    subst (KeepsTypesAndSteps g) l.3 (IsKept-call g l.0 ok l.1
     (subst (λ (x : Graph). total_size x.nodes ≤ most_nodes) (sym l.3) l.2))
 
-pub kept_sunk : (g h : Graph) → IsGraphOk g → Leads g h → IsKept g h
+pub kept_sunk : (g h : Graph) → IsGraphOk g → SinksTo g h → KeepsTypesAndSteps g h
 kept_sunk g h ok (stay x) = IsKept-refl x ok
 kept_sunk g h ok (go x y z l e) =
-    let k : IsKept x y = kept_sunk x y ok l in
+    let k : KeepsTypesAndSteps x y = kept_sunk x y ok l in
     IsKept-trans x y z k (link_kept y z k.good.ok (next_link y z k.good.ok e))

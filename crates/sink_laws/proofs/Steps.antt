@@ -20,7 +20,7 @@ use Rattle.graph_laws.proofs.Changes.{node_at-without_other}
 use Rattle.graph_laws.proofs.Kids.{KeepsMeaning-then}
 use Rattle.graph_laws.proofs.Wellness.{node_at-set_same, node_at-set_other}
 use Rattle.graph_laws.proofs.Reading.{any_here}
-use Rattle.sink_laws.specs.Kept.{IsGood}
+use Rattle.sink_laws.specs.Kept.{IsSoundChange}
 use Rattle.sink_laws.specs.Merging.{spliced, merged, dropped, merge_step, CanMerge}
 use Rattle.sink_laws.specs.Sinking.{copies, rerouted, sunk_once, sink_step, CanSink}
 use Rattle.sink_laws.proofs.Dropping.{CanDrop, KeepsMeaning-dropped, IsFounded-dropped}
@@ -34,7 +34,7 @@ use Rattle.sink_laws.proofs.ObjectSteps.{HaveObjects-dropped, HaveObjects-merged
 use Rattle.sink_laws.proofs.SinkNodes.{NodesOk, NodesOk-sunk}
 use Rattle.sink_laws.proofs.Unread.{same_true}
 
-pub IsGood-trans : (g h i : Graph) → IsGood g h → IsGood h i → IsGood g i
+pub IsGood-trans : (g h i : Graph) → IsSoundChange g h → IsSoundChange h i → IsSoundChange g i
 IsGood-trans g h i a b = record { ok = b.ok; keeps = KeepsMeaning-then g h i a.keeps b.keeps }
 
 -- ---- a step
@@ -86,7 +86,7 @@ replaced_sunk g n p f ins ok can c h =
 sink_by : (g : Graph) (n p : ℕ) (f : Forest) (ins : List Place) (b : Bool)
     → is_read (sunk_once g p f ins) (place n 0) ≡ b → IsGraphOk g → CanSink g n p f ins
     → total_size (cond b (sunk_once g p f ins) (dropped (sunk_once g p f ins) n)).nodes ≤ most_nodes
-    → IsGood g (cond b (sunk_once g p f ins) (dropped (sunk_once g p f ins) n))
+    → IsSoundChange g (cond b (sunk_once g p f ins) (dropped (sunk_once g p f ins) n))
 sink_by g n p f ins b i ok can room =
     let h : Graph = sunk_once g p f ins in
     let at_p : IsForestOk g p f = all_found (λ e. IsNodeOk g e.number e.node) g.nodes p
@@ -116,7 +116,7 @@ sink_by g n p f ins b i ok can room =
         → IsFounded (sunk_once g p f ins) → NodesOk (sunk_once g p f ins)
         → HaveObjects (sunk_once g p f ins).nodes → KeepsMeaning g (sunk_once g p f ins)
         → node_at (sunk_once g p f ins).nodes n ≡ Some (Flatten ins)
-        → IsGood g (cond b (sunk_once g p f ins) (dropped (sunk_once g p f ins) n))
+        → IsSoundChange g (cond b (sunk_once g p f ins) (dropped (sunk_once g p f ins) n))
     by true i few founded nodes objects keeps at = record {
       ok = record { founded = founded; nodes = nodes; objects = objects; few = few };
       keeps = keeps;
@@ -138,7 +138,7 @@ sink_by g n p f ins b i ok can room =
 -- The law of a step.
 pub IsGood-sink_step : (g : Graph) (n p : ℕ) (f : Forest) (ins : List Place) → IsGraphOk g
     → CanSink g n p f ins → total_size (sink_step g n p f ins).nodes ≤ most_nodes
-    → IsGood g (sink_step g n p f ins)
+    → IsSoundChange g (sink_step g n p f ins)
 IsGood-sink_step g n p f ins ok can room =
     sink_by g n p f ins (is_read (sunk_once g p f ins) (place n 0)) refl ok can room
 
@@ -172,7 +172,7 @@ replaced_merged g f ins e es apart can c h =
 
 merge_by : (g : Graph) (f : ℕ) (ins : List Place) (e : ℕ) (es : List Place) (b : Bool)
     → is_read (merged g f ins e es) (place e 0) ≡ b → IsGraphOk g → CanMerge g f ins e es
-    → IsGood g (cond b (merged g f ins e es) (dropped (merged g f ins e es) e))
+    → IsSoundChange g (cond b (merged g f ins e es) (dropped (merged g f ins e es) e))
 merge_by g f ins e es true i ok can = record {
   ok = record {
     founded = IsFounded-merged g f ins e es ok.founded can;
@@ -212,6 +212,6 @@ merge_by g f ins e es false i ok can =
 
 -- The law of a merge.
 pub IsGood-merge_step : (g : Graph) (f : ℕ) (ins : List Place) (e : ℕ) (es : List Place)
-    → IsGraphOk g → CanMerge g f ins e es → IsGood g (merge_step g f ins e es)
+    → IsGraphOk g → CanMerge g f ins e es → IsSoundChange g (merge_step g f ins e es)
 IsGood-merge_step g f ins e es ok can =
     merge_by g f ins e es (is_read (merged g f ins e es) (place e 0)) refl ok can

@@ -6,7 +6,7 @@ use Rattle.sink_laws.specs.of_exec_graph.Meaning.{node_at}
 use Rattle.sink_laws.specs.of_exec_graph.Wellformed.{IsGraphOk, most_nodes, total_size}
 use Rattle.sink_laws.specs.of_exec_graph.declared.graph.Place.{Place}
 use Rattle.sink_laws.specs.of_exec_graph.declared.graph.Graph.{Graph}
-use Rattle.sink_laws.specs.Chain.{after_call, after_nest, forest_of, go, has_room, ins_of, next_by, next_call, next_graph, next_nest, sink_next, stay, IsSunk, Leads}
+use Rattle.sink_laws.specs.Chain.{after_call, after_nest, forest_of, go, has_room, ins_of, next_by, next_call, next_graph, next_nest, sink_next, stay, IsSunk, SinksTo}
 use Rattle.sink_laws.specs.declared.pair.Pair.{Pair}
 use Rattle.sink_laws.proofs.Choosing.{next_call_can, next_nest_can, Leads-trans}
 use Rattle.sink_laws.proofs.Steps.{IsGood-merge_step, IsGood-sink_step}
@@ -91,26 +91,26 @@ ends_somewhere g ok = ends_by (suc (total_weight g)) g ok (omega arith)
 -- ---- in one graph
 
 -- A chain from g that does more than stay leads on from the graph that is next.
-on_from : (g h z : Graph) → Leads g h → next_graph g ≡ Some z → Leads z h ⊎ (g ≡ h)
+on_from : (g h z : Graph) → SinksTo g h → next_graph g ≡ Some z → SinksTo z h ⊎ (g ≡ h)
 on_from g h z (stay x) e = inr refl
 on_from g h z (go x y w l d) e = elim (on_from x y z l e) [
   | inl m ↦ inl (go z y w m d)
   | inr i ↦ (let same : z ≡ w = some_same z w (sym e ∙ ap next_graph i ∙ d) in
-      inl (subst (Leads z) same (stay z)))
+      inl (subst (SinksTo z) same (stay z)))
 ]
 
 -- Of two graphs that chains from one graph lead to, one leads to the other.
-one_way : (g h i : Graph) → Leads g h → Leads g i → Leads h i ⊎ Leads i h
+one_way : (g h i : Graph) → SinksTo g h → SinksTo g i → SinksTo h i ⊎ SinksTo i h
 one_way g h i (stay x) b = inl b
 one_way g h i (go x y z a e) b = elim (one_way x y i a b) [
   | inl c ↦ (elim (on_from y i z c e) [
     | inl m ↦ inl m
-    | inr j ↦ inr (subst (λ (u : Graph). Leads u z) j (go y y z (stay y) e))
+    | inr j ↦ inr (subst (λ (u : Graph). SinksTo u z) j (go y y z (stay y) e))
   ])
   | inr c ↦ inr (go i y z c e)
 ]
 
-stays : (g h : Graph) → Leads g h → next_graph g ≡ None → g ≡ h
+stays : (g h : Graph) → SinksTo g h → next_graph g ≡ None → g ≡ h
 stays g h (stay x) e = refl
 stays g h (go x y z l d) e =
     let i : x ≡ y = stays x y l e in

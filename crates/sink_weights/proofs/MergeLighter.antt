@@ -22,7 +22,7 @@ use Rattle.sink_laws.proofs.Unread.{same_true}
 use Rattle.sink_weights.specs.Weights.{added, node_weight, weight_at, weight, is_of, is_node_read, unread_weight, total_weight}
 use Rattle.sink_weights.proofs.Roots.{IsPassing, IsRoot, among_is_of, lower_read, reader_of, reads_of, read_by_node, read_by_output, root_over, ranked_over}
 use Rattle.sink_weights.proofs.SinkLighter.{total_is}
-use Rattle.sink_weights.proofs.Sums.{IsTidied, IsTidied-tidied, left, left_below, left_read, left_unread, skipping, skipping_below, skipping_other, skipping_self, unread_is, weigh, weigh_le, weigh_lt, weigh_set}
+use Rattle.sink_weights.proofs.Sums.{IsTidied, IsTidied-tidied, left, left_below, left_le, left_unread, skipping, skipping_below, unread_is, weigh, weigh_le, weigh_lt, weigh_set}
 use Rattle.sink_weights.proofs.Weighing.{IsEnough, at_most, before, before_below, added_below, added_less, no_heavier, node_less, weight_fits, weight_is}
 
 -- ---- the inputs that are put in place
@@ -245,20 +245,7 @@ module _ (g : Graph) (f : ℕ) (ins : List Place) (e : ℕ) (es : List Place) (o
           (λ h. false≢true (sym j ∙ eq-eqb r.number e h)) r.at) r.passes
 
   v_le : (q : ℕ) → v q ≤ w q
-  v_le q = by (eqb q e) refl (is_node_read g q) refl
-    where
-      by : (b : Bool) → eqb q e ≡ b → (c : Bool) → is_node_read g q ≡ c → v q ≤ w q
-      by true i c j =
-          let a = skipping_self e q (left t (weight t.nodes)) (eqb-true q e i) in omega arith
-      by false i true j =
-          let apart : q ≡ e → ⊥ = λ h. false≢true (sym i ∙ eq-eqb q e h) in
-          let a = skipping_other e q (left t (weight t.nodes)) apart in
-          let b = left_read t (weight t.nodes) q (still_read q apart j) in omega arith
-      by false i false j =
-          let a = skipping_below e q (left t (weight t.nodes)) in
-          let b = left_below t (weight t.nodes) q in
-          let c = left_unread g (weight g.nodes) q j in
-          let d = no_more q in omega arith
+  v_le q = left_le g t (weight g.nodes) (weight t.nodes) e q (no_more q) (still_read q)
 
   each_le : (ds : List Entry) → AllByRecursion (λ y. v y.number ≤ w y.number) ds
   each_le [] = tt

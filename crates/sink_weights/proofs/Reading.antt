@@ -1,6 +1,6 @@
 -- The outputs that are numbered are those that have a reader, in order.
-use Rattle.std.proofs.Common.{◌≡◌, ℕ, ◌+◌, ◌<◌, Bool, true, List, [], ◌∷◌, ◌++◌, Option, Some, None, zero, suc, refl, sym, ap, ◌∙◌, subst, arith}
-use Rattle.std.specs.List.{AllByRecursion}
+use Rattle.std.proofs.Common.{◌≡◌, ℕ, ◌+◌, ◌-◌, ◌<◌, Bool, true, List, [], ◌∷◌, ◌++◌, Option, Some, None, zero, suc, refl, sym, ap, ◌∙◌, subst, arith}
+use Rattle.std.specs.List.{AllByRecursion, cons_option}
 use Rattle.sink_laws.specs.of_exec_graph.Forests.{Forest, Bare, Grow, after, after_out, new_out, numbered}
 use Rattle.sink_laws.specs.of_exec_graph.Meaning.{place, node_at}
 use Rattle.sink_laws.specs.of_exec_graph.Readers.{is_read}
@@ -9,29 +9,10 @@ use Rattle.sink_laws.specs.of_exec_graph.declared.graph.Place.{Place}
 use Rattle.sink_laws.specs.of_exec_graph.declared.graph.Node.TheVariants.{Pdo}
 use Rattle.sink_laws.specs.of_exec_graph.declared.graph.Graph.{Graph}
 use Rattle.sink_laws.proofs.of_exec_graph.Entries.{all_found}
+use Rattle.sink_laws.proofs.of_exec_graph.Numbered.{forest_up}
 use Rattle.sink_laws.specs.Sinking.{outputs_of}
 use Rattle.sink_laws.proofs.Outs.{has_from}
-use Rattle.sink_weights.specs.Outputs.{number_of, numbers, passing, read_outputs, from}
-
--- How many outputs are numbered.
-abbrev one_of : Option ℕ → ℕ
-one_of None = 0
-one_of (Some j) = 1
-
-abbrev count : Forest → ℕ
-count Bare = 0
-count (Grow l kids rest) = one_of l.out + (count kids + count rest)
-
-after_one : (n : ℕ) (o : Option ℕ) → after_out n o ≡ n + one_of o
-after_one n None = omega arith
-after_one n (Some j) = omega arith
-
-after_count : (n : ℕ) (f : Forest) → after n f ≡ n + count f
-after_count n Bare = omega arith
-after_count n (Grow l kids rest) =
-    let a = after_one n l.out in
-    let b = after_count (after_out n l.out) kids in
-    let c = after_count (after (after_out n l.out) kids) rest in omega arith
+use Rattle.sink_weights.specs.Outputs.{numbers, passing, read_outputs, from}
 
 from_append : (n a b : ℕ) → from n (a + b) ≡ from n a ++ from (n + a) b
 from_append n zero b =
@@ -43,31 +24,27 @@ from_append n (suc a) b =
     let h = from_append (n + 1) a b in
     ap (from n) e ∙ ap (λ l. n ∷ l) (h ∙ ap (λ (k : ℕ). from (n + 1) a ++ from k b) i)
 
-number_new : (n : ℕ) (o : Option ℕ) → number_of (new_out n o) ≡ from n (one_of o)
-number_new n None = refl
-number_new n (Some j) = refl
+consed : (n k m : ℕ) (o : Option ℕ) (js : List ℕ) → after_out n o + m ≡ n + k
+    → js ≡ from (after_out n o) m → cons_option (new_out n o) js ≡ from n k
+consed n k m None js c e = let s : m ≡ k = omega arith in e ∙ ap (from n) s
+consed n k m (Some j) js c e =
+    let s : suc m ≡ k = omega arith in ap (λ (l : List ℕ). n ∷ l) e ∙ ap (from n) s
 
-numbers_new : (n : ℕ) (f : Forest) → numbers (numbered n f) ≡ from n (count f)
-numbers_new n Bare = refl
-numbers_new n (Grow l kids rest) =
-    let a : after_out n l.out ≡ n + one_of l.out = after_one n l.out in
-    let b : after (after_out n l.out) kids ≡ (n + one_of l.out) + count kids =
-    after_count (after_out n l.out) kids ∙ ap (λ (k : ℕ). k + count kids) a in
-    let x : number_of (new_out n l.out) ≡ from n (one_of l.out) = number_new n l.out in
-    let y : numbers (numbered (after_out n l.out) kids) ≡ from (n + one_of l.out) (count kids) =
-    numbers_new (after_out n l.out) kids ∙ ap (λ (k : ℕ). from k (count kids)) a in
-    let z : numbers (numbered (after (after_out n l.out) kids) rest)
-    ≡ from ((n + one_of l.out) + count kids) (count rest) =
-    numbers_new (after (after_out n l.out) kids) rest ∙ ap (λ (k : ℕ). from k (count rest)) b in
-    ap (λ (xs : List ℕ). xs ++ (numbers (numbered (after_out n l.out) kids)
-    ++ numbers (numbered (after (after_out n l.out) kids) rest))) x
-    ∙ ap (λ (ys : List ℕ). from n (one_of l.out) ++ (ys
-    ++ numbers (numbered (after (after_out n l.out) kids) rest))) y
-    ∙ ap (λ (zs : List ℕ). from n (one_of l.out)
-    ++ (from (n + one_of l.out) (count kids) ++ zs)) z
-    ∙ ap (λ (ys : List ℕ). from n (one_of l.out) ++ ys)
-    (sym (from_append (n + one_of l.out) (count kids) (count rest)))
-    ∙ sym (from_append n (one_of l.out) (count kids + count rest))
+numbers_new : (n k : ℕ) (f : Forest) → n + k ≡ after n f → numbers (numbered n f) ≡ from n k
+numbers_new n k Bare c = let z : zero ≡ k = omega arith in ap (from n) z
+numbers_new n k (Grow l kids rest) c =
+    let a : ℕ = after_out n l.out in
+    let b : ℕ = after a kids in
+    let i : ℕ = b - a in
+    let j : ℕ = after b rest - b in
+    let up = forest_up a kids in
+    let more = forest_up b rest in
+    let there : b ≡ a + i = omega arith in
+    consed n k (i + j) l.out (numbers (numbered a kids) ++ numbers (numbered b rest)) (omega arith)
+    (ap (λ (js : List ℕ). js ++ numbers (numbered b rest)) (numbers_new a i kids (omega arith))
+    ∙ ap (λ (js : List ℕ). from a i ++ js)
+    (numbers_new b j rest (omega arith) ∙ ap (λ (m : ℕ). from m j) there)
+    ∙ sym (from_append a i j))
 
 forest_at : (g : Graph) (p : ℕ) (c : Place) (f : Forest) → IsGraphOk g
     → node_at g.nodes p ≡ Some (Pdo c f) → IsForestOk g p f
@@ -77,8 +54,8 @@ forest_at g p c f ok at = all_found (λ e. IsNodeOk g e.number e.node) g.nodes p
 pub numbers_in_order : (g : Graph) (p : ℕ) (c : Place) (f : Forest) → IsGraphOk g
     → node_at g.nodes p ≡ Some (Pdo c f) → numbers f ≡ from 0 (outputs_of f)
 numbers_in_order g p c f ok at =
-    let same : count f ≡ outputs_of f = (let a = after_count 0 f in omega arith) in
-    ap numbers (sym (forest_at g p c f ok at).order) ∙ numbers_new 0 f ∙ ap (from 0) same
+    ap numbers (sym (forest_at g p c f ok at).order)
+    ∙ numbers_new 0 (outputs_of f) f (omega arith)
 
 all_from : (P : ℕ → Type 0) (n k : ℕ) → ((j : ℕ) → j < n + k → P j) → AllByRecursion P (from n k)
 all_from P n zero h = tt

@@ -23,7 +23,7 @@ use Rattle.sink_laws.proofs.SinkFounded.{ascends_sunk, first_nodes, kept_nodes, 
 use Rattle.sink_weights.specs.Weights.{added, weight, is_of, is_node_read, unread_weight, total_weight}
 use Rattle.sink_weights.proofs.Roots.{node_of_place, reader_of, reads_of}
 use Rattle.sink_weights.proofs.SinkReads.{copy_read, forest_ok, number_read, still_read}
-use Rattle.sink_weights.proofs.Sums.{IsTidied, IsTidied-tidied, left, left_below, left_read, left_unread, skipping, skipping_below, skipping_other, skipping_self, unread_is, weigh, weigh_append, weigh_at, weigh_every, weigh_le, weigh_lt, weigh_map, weigh_none, weigh_set}
+use Rattle.sink_weights.proofs.Sums.{IsTidied, IsTidied-tidied, left, left_below, left_le, left_read, left_unread, skipping, skipping_below, unread_is, weigh, weigh_append, weigh_at, weigh_every, weigh_le, weigh_lt, weigh_map, weigh_none, weigh_set}
 use Rattle.sink_weights.proofs.Enough.{enough, copies_weigh}
 use Rattle.sink_weights.proofs.SinkPlaces.{IsLow, new_below, new_outputs, no_more, old_outputs, outputs_le, outputs_lt, root, weight_p}
 
@@ -55,21 +55,9 @@ module _ (g : Graph) (n p : ℕ) (f : Forest) (ins : List Place) (ok : IsGraphOk
 
   -- A node that stood there, but p.
   old_left_le : (q : ℕ) → (q ≡ p → ⊥) → q < g.next → v q ≤ w q
-  old_left_le q apart l = by (eqb q n) refl (is_node_read g q) refl
-    where
-      by : (b : Bool) → eqb q n ≡ b → (c : Bool) → is_node_read g q ≡ c → v q ≤ w q
-      by true i c j =
-          let a = skipping_self n q (left t (weight t.nodes)) (eqb-true q n i) in omega arith
-      by false i true j =
-          let not_n : q ≡ n → ⊥ = λ e. false≢true (sym i ∙ eq-eqb q n e) in
-          let a = skipping_other n q (left t (weight t.nodes)) not_n in
-          let b = left_read t (weight t.nodes) q
-          (still_read g n p f ins ok can t tidy q apart not_n j) in omega arith
-      by false i false j =
-          let a = skipping_below n q (left t (weight t.nodes)) in
-          let b = left_below t (weight t.nodes) q in
-          let c = left_unread g (weight g.nodes) q j in
-          let d = no_more g n p f ins ok can t tidy q l in omega arith
+  old_left_le q apart l =
+      left_le g t (weight g.nodes) (weight t.nodes) n q (no_more g n p f ins ok can t tidy q l)
+      (λ a i. still_read g n p f ins ok can t tidy q apart a i)
 
   -- New nodes are read, where p has outputs.
   none_left : (q : ℕ) → is_node_read t q ≡ true → v q ≡ 0

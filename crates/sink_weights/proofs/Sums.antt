@@ -1,6 +1,6 @@
 -- Sums over the nodes of a graph, by their numbers.
 use Rattle.std.proofs.Common.{◌≡◌, ℕ, ◌+◌, ◌<◌, ◌≤◌, Bool, true, false, cond, eqb, List, [], ◌∷◌, ◌++◌, Some, map, refl, sym, ap, ◌∙◌, subst, arith}
-use Rattle.std.proofs.lemmas.Bool.{eqb-true, eq-eqb}
+use Rattle.std.proofs.lemmas.Bool.{eqb-true, eq-eqb, false≢true}
 use Rattle.std.specs.List.{AllByRecursion}
 use Rattle.flume_value.proofs.EachLemmas.{Each-weaker}
 use Rattle.sink_laws.specs.of_exec_graph.Meaning.{node_at, AllDiffer, place}
@@ -117,16 +117,34 @@ weigh_none v (e ∷ es) a =
 abbrev pub skipping : ℕ → (ℕ → ℕ) → ℕ → ℕ
 skipping n u q = cond (eqb q n) 0 (u q)
 
-pub skipping_other : (n q : ℕ) (u : ℕ → ℕ) → (q ≡ n → ⊥) → skipping n u q ≡ u q
+skipping_other : (n q : ℕ) (u : ℕ → ℕ) → (q ≡ n → ⊥) → skipping n u q ≡ u q
 skipping_other n q u h =
     let e : eqb q n ≡ false = not_true (eqb q n) (λ i. h (eqb-true q n i)) in rw e refl
 
-pub skipping_self : (n q : ℕ) (u : ℕ → ℕ) → q ≡ n → skipping n u q ≡ 0
+skipping_self : (n q : ℕ) (u : ℕ → ℕ) → q ≡ n → skipping n u q ≡ 0
 skipping_self n q u h = let e : eqb q n ≡ true = eq-eqb q n h in rw e refl
 
 pub skipping_below : (n q : ℕ) (u : ℕ → ℕ) → skipping n u q ≤ u q
 skipping_below n q u = elim (eqb q n) as (λ b. cond b 0 (u q) ≤ u q)
     [ true ↦ omega arith | false ↦ omega arith ]
+
+-- What is left of a node weighs no more, where it weighs no more and is read if it was.
+pub left_le : (g t : Graph) (m k : ℕ → ℕ) (n q : ℕ) → k q ≤ m q
+    → ((q ≡ n → ⊥) → is_node_read g q ≡ true → is_node_read t q ≡ true)
+    → skipping n (left t k) q ≤ left g m q
+left_le g t m k n q less still = by (eqb q n) refl (is_node_read g q) refl
+  where
+    by : (b : Bool) → eqb q n ≡ b → (c : Bool) → is_node_read g q ≡ c
+        → skipping n (left t k) q ≤ left g m q
+    by true i c j = let a = skipping_self n q (left t k) (eqb-true q n i) in omega arith
+    by false i true j =
+        let apart : q ≡ n → ⊥ = λ e. false≢true (sym i ∙ eq-eqb q n e) in
+        let a = skipping_other n q (left t k) apart in
+        let b = left_read t k q (still apart j) in omega arith
+    by false i false j =
+        let a = skipping_below n q (left t k) in
+        let b = left_below t k q in
+        let c = left_unread g m q j in omega arith
 
 -- h without n, where nothing reads that.
 pub record IsTidied (h t : Graph) (n : ℕ) : Type 0 where

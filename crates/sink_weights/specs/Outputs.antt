@@ -1,6 +1,7 @@
 -- The outputs of a Pdo that have a reader, and the step of a Pdo with one output.
-use Rattle.std.specs.Prelude.{ℕ, ◌+◌, Bool, cond, List, [], ◌∷◌, ◌++◌, length, Option, Some, None}
+use Rattle.std.specs.Prelude.{ℕ, ◌+◌, Bool, cond, List, [], ◌∷◌, ◌++◌, length}
 use Rattle.std.proofs.Common.{zero, suc}
+use Rattle.std.specs.List.{cons_option}
 use Rattle.sink_laws.specs.of_exec_graph.Forests.{Forest, Bare, Grow}
 use Rattle.sink_laws.specs.of_exec_graph.Meaning.{place}
 use Rattle.sink_laws.specs.of_exec_graph.Readers.{is_read}
@@ -10,15 +11,10 @@ use Rattle.sink_laws.specs.of_exec_graph.declared.graph.Graph.{Graph}
 use Rattle.sink_laws.specs.of_graph_laws.Joining.{set_node}
 use Rattle.sink_laws.specs.Sinking.{copies, copied}
 
--- The number that an output has, where it has one.
-abbrev pub number_of : Option ℕ → List ℕ
-number_of None = []
-number_of (Some j) = j ∷ []
-
 -- The numbers of a forest's outputs, in preorder: an output that nothing reads has none.
 abbrev pub numbers : Forest → List ℕ
 numbers Bare = []
-numbers (Grow l kids rest) = number_of l.out ++ (numbers kids ++ numbers rest)
+numbers (Grow l kids rest) = cons_option l.out (numbers kids ++ numbers rest)
 
 -- The numbers that pass a test.
 abbrev pub passing : (ℕ → Bool) → List ℕ → List ℕ

@@ -25,7 +25,7 @@ use Rattle.exec_plan.specs.declared.plan.Stage.{Stage}
 use Rattle.exec_plan.specs.declared.plan.Stage.TheVariants.{Mscr, Flatten, Operate}
 use Rattle.plan_phases.specs.Phases.{OfAct, OfTasks, phases_from, reduce_phases, stage_phases, tasks_below}
 use Rattle.task_lists.specs.Lists.{calm, given_lists, object_made, result_lists, run_lists, with_lists}
-use Rattle.task_lists.specs.Plans.{Says, stage_tasks, tasks_from}
+use Rattle.task_lists.specs.Plans.{SaysOfTasks, stage_tasks, tasks_from}
 use Rattle.task_lists.specs.Tasks.{Lists, Split, Task, elements_beside, gathered, given_to, grouping_at, groupings, if_valued, map_count, map_task, map_task_of, no_task, reduce_count, reduce_task, task_gives, value_beside}
 use Rattle.stage_exec.specs.inner.Reads.{AgreeOn, later_reads}
 
@@ -128,7 +128,7 @@ module _ (w : World) (n : Split) (t u : Lists) where
       (shard_same c (agree_front t u (in_reads c) (flat_map in_reads ins) agree) i j)) n.shards
       ++ map_phase_same f ins (agree_back t u (in_reads c) (flat_map in_reads ins) agree) j
 
-  pub stage_tasks_same : {Y : Type 0} (q : Says Y) (s : Stage) → AgreeOn (stage_reads s) t u
+  pub stage_tasks_same : {Y : Type 0} (q : SaysOfTasks Y) (s : Stage) → AgreeOn (stage_reads s) t u
       → stage_tasks q w n t s ≡ stage_tasks q w n u s
   stage_tasks_same q (Mscr s) agree = λ j.
       map_phase_same q.maps s.inputs agree j
@@ -217,7 +217,7 @@ module _ (w : World) (n : Split) (outputs : List PlanPlace) where
         with_agree k (result_lists w n t s) t u places back
         ∙ ap (λ ls. map (with_lists k ls u) places) (results_same w n t u s here)
 
-  pub tasks_from_same : {Y : Type 0} (q : Says Y) (k : ℕ) (stages : List Stage) (t u : Lists)
+  pub tasks_from_same : {Y : Type 0} (q : SaysOfTasks Y) (k : ℕ) (stages : List Stage) (t u : Lists)
       → AgreeOn (later_reads stages outputs) t u
       → tasks_from q w n k stages t ≡ tasks_from q w n k stages u
   tasks_from_same q k [] t u agree = refl

@@ -24,14 +24,7 @@ pub(crate) fn drop_read(
 {
     match stage {
         Stage::Mscr(stage) => {
-            drop_inputs(
-                alloc,
-                sources,
-                results,
-                stage.inputs.as_slice(),
-                later,
-                outputs,
-            );
+            drop_inputs(alloc, sources, results, &stage.inputs, later, outputs);
         }
         Stage::Flatten(takes) | Stage::Operate(takes, _, _, _) => {
             for place in takes.as_slice() {
@@ -41,20 +34,20 @@ pub(crate) fn drop_read(
     }
 }
 
-/// Drops those lists which these input channels have read, and which no later stage and no output
-/// reads.
+/// Drops those lists which these input channels have read, objects beside them included, and which
+/// no later stage and no output reads.
 pub(crate) fn drop_inputs(
     alloc: Global,
     sources: &mut Vec<Items>,
     results: &mut Vec<Pile<Items>>,
-    inputs: &[InChannel],
+    inputs: &Pile<InChannel>,
     later: &[Stage],
     outputs: &[PlanPlace],
 )
     ensures kept { KeepsLater later.now outputs.now sources.old.items results.old.items
         sources.new.items results.new.items }
 {
-    for input in inputs {
+    for input in inputs.as_slice() {
         drop_input(alloc, sources, results, input, later, outputs);
     }
 }
@@ -97,20 +90,19 @@ fn drop_unread(
 
 // Whether one of these stages reads a collection, or it is an output.
 fn is_read(later: &[Stage], outputs: &[PlanPlace], place: PlanPlace) -> bool
-    ensures { result ≡ list_any (λ q. spec.is_same q place) (later_reads later.now outputs.now) }
+    ensures { result ≡ spec.is_among (later_reads later.now outputs.now) place }
 {
     any_reads(later, place) || is_among(outputs, place)
 }
 
 fn any_reads(stages: &[Stage], place: PlanPlace) -> bool
-    ensures { result
-        ≡ list_any (λ s. list_any (λ q. spec.is_same q place) (stage_reads s)) stages.now }
+    ensures { result ≡ list_any (λ s. spec.is_among (stage_reads s) place) stages.now }
 {
     stages.iter().any(|stage| reads(stage, place))
 }
 
 fn reads(stage: &Stage, place: PlanPlace) -> bool
-    ensures { result ≡ list_any (λ q. spec.is_same q place) (stage_reads stage.now) }
+    ensures { result ≡ spec.is_among (stage_reads stage.now) place }
 {
     match stage {
         Stage::Mscr(stage) => has_input(stage.inputs.as_slice(), place),
@@ -121,21 +113,20 @@ fn reads(stage: &Stage, place: PlanPlace) -> bool
 }
 
 fn has_input(inputs: &[InChannel], place: PlanPlace) -> bool
-    ensures { result
-        ≡ list_any (λ c. list_any (λ q. spec.is_same q place) (in_reads c)) inputs.now }
+    ensures { result ≡ list_any (λ c. spec.is_among (in_reads c) place) inputs.now }
 {
     inputs.iter().any(|input| takes_in(input, place))
 }
 
 // Whether an input channel reads a collection, or calls its steps beside it.
 fn takes_in(input: &InChannel, place: PlanPlace) -> bool
-    ensures { result ≡ list_any (λ q. spec.is_same q place) (in_reads input.now) }
+    ensures { result ≡ spec.is_among (in_reads input.now) place }
 {
     is_same(input.reads, place) || is_beside(input.beside, place)
 }
 
 fn is_beside(beside: Option<PlanPlace>, place: PlanPlace) -> bool
-    ensures { result ≡ list_any (λ q. spec.is_same q place) (object_places beside) }
+    ensures { result ≡ spec.is_among (object_places beside) place }
 {
     match beside {
         None => false,

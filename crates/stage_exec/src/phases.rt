@@ -1,16 +1,15 @@
 // The phases of a stage, one after the other.
-ghost use Rattle.std.specs.Prelude.{◌<◌, ◌≤◌, ◌∷◌, [], length, map, IfOk};
+ghost use Rattle.std.specs.Prelude.{◌<◌, ◌≤◌, length, map, IfOk};
 ghost use Rattle.std.specs.List.{AllZip};
 ghost use Rattle.crew.specs.Hosts.{Grew};
 ghost use Rattle.exec_plan.specs.declared.plan.Stage.TheVariants as stages;
 ghost use Rattle.stage_results.specs.of_map_shard.Tables.{table};
-ghost use Rattle.plan_phases.specs.Phases.{OfTasks, map_phase_of, stage_phases};
+ghost use Rattle.plan_phases.specs.Phases.{stage_phases};
 ghost use Rattle.stage_results.specs.of_stage_phases.Outs.{AreStageOuts};
 ghost use Rattle.stage_results.specs.of_stage_phases.Runs.{InEachWorld, InSomeWorld};
 ghost use Rattle.stage_results.specs.of_stage_phases.Runs.{RunHasEnded, split_of};
 ghost use Rattle.stage_exec.specs.inner.Reads.{KeepsLater};
 ghost use Rattle.stage_results.specs.of_task_safety.Stages.{CanRunStage};
-ghost use Rattle.task_lists.specs.Outs.{AreMapOuts};
 
 use crate::dropping::drop_inputs;
 use exec_plan::{Mscr, PlanPlace, Stage};
@@ -64,56 +63,12 @@ pub(crate) fn stage_outs<R: Threads + Sync, F: Functions + Sync, H: Host + Send>
     ensures kept { KeepsLater later.now outputs.now sources.old.items results.old.items
         sources.new.items results.new.items }
 {
-    let maps = all_maps(
-        rt, alloc, inputs, &*sources, &*results, stage, number, hosts, winners,
+    let rows = sources.as_slice();
+    let lists = results.as_slice();
+    let maps = map_outs(
+        rt, alloc, inputs, rows, lists, stage, number, hosts, winners,
     )?;
-    drop_inputs(
-        alloc,
-        sources,
-        results,
-        stage.inputs.as_slice(),
-        later,
-        outputs,
-    );
+    drop_inputs(alloc, sources, results, &stage.inputs, later, outputs);
     let reduces = reduce_outs(rt, alloc, inputs, stage, number, &maps, hosts, winners)?;
     Ok(StageOuts { maps, reduces })
-}
-
-// Runs the map phase over the lists that there are.
-fn all_maps<R: Threads + Sync, F: Functions + Sync, H: Host + Send>(
-    rt: &R,
-    alloc: Global,
-    inputs: &Inputs<'_, F>,
-    sources: &Vec<Items>,
-    results: &Vec<Pile<Items>>,
-    stage: &Mscr,
-    number: u32,
-    hosts: &mut [H],
-    winners: &mut Vec<PhaseWinners>,
-) -> Result<Vec<MapOut>, RunFault>
-    requires hosts { (0 < length hosts.old) × (length hosts.old ≤ 16) }
-    requires ready { InSomeWorld (F.called inputs.now.functions.now) (λ w. CanRunStage w
-        (F.can_call inputs.now.functions.now) number
-        (table sources.now.items results.now.items) (stages.Mscr stage.now)) }
-    ensures grew { AllZip Grew (map H.account hosts.old) (map H.account hosts.new) }
-    ensures outs { InEachWorld (F.called inputs.now.functions.now) (λ w. IfOk result (λ outs.
-        AreMapOuts w (split_of inputs.now.settings.now)
-        (table sources.now.items results.now.items) stage.now outs.items)) }
-    ensures ended { InEachWorld (F.called inputs.now.functions.now) (λ w. RunHasEnded
-        inputs.now.settings.now w (OfTasks (map_phase_of number (split_of inputs.now.settings.now)
-        (table sources.now.items results.now.items) stage.now) ∷ []) (map H.account hosts.old)
-        (map H.account hosts.new) winners.old.items winners.new.items result) }
-{
-    let rows = sources.as_slice();
-    map_outs(
-        rt,
-        alloc,
-        inputs,
-        rows,
-        results.as_slice(),
-        stage,
-        number,
-        hosts,
-        winners,
-    )
 }

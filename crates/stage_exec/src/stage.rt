@@ -1,26 +1,23 @@
 // One stage.
-ghost use Rattle.std.specs.Prelude.{◌≡◌, ◌<◌, ◌≤◌, ◌*◌, ◌∷◌, [], true, length, map, IfOk};
+ghost use Rattle.std.specs.Prelude.{◌≡◌, ◌<◌, ◌≤◌, ◌*◌, ◌∷◌, [], length, map, IfOk};
 ghost use Rattle.std.specs.List.{AllZip, flat_map};
 ghost use Rattle.crew.specs.Hosts.{Grew};
-ghost use Rattle.exec_graph.specs.Objects.{gives_object};
 ghost use Rattle.exec_graph.specs.World.{World};
 ghost use Rattle.exec_plan.specs.declared.plan.Stage.TheVariants as stages;
 ghost use Rattle.stage_results.specs.of_map_shard.Tables.{split, table};
 ghost use Rattle.plan_phases.specs.Phases.{stage_phases};
-ghost use Rattle.stage_exec.specs.inner.Objects.{GivesObject, MakingHasEnded};
+ghost use Rattle.stage_exec.specs.inner.Objects.{GivesObject};
 ghost use Rattle.stage_exec.specs.inner.Reads.{KeepsLater};
 ghost use Rattle.stage_exec.specs.inner.Stages.{IsStageGiven};
 ghost use Rattle.stage_results.specs.of_stage_phases.Outs.{AreStageOuts};
 ghost use Rattle.stage_results.specs.of_stage_phases.Runs.{InEachWorld, InSomeWorld};
 ghost use Rattle.stage_results.specs.of_stage_phases.Runs.{RunHasEnded, split_of};
 ghost use Rattle.stage_results.specs.of_task_safety.Stages.{CanRunStage};
-ghost use Rattle.task_lists.specs.Lists.{object_made};
 ghost use Rattle.task_lists.specs.Tasks.{Lists};
 
 use crate::flatten::flatten_lists;
 use crate::objects::object_lists;
 use crate::phases::{StageOuts, stage_outs};
-use exec_graph::Act;
 use exec_plan::{Mscr, PlanPlace, Stage};
 use flume_value::{Items, Pile};
 use forest_steps::Functions;
@@ -66,17 +63,25 @@ pub(crate) fn run_stage<R: Threads + Sync, F: Functions + Sync, H: Host + Send>(
         sources.new.items results.new.items }
 {
     match stage {
-        Stage::Mscr(stage) => run_mscr(
-            rt, alloc, inputs, sources, results, stage, number, later, outputs, hosts, sizes,
-            winners,
-        ),
+        Stage::Mscr(mscr) => {
+            let shards = inputs.settings.shards();
+            let partitions = inputs.settings.partitions();
+            let outs = stage_outs(
+                rt, alloc, inputs, sources, results, mscr, number, later, outputs, hosts, winners,
+            )?;
+            Ok(mscr_lists(alloc, mscr, shards, partitions, outs, sizes)?)
+        }
         Stage::Flatten(takes) => match flat_lists(alloc, &*sources, &*results, takes) {
             Ok(lists) => Ok(lists),
             Err(AllocError) => Err(RunFault::Memory),
         },
-        Stage::Operate(takes, origin, last, act) => object_of(
-            alloc, inputs, &*sources, &*results, takes, *origin, *last, *act, number, sizes,
-        ),
+        Stage::Operate(takes, origin, last, act) => {
+            let rows = sources.as_slice();
+            let lists = results.as_slice();
+            object_lists(
+                alloc, inputs, rows, lists, takes, *origin, *last, *act, number, sizes,
+            )
+        }
     }
 }
 
@@ -94,76 +99,6 @@ fn flat_lists(
     let mut lists = Vec::new(alloc);
     lists.push(flatten_lists(alloc, rows, results.as_slice(), takes.as_slice())?)?;
     Ok(Pile::from_vec(lists))
-}
-
-// An Operate stage has none either.
-fn object_of<F: Functions>(
-    alloc: Global,
-    inputs: &Inputs<'_, F>,
-    sources: &Vec<Items>,
-    results: &Vec<Pile<Items>>,
-    takes: &Pile<PlanPlace>,
-    origin: u32,
-    last: bool,
-    act: Act,
-    _number: u32,
-    sizes: &mut [u64],
-) -> Result<Pile<Items>, RunFault>
-    requires object { gives_object act ≡ true }
-    requires ready { InSomeWorld (F.called inputs.now.functions.now) (λ w. CanRunStage w
-        (F.can_call inputs.now.functions.now) _number
-        (table sources.now.items results.now.items)
-        (stages.Operate takes.now origin last act)) }
-    ensures { InEachWorld (F.called inputs.now.functions.now) (λ w. MakingHasEnded w origin last
-        (object_made w (table sources.now.items results.now.items) origin act takes.now)
-        sizes.old sizes.new result) }
-{
-    let rows = sources.as_slice();
-    let lists = results.as_slice();
-    object_lists(
-        alloc, inputs, rows, lists, takes, origin, last, act, _number, sizes,
-    )
-}
-
-fn run_mscr<R: Threads + Sync, F: Functions + Sync, H: Host + Send>(
-    rt: &R,
-    alloc: Global,
-    inputs: &Inputs<'_, F>,
-    sources: &mut Vec<Items>,
-    results: &mut Vec<Pile<Items>>,
-    stage: &Mscr,
-    number: u32,
-    later: &[Stage],
-    outputs: &[PlanPlace],
-    hosts: &mut [H],
-    sizes: &mut [u64],
-    winners: &mut Vec<PhaseWinners>,
-) -> Result<Pile<Items>, RunFault>
-    requires hosts { (0 < length hosts.old) × (length hosts.old ≤ 16) }
-    requires ready { InSomeWorld (F.called inputs.now.functions.now) (λ w. CanRunStage w
-        (F.can_call inputs.now.functions.now) number
-        (table sources.old.items results.old.items) (stages.Mscr stage.now)) }
-    ensures grew { AllZip Grew (map H.account hosts.old) (map H.account hosts.new) }
-    ensures given { InEachWorld (F.called inputs.now.functions.now) (λ w. IfOk result
-        (IsStageGiven w (split_of inputs.now.settings.now)
-        (table sources.old.items results.old.items) (stages.Mscr stage.now) sizes.old sizes.new)) }
-    ensures ended { InEachWorld (F.called inputs.now.functions.now) (λ w. RunHasEnded
-        inputs.now.settings.now w (stage_phases w number (split_of inputs.now.settings.now)
-        (table sources.old.items results.old.items) (stages.Mscr stage.now))
-        (map H.account hosts.old) (map H.account hosts.new)
-        winners.old.items winners.new.items result) }
-    ensures kept { KeepsLater later.now outputs.now sources.old.items results.old.items
-        sources.new.items results.new.items }
-{
-    let shards = inputs.settings.shards();
-    let partitions = inputs.settings.partitions();
-    let outs = stage_outs(
-        rt, alloc, inputs, sources, results, stage, number, later, outputs, hosts, winners,
-    )?;
-    match mscr_lists(alloc, stage, shards, partitions, outs, sizes) {
-        Ok(lists) => Ok(lists),
-        Err(AllocError) => Err(RunFault::Memory),
-    }
 }
 
 // The results of the stage, of what its tasks have made.

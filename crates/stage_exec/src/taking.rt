@@ -1,6 +1,5 @@
 // Lists that are taken away. The others stay.
 ghost use Rattle.std.specs.Prelude.{◌≡◌, ℕ, [], false, length, slice_get};
-ghost use Rattle.std.specs.List.{list_any};
 ghost use Rattle.flume_collection.specs.Calls.{or_none};
 ghost use Rattle.flume_types.specs.Typing.{AllHave};
 ghost use Rattle.flume_types.specs.declared.types.Ty.{Ty as GhostTy};
@@ -17,7 +16,7 @@ use std::mem;
 
 /// Whether a collection is one of these.
 pub(crate) fn is_among(places: &[PlanPlace], place: PlanPlace) -> bool
-    ensures { result ≡ list_any (λ q. spec.is_same q place) places.now }
+    ensures { result ≡ spec.is_among places.now place }
 {
     places.iter().any(|other| is_same(*other, place))
 }

@@ -5,7 +5,7 @@ use Rattle.flume_collection.specs.Calls.{Called}
 use Rattle.outside.specs.declared.host.Phase.TheVariants.{Map}
 use Rattle.crew.specs.Drills.{Settings}
 use Rattle.exec_graph.specs.World.{World}
-use Rattle.task_lists.specs.Outs.{IsCalm, IsFirstTrap}
+use Rattle.task_lists.specs.Outs.{IsCalm, IsFirstTaskTrap}
 use Rattle.task_lists.specs.Tasks.{Task, map_task_at, places}
 use Rattle.map_shard.specs.Work.{IsWorkValue, Work, lists_of, split_of, work_count, work_places}
 use Rattle.plan_phases.specs.Phases.{map_phase_of}
@@ -26,7 +26,7 @@ module _ {F : Type 0} (work : Work F) (w : World) (called : ℕ → Value → Ca
     calm = λ j task out at is.
         subst (IsCalm w) (at_below task_of (work_count work) j task at) (is w same).calm;
     trapped = λ j task trap at is.
-        subst (λ x. IsFirstTrap w x trap) (at_below task_of (work_count work) j task at)
+        subst (λ x. IsFirstTaskTrap w x trap) (at_below task_of (work_count work) j task at)
         (is w same);
     asks = λ j task at. ap places (at_below task_of (work_count work) j task at);
   }

@@ -19,13 +19,16 @@ use Rattle.exec_plan.specs.declared.plan.Grouping.{Grouping}
 use Rattle.exec_plan.specs.declared.plan.Mscr.{Mscr as Channels}
 use Rattle.exec_plan.specs.declared.plan.OutChannel.{OutChannel}
 use Rattle.exec_plan.specs.declared.plan.OutChannel.TheVariants.{Group, Pass}
-use Rattle.task_lists.specs.Outs.{AreMapOuts, IsCalm, IsFirstTrap}
+use Rattle.exec_plan.specs.declared.plan.Stage.{Stage}
+use Rattle.exec_plan.specs.Wellformed.{IsMscrOk}
+use Rattle.task_lists.specs.Outs.{AreMapOuts, IsCalm, IsFirstTaskTrap}
 use Rattle.task_lists.specs.Tasks.{Lists, Split, Task, groupings, no_task, places, reduce_count, reduce_task, reduce_task_at}
 use Rattle.reduce_part.specs.declared.out.ReduceOut.{ReduceOut}
 use Rattle.reduce_part.specs.Reducing.{AreGroupsFirst, IsGathered, IsReducingValue, IsReduceValue, Reducing, group_count, group_task, reducing_count, reducing_places}
 use Rattle.map_shard.specs.Tables.{split}
 use Rattle.plan_phases.specs.Phases.{OfTasks, reduce_phase_of, reduce_phases, tasks_below}
 use Rattle.stage_phases.specs.Outs.{AreReduceOuts, IsOutOf}
+use Rattle.stage_phases.specs.Stages.{CanReduceStage}
 use Rattle.stage_phases.specs.inner.Channels.{is_group}
 use Rattle.stage_phases.specs.inner.Tasks.{AreValues, IsPhaseOf}
 use Rattle.reduce_part.proofs.Shuffled.{few_groupings, gathered_at, pairs_at, task_is}
@@ -72,10 +75,20 @@ count_within r made is some few groups channels =
     rw is (omega arith, omega arith)
 
 module _ {F : Type 0} (r : Reducing F) (w : World) (called : ℕ → Value → Called)
-    (same : w.called ≡ called) (shards : ℕ) (t : Lists)
-    (first : AreGroupsFirst r.stage.outputs) (some : 0 < shards)
-    (some_partitions : 0 < r.partitions)
+    (same : w.called ≡ called) (shards : ℕ) (t : Lists) (takes : ℕ → Value → Type 0) (number : ℕ)
+    (ready : CanReduceStage called takes (split shards r.partitions) number r.stage r.outs)
+    (law : (sources : ℕ) (before : List Stage) (s : Channels) → IsMscrOk sources before s
+    → AreGroupsFirst s.outputs)
     (made : AreMapOuts w (split shards r.partitions) t r.stage r.outs) where
+  first : AreGroupsFirst r.stage.outputs
+  first = law ready.ready.sources ready.ready.before r.stage ready.ready.ok
+
+  some : 0 < shards
+  some = ready.cut.0
+
+  some_partitions : 0 < r.partitions
+  some_partitions = ready.cut.1
+
   abbrev n : Split
   n = split shards r.partitions
 
@@ -150,7 +163,7 @@ module _ {F : Type 0} (r : Reducing F) (w : World) (called : ℕ → Value → C
         subst (IsCalm w) (at_below task_of (reducing_count r) j task at)
         (value_of j (Ok out) (below_count j task at) is).calm;
     trapped = λ j task trap at is.
-        subst (λ x. IsFirstTrap w x trap) (at_below task_of (reducing_count r) j task at)
+        subst (λ x. IsFirstTaskTrap w x trap) (at_below task_of (reducing_count r) j task at)
         (value_of j (Err trap) (below_count j task at) is);
     asks = λ j task at.
         let h = place_of j (below_count j task at) in

@@ -10,7 +10,7 @@ use Rattle.flume_collection.specs.declared.trap.Trap.{Trap}
 use Rattle.phase_outs.specs.declared.made.PhaseOuts.{PhaseOuts}
 use Rattle.phase_outs.specs.declared.stop.PhaseStop.{PhaseStop}
 use Rattle.phase_outs.specs.declared.stop.PhaseStop.TheVariants as stop
-use Rattle.phase_outs.specs.Outs.{AreMade, AreMadeBelow, HasComeTo, HasRun, IsStop}
+use Rattle.phase_outs.specs.Outs.{HaveMadeOuts, AreMadeBelow, HasComeTo, HasRun, IsStop}
 use Rattle.phase_outs.proofs.Placing.{some_at}
 use Rattle.task_lists.specs.Outs.{IsCalm}
 use Rattle.task_lists.specs.Tasks.{Task, places}
@@ -120,7 +120,7 @@ module _ (w : World) (ph : PhaseTasks) (s : Settings) (tasks : ℕ) {O : Type 0}
       )
 
   pub has_run : (before after : List PhaseWinners) (made : PhaseOuts O)
-      → AreMade tasks s is_value asked us vs made → AreAskedOnce tasks s asked us vs
+      → HaveMadeOuts tasks s is_value asked us vs made → AreAskedOnce tasks s asked us vs
       → after ≡ before
       ++ record { stage = s.stage; phase = s.phase; attempts = made.attempts.items }
       ∷ [] → HaveRun s.tries s.drill w (OfTasks ph ∷ []) us vs before after

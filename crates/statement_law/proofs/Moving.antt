@@ -9,7 +9,7 @@ use Rattle.flume_tokens.specs.declared.token.TokenKind.TheVariants as kind
 use Rattle.flume_grammar.specs.Operators.{operator_of}
 use Rattle.flume_grammar.specs.Terminals.{word_of, mark}
 use Rattle.flume_grammar.specs.declared.tree.Binary.{Binary}
-use Rattle.statement_texts.specs.Texts.{Parts, before, braces_behind, is_beginning, is_beginning_word, kinds_of, parts_from}
+use Rattle.statement_texts.specs.Texts.{StatementParts, before, braces_behind, is_beginning, is_beginning_word, kinds_of, parts_from}
 
 -- a token without its line
 abbrev pub unlined : Token → Token
@@ -87,7 +87,7 @@ at_operator {d} {e} {t} {o} {us} {vs} {ws} {xs} q m =
 
 -- ---- what is taken, by itself
 
-abbrev pub ahead : List TokenKind → Parts → Parts
+abbrev pub ahead : List TokenKind → StatementParts → StatementParts
 ahead own parts = (own ++ parts.0, parts.1)
 
 pub record Taken (d : ℕ) (ts : List Token) (e : ℕ) (us ws vs : List Token) : Type 0 where

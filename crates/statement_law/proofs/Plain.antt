@@ -35,8 +35,8 @@ go_names (g.more {x} y) d vs =
     goes (join first.moved (plain refl (plain refl stop))) (g.more first.is)
 
 pub go_numbered : {k : Keyword} {ts us : List Token} {o : Option (List ℕ)}
-    → is_beginning_word (kind.Keyword k) ≡ false → g.IsNumbered k ts us o → (d : ℕ)
-    (vs : List Token) → Goes d ts us vs (λ ws. g.IsNumbered k ws vs o)
+    → is_beginning_word (kind.Keyword k) ≡ false → g.IsOptionalNumber k ts us o → (d : ℕ)
+    (vs : List Token) → Goes d ts us vs (λ ws. g.IsOptionalNumber k ws vs o)
 go_numbered q g.absent d vs = goes stop g.absent
 go_numbered q g.present d vs = goes (plain q (plain refl stop)) g.present
 

@@ -10,7 +10,7 @@ use Rattle.flume_grammar.specs.declared.tree.Statement.{Statement}
 use Rattle.flume_grammar.specs.Grammar as g
 use Rattle.flume_grammar.specs.Limits.{Limits, the_limits}
 use Rattle.token_spelling.specs.Spellable.{IsSpellable}
-use Rattle.statement_texts.specs.Texts.{Parts, before, braces_behind, is_beginning_word, spaced, kinds_of, parts_from, texts_of}
+use Rattle.statement_texts.specs.Texts.{StatementParts, before, braces_behind, is_beginning_word, spaced, kinds_of, parts_from, texts_of}
 use Rattle.statement_law.proofs.Bodies.{map_more}
 use Rattle.statement_law.proofs.Moving.{taken, unlined}
 use Rattle.statement_law.proofs.Statements.{go_statement}
@@ -28,7 +28,7 @@ kinds_spelled [] h = tt
 kinds_spelled (t ∷ own) h = (h.0, kinds_spelled own h.1)
 
 -- statements, and nothing before the first
-abbrev only : List (List TokenKind) → Parts
+abbrev only : List (List TokenKind) → StatementParts
 only kinds = ([], kinds)
 
 -- ---- one statement
@@ -128,8 +128,8 @@ module _ (limits : Limits) where
         owns = before_.owns ++ own ∷ [];
         parts = λ e.
             let p = last.parts e in
-            before_.parts (ap (λ (q : Parts). q.0) p)
-            ∙ ap (λ (q : Parts). only (map kinds_of before_.owns ++ q.1)) p
+            before_.parts (ap (λ (q : StatementParts). q.0) p)
+            ∙ ap (λ (q : StatementParts). only (map kinds_of before_.owns ++ q.1)) p
             ∙ ap only (sym (append_assoc (map kinds_of before_.owns)
             (kinds_of own ∷ []) (parts_from 0 (kinds_of left)).1))
             ∙ ap (λ ks. only (ks ++ (parts_from 0 (kinds_of left)).1))
@@ -181,7 +181,7 @@ module _ (limits : Limits) where
       let t = texting h (recursion_from_All (λ (t : Token). IsSpellable t.kind) ts all) in
       record {
         owns = t.owns;
-        texts = ap (λ (q : Parts). map spaced q.1) (t.parts refl)
+        texts = ap (λ (q : StatementParts). map spaced q.1) (t.parts refl)
             ∙ ap (map spaced) (append-nil (map kinds_of t.owns));
         owned = t.owned;
       }

@@ -4,8 +4,8 @@ use Rattle.std.specs.List.{All}
 use Rattle.std.proofs.lemmas.List.Elements.{All-head, All-tail, All-nil, All-cons}
 use Rattle.flume_tokens.specs.declared.token.Token.{Token}
 use Rattle.flume_tokens.specs.declared.token.TokenKind.{TokenKind}
-use Rattle.flume_tokens.specs.Tokens.{Cut, tokens_from}
-use Rattle.token_spelling.specs.Spellable.{IsSpellable, Ascend, AreSpellable}
+use Rattle.flume_tokens.specs.Tokens.{TokensOrFault, tokens_from}
+use Rattle.token_spelling.specs.Spellable.{IsSpellable, AscendByLine, AreSpellable}
 use Rattle.token_spelling.specs.Spelled.{written, spelled_from, spelled}
 use Rattle.statement_texts.specs.Texts.{spaced, joined_behind, kinds_of}
 
@@ -25,7 +25,7 @@ on_one-spellable (kind ∷ kinds) all =
     (All-head IsSpellable kind kinds all)
     (on_one-spellable kinds (All-tail IsSpellable kind kinds all))
 
-on_one-ascends : (kinds : List TokenKind) → Ascend 1 (on_one kinds)
+on_one-ascends : (kinds : List TokenKind) → AscendByLine 1 (on_one kinds)
 on_one-ascends [] = tt
 on_one-ascends (kind ∷ kinds) = (omega arith, on_one-ascends kinds)
 
@@ -55,7 +55,7 @@ joined_apart cut k j ks js p q e =
     let same : on_one (k ∷ ks) ≡ on_one (j ∷ js) = cc in
     sym (kinds_back (k ∷ ks)) ∙ ap kinds_of same ∙ kinds_back (j ∷ js)
   where
-    one : List Token → Cut
+    one : List Token → TokensOrFault
     one ts = Ok ts
 
     spellable : (kinds : List TokenKind) → All IsSpellable kinds → AreSpellable (on_one kinds)

@@ -6,17 +6,17 @@ use Rattle.flume_tokens.specs.declared.token.Token.{Token}
 use Rattle.flume_tokens.specs.declared.token.TokenKind.{TokenKind}
 use Rattle.flume_tokens.specs.declared.token.TokenKind.TheVariants as kind
 use Rattle.token_spelling.specs.Spelled.{written}
-use Rattle.statement_texts.specs.Texts.{Parts, before, braces_behind, is_beginning, spaced, joined_behind, kinds_of, parts_from}
+use Rattle.statement_texts.specs.Texts.{StatementParts, before, braces_behind, is_beginning, spaced, joined_behind, kinds_of, parts_from}
 use Rattle.statement_texts.specs.inner.Passing.{finished}
 
-pub begun : (texts : List (List ℕ)) (text : List ℕ) (token : TokenKind) (rest : Parts)
+pub begun : (texts : List (List ℕ)) (text : List ℕ) (token : TokenKind) (rest : StatementParts)
     → (texts ++ text ∷ []) ++ finished (written token) rest
     ≡ texts ++ finished text (before token true rest)
 begun texts text token rest =
     append_assoc texts (text ∷ []) (finished (written token) rest)
     ∙ ap (λ t. texts ++ t ∷ finished (written token) rest) (sym (append-nil text))
 
-pub goes_on : (texts : List (List ℕ)) (text : List ℕ) (token : TokenKind) (rest : Parts)
+pub goes_on : (texts : List (List ℕ)) (text : List ℕ) (token : TokenKind) (rest : StatementParts)
     → texts ++ finished ((text ++ 32 ∷ []) ++ written token) rest
     ≡ texts ++ finished text (before token false rest)
 goes_on texts text token rest =
@@ -38,7 +38,7 @@ next_kinds tokens i token below is =
 pub one_more : (texts more all : List (List ℕ)) (text next : List ℕ) (tokens : List Token)
     (i depth behind : ℕ) (token : Token) → i < length tokens → token ≡ get_or tokens i token
     → behind ≡ braces_behind depth token.kind
-    → ((rest : Parts) → more ++ finished next rest
+    → ((rest : StatementParts) → more ++ finished next rest
     ≡ texts ++ finished text (before token.kind (is_beginning depth token.kind) rest))
     → texts ++ finished text (parts_from depth (kinds_of (drop i tokens))) ≡ all
     → more ++ finished next (parts_from behind (kinds_of (drop (i + 1) tokens))) ≡ all

@@ -28,16 +28,16 @@ braces_behind depth (kind.Sign sign.CloseBrace) = depth - 1
 braces_behind depth _ = depth
 
 -- what is left of a statement, and the statements behind it, each as its tokens
-abbrev pub Parts : Type 0
-Parts = List TokenKind × List (List TokenKind)
+abbrev pub StatementParts : Type 0
+StatementParts = List TokenKind × List (List TokenKind)
 
 -- with one token before: the first of a statement, or one more of what is left
-abbrev pub before : TokenKind → Bool → Parts → Parts
+abbrev pub before : TokenKind → Bool → StatementParts → StatementParts
 before token true parts = ([], (token ∷ parts.0) ∷ parts.1)
 before token false parts = (token ∷ parts.0, parts.1)
 
 -- the parts of tokens, where so many braces are open
-unfoldable pub parts_from : ℕ → List TokenKind → Parts
+unfoldable pub parts_from : ℕ → List TokenKind → StatementParts
 parts_from depth [] = ([], [])
 parts_from depth (token ∷ tokens) =
     before token (is_beginning depth token) (parts_from (braces_behind depth token) tokens)

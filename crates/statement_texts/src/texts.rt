@@ -41,7 +41,7 @@ fn with_token(
     texts: &mut Vec<Str>,
     text: Vec<u8>,
 ) -> Result<Vec<u8>, AllocError>
-    ensures { IfOk result (λ next. (rest : spec.Parts) →
+    ensures { IfOk result (λ next. (rest : spec.StatementParts) →
         texts.new.items ++ finished next.items rest
         ≡ texts.old.items ++ finished text.items
         (spec.before kind.now (spec.is_beginning depth kind.now) rest)) }

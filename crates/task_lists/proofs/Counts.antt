@@ -16,7 +16,7 @@ use Rattle.exec_plan.specs.declared.plan.Stage.TheVariants.{Mscr, Flatten, Opera
 use Rattle.task_lists.specs.Runs.{visits, visits_of, step_lists, counts_of, labels_in, labels_of, own_count}
 use Rattle.task_lists.specs.Tasks.{Split, Lists, Task, world_for, map_task, reduce_task, map_phase, reduce_phase, groupings}
 use Rattle.task_lists.specs.Lists.{object_made, result_lists, with_lists}
-use Rattle.task_lists.specs.Plans.{Says, stage_tasks, tasks_from, task_counts, steps_count, groups_count}
+use Rattle.task_lists.specs.Plans.{SaysOfTasks, stage_tasks, tasks_from, task_counts, steps_count, groups_count}
 use Rattle.task_lists.proofs.Elements.{visits_split}
 use Rattle.task_lists.proofs.Says.{each_says, each_own, flat_if}
 
@@ -118,12 +118,13 @@ joined_counted a b h (suc n) =
     )
 
 -- the counts of each task are how many things are said of it
-pub record Counts {Y : Type 0} (a : Says ℕ) (b : Says Y) : Type 0 where
+pub record Counts {Y : Type 0} (a : SaysOfTasks ℕ) (b : SaysOfTasks Y) : Type 0 where
   pub maps : IsCount a.maps b.maps
   pub reduces : (g : Grouping) → IsCount (a.reduces g) (b.reduces g)
   pub objects : (o : ℕ) (l : Bool) → IsCount (a.objects o l) (b.objects o l)
 
-module _ {Y : Type 0} (a : Says ℕ) (b : Says Y) (counts : Counts a b) (w : World) (n : Split) where
+module _ {Y : Type 0} (a : SaysOfTasks ℕ) (b : SaysOfTasks Y) (counts : Counts a b) (w : World)
+    (n : Split) where
   stage_counted : (t : Lists) (s : Stage)
       → sum (stage_tasks a w n t s) ≡ length (stage_tasks b w n t s)
   stage_counted t (Flatten takes) = refl

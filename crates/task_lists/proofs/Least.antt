@@ -13,7 +13,7 @@ use Rattle.exec_plan.specs.declared.plan.Stage.TheVariants.{Mscr}
 use Rattle.task_lists.specs.Runs.{traps_of}
 use Rattle.task_lists.specs.Tasks.{Split, Lists, Task, world_for, no_task, map_task_at, map_count, map_phase, reduce_task, reduce_task_at, reduce_count, reduce_phase, grouping_at}
 use Rattle.task_lists.specs.Plans.{task_traps, stage_tasks}
-use Rattle.task_lists.specs.Outs.{IsCalm, IsFirstTrap}
+use Rattle.task_lists.specs.Outs.{IsCalm, IsFirstTaskTrap}
 use Rattle.task_lists.proofs.Numbers.{joined_below, maps_numbered, reduces_numbered}
 
 joined_calm : {A : Type 0} (f : ℕ → List A) (n : ℕ) → ((i : ℕ) → i < n → f i ≡ [])
@@ -80,7 +80,7 @@ module _ (w : World) (n : Split) (some_shards : 0 < n.shards) (some : 0 < n.part
 
   pub map_first : (k : ℕ) (e : Trap) → k < map_count n s
       → ((i : ℕ) → i < k → IsCalm w (map_task_at n t s i))
-      → IsFirstTrap w (map_task_at n t s k) e
+      → IsFirstTaskTrap w (map_task_at n t s k) e
       → slice_get (stage_tasks (task_traps w) w n t (Mscr s)) 0 ≡ Some e
   map_first k e below calm first =
       first_left e maps reduces
@@ -90,7 +90,7 @@ module _ (w : World) (n : Split) (some_shards : 0 < n.shards) (some : 0 < n.part
   pub reduce_first : (k : ℕ) (e : Trap)
       → ((i : ℕ) → i < map_count n s → IsCalm w (map_task_at n t s i)) → k < reduce_count n s
       → ((i : ℕ) → i < k → IsCalm w (reduce_task_at w n t s i))
-      → IsFirstTrap w (reduce_task_at w n t s k) e
+      → IsFirstTaskTrap w (reduce_task_at w n t s k) e
       → slice_get (stage_tasks (task_traps w) w n t (Mscr s)) 0 ≡ Some e
   reduce_first k e before below calm first =
       ap (λ l. slice_get (l ++ reduces) 0) (maps_calm before)

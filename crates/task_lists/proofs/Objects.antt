@@ -1,24 +1,19 @@
 -- Objects as lists: what acts make of lists that agree with collections, and the steps that are
 -- called beside one.
-use Rattle.std.proofs.Common.{◌≡◌, ℕ, suc, List, [], ◌∷◌, ◌++◌, length, map, Option, None, Some, Result, Ok, Err, refl, sym, ap, ◌∙◌, subst, arith}
+use Rattle.std.proofs.Common.{◌≡◌, ℕ, suc, List, [], ◌∷◌, ◌++◌, length, map, Option, None, Some, refl, sym, ap, ◌∙◌, subst, arith}
 use Rattle.std.specs.Prelude.{option_map}
-use Rattle.std.specs.List.{flat_map, slice_get}
-use Rattle.std.specs.Option.{option_and_then}
+use Rattle.std.specs.List.{flat_map}
 use Rattle.flume_value.specs.declared.value.Value.{Value}
-use Rattle.flume_value.specs.declared.fault.Kind.{Kind}
 use Rattle.flume_value.specs.Bag.{bag_of}
 use Rattle.flume_value.proofs.BagLemmas.{bag_of-twice, length-bag_of}
-use Rattle.bag_groups.specs.Pairs.{value_of}
-use Rattle.combine_table.specs.declared.comb.Comb.{Comb}
-use Rattle.combine_table.specs.Combinations.{combined}
 use Rattle.flume_collection.specs.declared.trap.Trap.{Trap}
-use Rattle.flume_collection.specs.Calls.{Called, emissions, or_none}
+use Rattle.flume_collection.specs.Calls.{emissions}
 use Rattle.flume_collection.specs.Collection.{Collection, unless_trapped}
 use Rattle.flume_collection.specs.Traps.{trap_set}
 use Rattle.shards.proofs.Alike.{bag_alike}
+use Rattle.exec_plan.proofs.of_exec_graph.ActLemmas.{act_holds}
 use Rattle.exec_plan.specs.of_exec_graph.declared.graph.Act.{Act}
-use Rattle.exec_plan.specs.of_exec_graph.declared.graph.Act.TheVariants.{SideInput, Operate, Singleton}
-use Rattle.exec_plan.specs.of_exec_graph.Objects.{act_result, argument, beside, called_beside, none_of, one_answer, one_emitted, only, operated_on, or_of_nothing, side_input_on, singleton_value, unless_behind, value_in, values_in, whole_combined}
+use Rattle.exec_plan.specs.of_exec_graph.Objects.{act_result, beside, called_beside, only, side_input_on, value_in}
 use Rattle.exec_plan.specs.of_exec_graph.World.{World}
 use Rattle.exec_plan.specs.Channels.{value_on, world_in}
 use Rattle.exec_plan.specs.declared.plan.PlanPlace.{PlanPlace}
@@ -28,52 +23,15 @@ use Rattle.task_lists.proofs.Elements.{Agrees, IsBag}
 
 -- ---- what acts make is a bag
 
-emitted_bag : (o : ℕ) (x : Value) (v : Option Value) → IsBag (one_emitted o x v)
-emitted_bag o x None = refl
-emitted_bag o x (Some v) = refl
-
-answer_bag : (o : ℕ) (x : Value) (c : Called) → IsBag (one_answer o x c)
-answer_bag o x (Ok outputs) = emitted_bag o x (only (or_none (slice_get outputs 0)))
-answer_bag o x (Err trap) = refl
-
-operated_bag : (w : World) (o f : ℕ) (vs : Option (List Value)) (cs : List Collection)
-    → IsBag (operated_on w o f vs cs)
-operated_bag w o f None cs = refl
-operated_bag w o f (Some vs) cs = answer_bag o (argument vs) (w.called f (argument vs))
-
-combined_bag : (o : ℕ) (r : Result Value Kind) → IsBag (whole_combined o r)
-combined_bag o (Ok v) = refl
-combined_bag o (Err k) = refl
-
-nothing_bag : (o : ℕ) (k : Comb) (v : Option Value) → IsBag (or_of_nothing o k v)
-nothing_bag o k None = combined_bag o (combined k [])
-nothing_bag o k (Some v) = refl
-
-behind_bag : (ts : List Trap) (c d : Collection) → IsBag c → IsBag d
-    → IsBag (unless_behind ts c d)
-behind_bag [] c d h i = i
-behind_bag (t ∷ ts) c d h i = h
-
-one_bag : (o : ℕ) (k : Comb) (c : Collection) → IsBag (singleton_value o k c)
-one_bag o k c =
-    let v : Option Value = option_and_then value_of (only c.bag) in
-    behind_bag c.traps (none_of (c ∷ [])) (or_of_nothing o k v) refl (nothing_bag o k v)
-
 side_bag : (w : World) (o f : ℕ) (v : Option Value) (c d : Collection)
     → IsBag (side_input_on w o f v c d)
 side_bag w o f v c d =
     bag_of-twice (flat_map (λ x. emissions 0 ((beside v w).called f x)) (called_beside v c d).bag)
 
 pub act_bag : (w : World) (o : ℕ) (a : Act) (cs : List Collection) → IsBag (act_result w o a cs)
-unfolding act_result
-act_bag w o (SideInput f) [] = refl
-act_bag w o (SideInput f) (c ∷ []) = refl
-act_bag w o (SideInput f) (c ∷ (d ∷ [])) = side_bag w o f (value_in d) c d
-act_bag w o (SideInput f) (c ∷ (d ∷ (e ∷ es))) = refl
-act_bag w o (Operate f) cs = operated_bag w o f (values_in cs) cs
-act_bag w o (Singleton k) [] = refl
-act_bag w o (Singleton k) (c ∷ []) = one_bag o k c
-act_bag w o (Singleton k) (c ∷ (d ∷ ds)) = refl
+act_bag =
+    act_holds IsBag (λ v. refl) (λ t. refl) (λ cs. refl)
+    (λ w o f c object. side_bag w o f (value_in object) c object)
 
 -- ---- the one member of a list is that of its bag
 

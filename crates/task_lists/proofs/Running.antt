@@ -16,7 +16,7 @@ use Rattle.exec_plan.specs.declared.plan.Stage.TheVariants.{Mscr, Flatten, Opera
 use Rattle.exec_plan.specs.declared.plan.Plan.{Plan}
 use Rattle.exec_plan.specs.Channels.{fed}
 use Rattle.exec_plan.specs.Meaning.{Parts, channels_sum, in_reads, stage_sum, object_places, results, with_results, run, sources, plan_collection}
-use Rattle.exec_plan.specs.Wellformed.{IsMade, IsStageOk, AreStages, IsPlanOk, results_at}
+use Rattle.exec_plan.specs.Wellformed.{IsPlaceSoFar, IsStageOk, AreStages, IsPlanOk, results_at}
 use Rattle.exec_plan.proofs.Running.{IsBelow, run_below}
 
 -- each stage over the table that it finds
@@ -38,7 +38,7 @@ none_past before (suc j) h =
     rw (more, less, past) refl
 
 made_below : (n : ℕ) (before : List Stage) (k : ℕ) (c : PlanPlace) → k ≡ suc (length before)
-    → IsMade n before c → IsBelow k c
+    → IsPlaceSoFar n before c → IsBelow k c
 made_below n before k (at.Source r) e made = tt
 made_below n before k (at.Result stage number) e made =
     ⊎_elim (λ h. h)
@@ -48,14 +48,14 @@ made_below n before k (at.Result stage number) e made =
 -- ---- a stage over tables that say the same of what is made before it
 
 module _ (w : World) (n : ℕ) (before : List Stage) (t u : PlanPlace → Collection)
-    (same : (c : PlanPlace) → IsMade n before c → t c ≡ u c) where
-  object_same : (o : Option PlanPlace) → AllByRecursion (IsMade n before) (object_places o)
+    (same : (c : PlanPlace) → IsPlaceSoFar n before c → t c ≡ u c) where
+  object_same : (o : Option PlanPlace) → AllByRecursion (IsPlaceSoFar n before) (object_places o)
       → option_map t o ≡ option_map u o
   object_same None ok = refl
   object_same (Some c) ok = ap (λ (v : Collection). Some v) (same c ok.0)
 
   feds_same : (cs : List InChannel)
-      → AllByRecursion (λ c. AllByRecursion (IsMade n before) (in_reads c)) cs
+      → AllByRecursion (λ c. AllByRecursion (IsPlaceSoFar n before) (in_reads c)) cs
       → map (fed t) cs ≡ map (fed u) cs
   feds_same [] ok = refl
   feds_same (c ∷ cs) ok = λ i. record {
@@ -64,7 +64,7 @@ module _ (w : World) (n : ℕ) (before : List Stage) (t u : PlanPlace → Collec
     does = c.does;
   } ∷ feds_same cs ok.1 i
 
-  takes_same : (takes : List PlanPlace) → AllByRecursion (IsMade n before) takes
+  takes_same : (takes : List PlanPlace) → AllByRecursion (IsPlaceSoFar n before) takes
       → map t takes ≡ map u takes
   takes_same [] ok = refl
   takes_same (c ∷ cs) ok = λ i. same c ok.0 i ∷ takes_same cs ok.1 i

@@ -16,7 +16,7 @@ use Rattle.exec_plan.specs.Channels.{Fed, value_on, world_in}
 use Rattle.exec_plan.specs.Meaning.{Parts, fed_sum, in_sum, own_parts, total_of}
 use Rattle.task_lists.specs.Runs.{labels_in, visits_of, traps_of}
 use Rattle.task_lists.specs.Tasks.{world_for}
-use Rattle.task_lists.specs.Plans.{AreFirstBeside, Says, task_traps}
+use Rattle.task_lists.specs.Plans.{AreFirstBeside, SaysOfTasks, task_traps}
 use Rattle.task_lists.proofs.Elements.{each_step}
 
 -- what is said of a step on an element in a world, of a group of an origin that is its own bag or
@@ -26,7 +26,7 @@ pub record Each (Y : Type 0) : Type 0 where
   pub groups : ℕ → Bool → Value → List Y
   pub objects : ℕ → Bool → Collection → List Y
 
-abbrev pub each_says : {Y : Type 0} → World → Each Y → Says Y
+abbrev pub each_says : {Y : Type 0} → World → Each Y → SaysOfTasks Y
 each_says w q = record {
   maps = λ task. flat_map (visits_of (world_for w task) (q.steps (world_for w task)) task.does)
       task.elements;

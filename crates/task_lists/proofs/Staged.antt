@@ -8,6 +8,7 @@ use Rattle.shards.proofs.Alike.{alike_empty, append_empty}
 use Rattle.exec_plan.specs.of_exec_graph.World.{World}
 use Rattle.exec_plan.specs.declared.plan.PlanPlace.{PlanPlace}
 use Rattle.exec_plan.specs.declared.plan.InChannel.{InChannel}
+use Rattle.exec_plan.specs.declared.plan.Mscr.{Mscr as Channels}
 use Rattle.exec_plan.specs.declared.plan.Stage.{Stage}
 use Rattle.exec_plan.specs.declared.plan.Stage.TheVariants.{Mscr, Flatten, Operate}
 use Rattle.exec_plan.specs.Channels.{Fed, fed, value_on}
@@ -26,6 +27,23 @@ use Rattle.task_lists.proofs.Trapping.{first_among, first_in, first_of_both}
 
 module _ (w : World) (n : Split) (some_shards : 0 < n.shards) (some : 0 < n.partitions) (t : Lists)
     (m : PlanPlace → Collection) (agree : (c : PlanPlace) → Agrees (t c) (m c)) where
+  module _ (s : Channels) where
+    abbrev feds : List Fed
+    feds = map (fed m) s.inputs
+
+    -- the traps of the tasks of each phase, and those of what they go through
+    abbrev maps : List Trap
+    maps = map_phase (each_says w each_trap).maps n t s
+
+    abbrev reduces : List Trap
+    reduces = reduce_phase (each_says w each_trap).reduces w n t s
+
+    abbrev inputs : List Trap
+    inputs = flat_map (each_in w each_trap) feds
+
+    abbrev outputs : List Trap
+    outputs = flat_map (out_sum w (each_parts w each_trap) feds) s.outputs
+
   pub stage_trapped : (s : Stage) (e : Trap)
       → slice_get (stage_tasks (each_says w each_trap) w n t s) 0 ≡ Some e
       → Contains (stage_sum w (trap_parts w) m s) e
@@ -34,18 +52,12 @@ module _ (w : World) (n : Split) (some_shards : 0 < n.shards) (some : 0 < n.part
       subst (λ (c : Collection). Contains c.traps e) (made_same t m agree w o a takes)
       (first_in e (object_made w t o a takes).traps h)
   stage_trapped (Mscr s) e h =
-      let traps = each_says w each_trap in
-      let cs : List Fed = map (fed m) s.inputs in
-      let maps : List Trap = map_phase traps.maps n t s in
-      let reduces : List Trap = reduce_phase traps.reduces w n t s in
-      let inputs : List Trap = flat_map (each_in w each_trap) cs in
-      let outputs : List Trap = flat_map (out_sum w (each_parts w each_trap) cs) s.outputs in
-      first_of_both e maps reduces (flat_map (in_sum w (trap_parts w)) cs)
-      (flat_map (out_sum w (trap_parts w) cs) s.outputs)
-      (λ f first. inputs_have w f cs
-      (first_among f maps inputs (maps_alike w n some_shards t m agree each_trap s) first))
-      (λ none f first. outputs_have w f cs s.outputs
-      (first_among f reduces outputs
+      first_of_both e (maps s) (reduces s) (flat_map (in_sum w (trap_parts w)) (feds s))
+      (flat_map (out_sum w (trap_parts w) (feds s)) s.outputs)
+      (λ f first. inputs_have w f (feds s)
+      (first_among f (maps s) (inputs s) (maps_alike w n some_shards t m agree each_trap s) first))
+      (λ none f first. outputs_have w f (feds s) s.outputs
+      (first_among f (reduces s) (outputs s)
       (reduces_alike w n some_shards some t m agree s
       (inputs_calm w n some_shards some t m agree s none) each_trap) first)) h
 
@@ -61,18 +73,12 @@ module _ (w : World) (n : Split) (some_shards : 0 < n.shards) (some : 0 < n.part
   stage_quiet (Operate takes o l a) none =
       sym (ap (λ (c : Collection). c.traps) (made_same t m agree w o a takes)) ∙ none
   stage_quiet (Mscr s) none =
-      let traps = each_says w each_trap in
-      let cs : List Fed = map (fed m) s.inputs in
-      let maps : List Trap = map_phase traps.maps n t s in
-      let reduces : List Trap = reduce_phase traps.reduces w n t s in
-      let inputs : List Trap = flat_map (each_in w each_trap) cs in
-      let outputs : List Trap = flat_map (out_sum w (each_parts w each_trap) cs) s.outputs in
-      let each = append_empty maps reduces none in
+      let each = append_empty (maps s) (reduces s) none in
       let calm = inputs_calm w n some_shards some t m agree s each.0 in
-      let first = inputs_quiet w cs (behind s.inputs)
-      (alike_empty maps inputs (maps_alike w n some_shards t m agree each_trap s) each.0) in
-      let second = outputs_quiet w cs s.outputs
+      let first = inputs_quiet w (feds s) (behind s.inputs)
+      (alike_empty (maps s) (inputs s) (maps_alike w n some_shards t m agree each_trap s) each.0) in
+      let second = outputs_quiet w (feds s) s.outputs
       (λ g. (gathered_agrees w n some_shards t m agree s.inputs calm g.takes).calm)
-      (alike_empty reduces outputs
+      (alike_empty (reduces s) (outputs s)
       (reduces_alike w n some_shards some t m agree s calm each_trap) each.1) in
       λ i. first i ++ second i

@@ -23,8 +23,8 @@ use Rattle.exec_plan.specs.declared.plan.Plan.{Plan}
 use Rattle.exec_plan.specs.declared.plan.Stage.{Stage}
 use Rattle.exec_plan.specs.declared.plan.Stage.TheVariants.{Mscr, Flatten, Operate}
 use Rattle.exec_plan.specs.Channels.{kept_out, outs_of, numbers}
-use Rattle.exec_plan.specs.Typing.{AreStagesTyped, InTyped, InsTyped, IsPlanTyped, take_type, GroupTyped, OutTyped, StageTyped}
-use Rattle.exec_plan.specs.Wellformed.{AreOuts, Exists, IsNumbered, IsStageOk, is_pass, outs, width}
+use Rattle.exec_plan.specs.Typing.{AreStagesTyped, InTyped, InsTyped, IsPlanTyped, take_type, GroupTyped, OutChannelTyped, StageTyped}
+use Rattle.exec_plan.specs.Wellformed.{AreOutChannels, Exists, IsNumbered, IsStageOk, is_pass, outs, width}
 use Rattle.exec_plan.proofs.Meeting.{map-length, outs_counted}
 use Rattle.task_lists.specs.Tasks.{Split, Lists, gathered}
 use Rattle.task_lists.specs.Lists.{calm, reduced, given_lists, result_lists, source_lists, with_lists}
@@ -150,8 +150,8 @@ module _ (s : Signatures) (w : World) (world : IsWorldTyped s w) (types : PlanPl
           map-length (reduced w n t ins g) (numbers g.does) ∙ numbers_count g.does
       lists_count (Pass i number) = refl
 
-      outs_typed : (passed : Bool) (m : ℕ) (os : List OutChannel) → AreOuts ins passed m os
-          → AllByRecursion (OutTyped s types given k) os
+      outs_typed : (passed : Bool) (m : ℕ) (os : List OutChannel) → AreOutChannels ins passed m os
+          → AllByRecursion (OutChannelTyped s types given k) os
           → TypedFrom types k m (flat_map (given_lists w n t ins) os)
       outs_typed passed m [] ok fit = tt
       outs_typed passed m (Pass i number ∷ os) ok fit =

@@ -12,7 +12,7 @@ use Rattle.flume_collection.specs.Calls.{Called, emissions, or_none}
 use Rattle.exec_plan.specs.of_exec_graph.Calls.{called, emitted}
 use Rattle.exec_plan.specs.of_exec_graph.Forests.{Forest}
 use Rattle.exec_plan.specs.of_exec_graph.Objects.{beside, naming, only}
-use Rattle.exec_plan.specs.of_exec_graph.Typing.{Answers, IsRecord, IsWorldTyped, Signatures}
+use Rattle.exec_plan.specs.of_exec_graph.Typing.{EmitsTyped, IsRecord, IsWorldTyped, Signatures}
 use Rattle.exec_plan.specs.of_exec_graph.World.{World}
 use Rattle.exec_plan.specs.of_exec_graph.Meaning.{place}
 use Rattle.exec_plan.specs.of_exec_graph.declared.graph.Place.{Place}
@@ -61,7 +61,7 @@ first_typed : (u : Ty) (outputs : List (List Value)) → AllZip AllHave (u ∷ [
 first_typed u [] a = absurd a
 first_typed u (vs ∷ more) a = each_from (Has u) vs a.0
 
-named_first : (u : Ty) (x : Value) (c : Called) → Answers (u ∷ []) c
+named_first : (u : Ty) (x : Value) (c : Called) → EmitsTyped (u ∷ []) c
     → AllByRecursion (Has u) (emissions 0 (naming x c))
 named_first u x (Ok outputs) a = first_typed u outputs a
 named_first u x (Err trap) a = tt
@@ -84,8 +84,8 @@ module _ (s : Signatures) (w : World) (world : IsWorldTyped s w) (outs : Place �
       let same : emitted b typed.label x ≡ emissions 0 (b.called typed.function x) =
       (λ i. emissions (typed.first i) (called b (typed.calls i) x))
       ∙ ap (emissions 0) (call_answers b typed.function x) in
-      let answers : Answers (u ∷ []) (w.called typed.function pair) =
-      subst (λ (us : List Ty). Answers us (w.called typed.function pair)) typed.typed.1
+      let answers : EmitsTyped (u ∷ []) (w.called typed.function pair) =
+      subst (λ (us : List Ty). EmitsTyped us (w.called typed.function pair)) typed.typed.1
       (world.called typed.function pair (side_takes x h)) in
       subst (AllByRecursion (Has u)) (sym same)
       (named_first u x (w.called typed.function pair) answers)

@@ -27,8 +27,8 @@ abbrev pub kept_counts : World → Task → List ℕ
 kept_counts w task = map kept_count (counts_of (world_for w task) task.does task.elements)
 
 -- the first trap of the task, in the order of its elements and calls
-abbrev pub IsFirstTrap : World → Task → Trap → Type 0
-IsFirstTrap w task trap =
+abbrev pub IsFirstTaskTrap : World → Task → Trap → Type 0
+IsFirstTaskTrap w task trap =
     slice_get (traps_of (world_for w task) task.does task.elements) 0 ≡ Some trap
 
 -- no call of the task traps
@@ -59,7 +59,7 @@ pub record IsMapOut (w : World) (n : Split) (t : Lists) (s : Mscr) (m i : ℕ) (
 -- the value of a map task: its first trap, or its out
 abbrev pub IsMapValue : World → Split → Lists → Mscr → ℕ → ℕ → Result MapOut Trap → Type 0
 IsMapValue w n t s m i (Ok out) = IsMapOut w n t s m i out
-IsMapValue w n t s m i (Err trap) = IsFirstTrap w (map_task_of n t s.inputs m i) trap
+IsMapValue w n t s m i (Err trap) = IsFirstTaskTrap w (map_task_of n t s.inputs m i) trap
 
 -- an out of each map task of the stage, in order of tasks
 pub record AreMapOuts (w : World) (n : Split) (t : Lists) (s : Mscr) (outs : List MapOut)

@@ -16,31 +16,32 @@ use Rattle.task_lists.specs.Lists.{object_made, result_lists, with_lists, source
 
 -- what is said of a map task, of a reduce task of a channel, and of the object that a stage makes
 -- for an origin, whose own bag it is or not
-pub record Says (Y : Type 0) : Type 0 where
+pub record SaysOfTasks (Y : Type 0) : Type 0 where
   pub maps : Task → List Y
   pub reduces : Grouping → Task → List Y
   pub objects : ℕ → Bool → Collection → List Y
 
 -- of the tasks of a stage: first those of the map phase, then those of the reduce phase. Other
 -- stages have no tasks; but an Operate makes an object, as a phase by itself
-abbrev pub stage_tasks : {Y : Type 0} → Says Y → World → Split → Lists → Stage → List Y
+abbrev pub stage_tasks : {Y : Type 0} → SaysOfTasks Y → World → Split → Lists → Stage → List Y
 stage_tasks q w n t (Mscr s) = map_phase q.maps n t s ++ reduce_phase q.reduces w n t s
 stage_tasks q w n t (Flatten takes) = []
 stage_tasks q w n t (Operate takes o l a) = q.objects o l (object_made w t o a takes)
 
 -- of the stages from number k on, each over the lists that it finds
-abbrev pub tasks_from : {Y : Type 0} → Says Y → World → Split → ℕ → List Stage → Lists → List Y
+abbrev pub tasks_from : {Y : Type 0} → SaysOfTasks Y → World → Split → ℕ → List Stage → Lists
+    → List Y
 tasks_from q w n k [] t = []
 tasks_from q w n k (s ∷ ss) t =
     stage_tasks q w n t s ++ tasks_from q w n (suc k) ss (with_lists k (result_lists w n t s) t)
 
 -- of all tasks of a plan, phase after phase and in order of tasks
-abbrev pub all_tasks : {Y : Type 0} → Says Y → World → Split → Plan → List Y
+abbrev pub all_tasks : {Y : Type 0} → SaysOfTasks Y → World → Split → Plan → List Y
 all_tasks q w n p = tasks_from q w n 1 p.stages (source_lists w)
 
 -- ---- traps
 
-abbrev pub task_traps : World → Says Trap
+abbrev pub task_traps : World → SaysOfTasks Trap
 task_traps w = record {
   maps = λ task. traps_of (world_for w task) task.does task.elements;
   reduces = λ g task. traps_of (world_for w task) task.does task.elements;
@@ -63,7 +64,7 @@ steps_count w i task =
 abbrev pub groups_count : ℕ → Grouping → Task → ℕ
 groups_count i g task = cond (g.last && (g.origin == i)) (places task) 0
 
-abbrev pub task_counts : World → ℕ → Says ℕ
+abbrev pub task_counts : World → ℕ → SaysOfTasks ℕ
 task_counts w i = record {
   maps = λ task. steps_count w i task ∷ [];
   reduces = λ g task. (groups_count i g task + steps_count w i task) ∷ [];

@@ -33,7 +33,7 @@ ghost use Rattle.exec_plan.specs.Wellformed.{Exists, IsLiftOk, IsPlanOk, IsStage
 ghost use Rattle.task_lists.specs.Tasks.{Split, Lists, Task, given_to, map_task, map_task_of, gathered, reduce_task, map_phase, map_count, map_task_at, reduce_phase, reduce_count, reduce_task_at, grouping_at};
 ghost use Rattle.task_lists.specs.Lists.{lists, result_lists, source_lists, with_lists};
 ghost use Rattle.task_lists.specs.Plans.{AreSidesFirst, first_trap, size_of, stage_tasks, task_traps};
-ghost use Rattle.task_lists.specs.Outs.{answers_of, AreMapOuts, IsCalm, IsFirstTrap};
+ghost use Rattle.task_lists.specs.Outs.{answers_of, AreMapOuts, IsCalm, IsFirstTaskTrap};
 ghost use Rattle.task_lists.specs.Typing.{AreGroupable, AreListsTyped, IsTaskTyped};
 
 /// The tasks of a plan, for any number of shards and partitions. That the sizes and the traps are
@@ -84,13 +84,13 @@ pub fn first_law()
     ensures maps { (w : World) (n : Split) (t : Lists) (s : Mscr) (k : ℕ) (e : Trap) →
         0 < n.shards → 0 < n.partitions → k < map_count n s →
         ((i : ℕ) → i < k → IsCalm w (map_task_at n t s i)) →
-        IsFirstTrap w (map_task_at n t s k) e →
+        IsFirstTaskTrap w (map_task_at n t s k) e →
         slice_get (stage_tasks (task_traps w) w n t (stage.Mscr s)) 0 ≡ Some e }
     ensures reduces { (w : World) (n : Split) (t : Lists) (s : Mscr) (k : ℕ) (e : Trap) →
         0 < n.shards → 0 < n.partitions →
         ((i : ℕ) → i < map_count n s → IsCalm w (map_task_at n t s i)) → k < reduce_count n s →
         ((i : ℕ) → i < k → IsCalm w (reduce_task_at w n t s i)) →
-        IsFirstTrap w (reduce_task_at w n t s k) e →
+        IsFirstTaskTrap w (reduce_task_at w n t s k) e →
         slice_get (stage_tasks (task_traps w) w n t (stage.Mscr s)) 0 ≡ Some e }
 {}
 

@@ -5,7 +5,7 @@ use Rattle.std.proofs.Math.Nat.{mul-le-mul_left, mul-le-mul_right}
 use Rattle.std.proofs.lemmas.Option.{none-some, same_Some}
 use Rattle.exec_plan.specs.declared.plan.InChannel.{InChannel}
 use Rattle.exec_plan.specs.declared.plan.OutChannel.{OutChannel}
-use Rattle.exec_plan.specs.Wellformed.{AreOuts, IsOutOk, is_pass, width}
+use Rattle.exec_plan.specs.Wellformed.{AreOutChannels, IsOutOk, is_pass, width}
 
 pub each_placed : {A : Type 0} (P : A → Type 0) (xs : List A)
     → ((k : ℕ) (x : A) → slice_get xs k ≡ Some x → P x) → Each P xs
@@ -19,7 +19,7 @@ pub record IsOutSomewhere (ins : List InChannel) (c : OutChannel) : Type 0 where
   pub ok : IsOutOk ins passed first c
 
 pub out_at : (ins : List InChannel) (passed : Bool) (n : ℕ) (cs : List OutChannel)
-    → AreOuts ins passed n cs → (r : ℕ) (c : OutChannel) → slice_get cs r ≡ Some c
+    → AreOutChannels ins passed n cs → (r : ℕ) (c : OutChannel) → slice_get cs r ≡ Some c
     → IsOutSomewhere ins c
 out_at ins passed n [] all r c e = absurd (none-some c e)
 out_at ins passed n (d ∷ cs) all zero c e =

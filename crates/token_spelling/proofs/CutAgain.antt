@@ -18,7 +18,7 @@ use Rattle.flume_tokens.specs.Pieces.{piece_of}
 use Rattle.flume_tokens.specs.Tokens.{ahead, tokens_from}
 use Rattle.flume_tokens.proofs.NextPieces.{next_LineEnd, next_Gap, next_Token}
 use Rattle.token_spelling.specs.Spelled.{escaped, written, line_ends, spelled_from}
-use Rattle.token_spelling.specs.Spellable.{IsWord, IsSpellable, Ascend}
+use Rattle.token_spelling.specs.Spellable.{IsWord, IsSpellable, AscendByLine}
 use Rattle.token_spelling.proofs.Bytes.{IsPlain, is_word, word_plain, digit_plain, plain_utf8}
 use Rattle.token_spelling.proofs.WrittenWords.{keyword_word, sign_plain, sign_bytes}
 use Rattle.token_spelling.proofs.WrittenTexts.{utf8_text}
@@ -72,7 +72,7 @@ module _ (read : (k : Keyword) → keyword_of (spelling k) ≡ Some k) where
       ∙ ap (ahead (record { kind = k; line = line } ∷ [])) (over_blank line bs)
 
   pub cut_from : (line : ℕ) (ts : List Token) → All (λ t. IsSpellable t.kind) ts
-      → Ascend line ts → tokens_from 0 line (spelled_from line ts) ≡ Ok ts
+      → AscendByLine line ts → tokens_from 0 line (spelled_from line ts) ≡ Ok ts
   cut_from line [] each lines = refl
   cut_from line (t ∷ ts) each lines =
       let here = lines.0 in

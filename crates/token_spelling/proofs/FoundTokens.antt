@@ -21,10 +21,10 @@ use Rattle.flume_tokens.specs.Keywords.{keyword_of}
 use Rattle.flume_tokens.specs.Signs.{sign_of}
 use Rattle.flume_tokens.specs.Texts.{Closed, closed_text}
 use Rattle.flume_tokens.specs.Pieces.{piece_of, is_blank, word_kind, word, number, text, text_piece, sign as sign_read, sign_piece}
-use Rattle.flume_tokens.specs.Tokens.{Cut, ahead, and_on, tokens_from, line_at, list_of, listed, tokens_of}
+use Rattle.flume_tokens.specs.Tokens.{TokensOrFault, ahead, and_on, tokens_from, line_at, list_of, listed, tokens_of}
 use Rattle.flume_tokens.specs.Utf8.{IsUtf8Text}
 use Rattle.flume_tokens.proofs.Utf8Texts.{texts}
-use Rattle.token_spelling.specs.Spellable.{IsName, IsNumber, IsSpellable, Ascend, AreSpellable}
+use Rattle.token_spelling.specs.Spellable.{IsName, IsNumber, IsSpellable, AscendByLine, AreSpellable}
 use Rattle.token_spelling.proofs.Bytes.{is_word, letter_word}
 use Rattle.token_spelling.proofs.Runs.{passes, begins}
 
@@ -102,13 +102,14 @@ piece_formed b bs =
 -- tokens that are formed, and whose lines ascend from this
 record AreFormed (line : ℕ) (ts : List Token) : Type 0 where
   pub each : All (λ t. IsFormed t.kind) ts
-  pub lines : Ascend line ts
+  pub lines : AscendByLine line ts
 
-sooner : (line next : ℕ) (ts : List Token) → line ≤ next → Ascend next ts → Ascend line ts
+sooner : (line next : ℕ) (ts : List Token) → line ≤ next → AscendByLine next ts
+    → AscendByLine line ts
 sooner line next [] h lines = tt
 sooner line next (t ∷ ts) h lines = let here = lines.0 in (omega arith, lines.1)
 
-put : (line : ℕ) (k : TokenKind) (r : Cut) (ts : List Token) → IsFormed k
+put : (line : ℕ) (k : TokenKind) (r : TokensOrFault) (ts : List Token) → IsFormed k
     → ((us : List Token) → r ≡ Ok us → AreFormed line us)
     → ahead (record { kind = k; line = line } ∷ []) r ≡ Ok ts → AreFormed line ts
 put line k (Err f) ts s h e = cc
@@ -154,7 +155,7 @@ formed : (bs : List ℕ) (list : TokenList) → tokens_of bs ≡ Ok list → Are
 unfolding tokens_of
 formed bs list e = by (nat_lt 65536 (length bs)) (is_utf8 bs) e
   where
-    of_list : (n : ℕ) (r : Cut) → ((us : List Token) → r ≡ Ok us → AreFormed 1 us)
+    of_list : (n : ℕ) (r : TokensOrFault) → ((us : List Token) → r ≡ Ok us → AreFormed 1 us)
         → list_of n r ≡ Ok list → AreFormed 1 list.items
     of_list n (Err f) h e = cc
     of_list n (Ok us) h e =

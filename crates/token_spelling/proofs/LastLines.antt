@@ -14,7 +14,7 @@ use Rattle.flume_tokens.specs.Signs.{spelling as sign_spelling}
 use Rattle.flume_tokens.specs.Tokens.{line_at, list_of, tokens_of}
 use Rattle.flume_tokens.proofs.Whole.{cut}
 use Rattle.token_spelling.specs.Spelled.{escaped, written, line_ends, spelled_from, spelled, line_from, last_line}
-use Rattle.token_spelling.specs.Spellable.{IsSpellable, Ascend, AreSpellable}
+use Rattle.token_spelling.specs.Spellable.{IsSpellable, AscendByLine, AreSpellable}
 use Rattle.token_spelling.proofs.Bytes.{feeds, feeds_cons, no_feeds, plain_feeds}
 use Rattle.token_spelling.proofs.WrittenWords.{keyword_word, sign_plain}
 use Rattle.token_spelling.proofs.WrittenTexts.{inside}
@@ -44,7 +44,8 @@ written_feeds (kind.Number d) h = plain_feeds d (digit_plains d h.rest)
 written_feeds (kind.Text x) h = text_feeds x
 written_feeds (kind.Sign s) h = plain_feeds (sign_spelling s) (sign_plain s)
 
-spelled_feeds : (line : ℕ) (ts : List Token) → All (λ t. IsSpellable t.kind) ts → Ascend line ts
+spelled_feeds : (line : ℕ) (ts : List Token) → All (λ t. IsSpellable t.kind) ts
+    → AscendByLine line ts
     → line + feeds (spelled_from line ts) ≡ line_from line ts
 spelled_feeds line [] each lines = omega arith
 spelled_feeds line (t ∷ ts) each lines =

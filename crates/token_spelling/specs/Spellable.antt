@@ -32,11 +32,11 @@ IsSpellable (kind.Text content) = IsUtf8 content
 IsSpellable (kind.Sign sign) = Unit {0}
 
 -- no token stands on a line before this, nor before that of an earlier one
-abbrev pub Ascend : ℕ → List Token → Type 0
-Ascend line [] = Unit {0}
-Ascend line (t ∷ ts) = (line ≤ t.line) × Ascend t.line ts
+abbrev pub AscendByLine : ℕ → List Token → Type 0
+AscendByLine line [] = Unit {0}
+AscendByLine line (t ∷ ts) = (line ≤ t.line) × AscendByLine t.line ts
 
 -- each can be spelled, and their lines ascend from 1
 pub record AreSpellable (ts : List Token) : Type 0 where
   pub each : All (λ t. IsSpellable t.kind) ts
-  pub lines : Ascend 1 ts
+  pub lines : AscendByLine 1 ts

@@ -3,6 +3,7 @@ ghost use Rattle.std.specs.Prelude.{◌≡◌, ◌≢◌, ◌<◌, ◌++◌, Lis
 ghost use Rattle.flume_types.specs.declared.types.Ty.{Ty, out-Ty};
 ghost use Rattle.flume_types.specs.Columns.{columns_and, columns_of, input_columns_of, cell_kind as kind_of, cell_column, cells_under, field_columns, record_columns};
 ghost use Rattle.type_table.specs.inner.Adding.{Adds};
+ghost use Rattle.type_table.specs.Table.{type_at};
 ghost use Rattle.type_table.specs.Table as spec;
 
 use crate::shape::{Part, Shape, TypeId};
@@ -15,44 +16,44 @@ use std::alloc::{AllocError, Global};
 /// where the type has none.
 pub fn columns(alloc: Global, types: &Types, id: TypeId) -> Result<Columns, ColumnFault>
     requires { id < length types.now }
-    ensures flat { IfOk result (λ columns.
-        columns_of (spec.type_at types.now id) ≡ Some columns) }
+    ensures flat { IfOk result (λ columns. columns_of (type_at types.now id) ≡ Some columns) }
     ensures not_flat { IfErr result (λ e. e ≢ ColumnFault.Memory →
-        columns_of (spec.type_at types.now id) ≡ None) }
+        columns_of (type_at types.now id) ≡ None) }
 {
-    let mut columns = Vec::new(alloc);
+    let mut columns = Pile::new(alloc);
     match types.shape(id) {
         Shape::Rec(parts) => add_fields(alloc, types, parts.as_slice(), &mut columns)?,
         cell => add_cell(Str::from_slice(alloc, b"value")?, cell, &mut columns)?,
     }
-    Ok(Pile::from_vec(columns))
+    Ok(columns)
 }
 
 /// The columns of an input's type, as `flume_types::input_columns` gives them. `NotFlat` comes
 /// exactly where the type is no record of int, bool and text.
 pub fn input_columns(alloc: Global, types: &Types, id: TypeId) -> Result<Columns, ColumnFault>
     requires { id < length types.now }
-    ensures flat { IfOk result (λ columns.
-        input_columns_of (spec.type_at types.now id) ≡ Some columns) }
+    ensures flat { IfOk result (λ columns. input_columns_of (type_at types.now id) ≡ Some columns) }
     ensures not_flat { IfErr result (λ e. e ≢ ColumnFault.Memory →
-        input_columns_of (spec.type_at types.now id) ≡ None) }
+        input_columns_of (type_at types.now id) ≡ None) }
 {
-    let mut columns = Vec::new(alloc);
     match types.shape(id) {
-        Shape::Rec(parts) => add_cells(alloc, types, b"", parts.as_slice(), &mut columns)?,
-        _ => return Err(ColumnFault::NotFlat),
+        Shape::Rec(parts) => {
+            let mut columns = Pile::new(alloc);
+            add_cells(alloc, types, b"", parts.as_slice(), &mut columns)?;
+            Ok(columns)
+        }
+        _ => Err(ColumnFault::NotFlat),
     }
-    Ok(Pile::from_vec(columns))
 }
 
 fn add_fields(
     alloc: Global,
     types: &Types,
     parts: &[Part],
-    columns: &mut Vec<Column>,
+    columns: &mut Columns,
 ) -> Result<(), ColumnFault>
     requires { spec.AreWithin (length types.now) parts.now }
-    ensures flat { OnOk result (Adds columns.old.items columns.new.items
+    ensures flat { OnOk result (Adds columns.old columns.new
         (record_columns (map (spec.field_at types.now) parts.now))) }
     ensures not_flat { IfErr result (λ e. e ≢ ColumnFault.Memory →
         record_columns (map (spec.field_at types.now) parts.now) ≡ None) }
@@ -67,13 +68,13 @@ fn add_field(
     alloc: Global,
     types: &Types,
     part: &Part,
-    columns: &mut Vec<Column>,
+    columns: &mut Columns,
 ) -> Result<(), ColumnFault>
     requires { part.now.ty < length types.now }
-    ensures flat { OnOk result (Adds columns.old.items columns.new.items
-        (field_columns part.now.name (out-Ty (spec.type_at types.now part.now.ty)))) }
+    ensures flat { OnOk result (Adds columns.old columns.new
+        (field_columns part.now.name (out-Ty (type_at types.now part.now.ty)))) }
     ensures not_flat { IfErr result (λ e. e ≢ ColumnFault.Memory →
-        field_columns part.now.name (out-Ty (spec.type_at types.now part.now.ty)) ≡ None) }
+        field_columns part.now.name (out-Ty (type_at types.now part.now.ty)) ≡ None) }
 {
     match types.shape(part.ty) {
         Shape::Rec(parts) => {
@@ -90,10 +91,10 @@ fn add_cells(
     types: &Types,
     prefix: &[u8],
     parts: &[Part],
-    columns: &mut Vec<Column>,
+    columns: &mut Columns,
 ) -> Result<(), ColumnFault>
     requires { spec.AreWithin (length types.now) parts.now }
-    ensures flat { OnOk result (Adds columns.old.items columns.new.items
+    ensures flat { OnOk result (Adds columns.old columns.new
         (cells_under prefix.now (map (spec.field_at types.now) parts.now))) }
     ensures not_flat { IfErr result (λ e. e ≢ ColumnFault.Memory →
         cells_under prefix.now (map (spec.field_at types.now) parts.now) ≡ None) }
@@ -109,19 +110,19 @@ fn add_cell_at(
     name: Str,
     types: &Types,
     id: TypeId,
-    columns: &mut Vec<Column>,
+    columns: &mut Columns,
 ) -> Result<(), ColumnFault>
     requires { id < length types.now }
-    ensures flat { OnOk result (Adds columns.old.items columns.new.items
-        (cell_column name (out-Ty (spec.type_at types.now id)))) }
+    ensures flat { OnOk result (Adds columns.old columns.new
+        (cell_column name (out-Ty (type_at types.now id)))) }
     ensures not_flat { IfErr result (λ e. e ≢ ColumnFault.Memory →
-        cell_column name (out-Ty (spec.type_at types.now id)) ≡ None) }
+        cell_column name (out-Ty (type_at types.now id)) ≡ None) }
 {
     add_cell(name, types.shape(id), columns)
 }
 
-fn add_cell(name: Str, shape: &Shape, columns: &mut Vec<Column>) -> Result<(), ColumnFault>
-    ensures flat { OnOk result ((types : List Ty) → Adds columns.old.items columns.new.items
+fn add_cell(name: Str, shape: &Shape, columns: &mut Columns) -> Result<(), ColumnFault>
+    ensures flat { OnOk result ((types : List Ty) → Adds columns.old columns.new
         (cell_column name (spec.level types shape.now))) }
     ensures not_flat { IfErr result (λ e. e ≢ ColumnFault.Memory → (types : List Ty) →
         cell_column name (spec.level types shape.now) ≡ None) }

@@ -61,29 +61,31 @@ module _ (n : ℕ) (again : (v : Value) → IsReadBy (value_at n) n v) where
   abbrev Above : Value → Type 0
   Above v = IsReadBy (value_at (suc n)) (suc n) v
 
-  -- a value that a list makes, and one that a value makes, each by its tag
-  items_above : (t : Tag) (make : List Value → Value) (xs : List Value)
-      → ((bs : List ℕ) → behind (value_at n) t bs ≡ made make (items_at (value_at n) bs))
-      → canonical (make xs) ≡ tag_byte t ∷ (length_bytes (length xs) ++ flat_map canonical xs)
-      → fits (make xs) ≡ (fits_length (length xs) && list_all fits xs)
-      → levels_of (make xs) ≡ greatest_by levels_of xs + 1 → Above (make xs)
-  items_above t make xs read bytes held levels rest p h =
-      by_tag n t (make xs) (length_bytes (length xs) ++ flat_map canonical xs) rest bytes
-      (read _ ∙ ap (made make) (items_again (value_at n) n again xs rest (sym held ∙ p)
-      (within_greatest n xs (lower n (greatest_by levels_of xs) (make xs) levels h))))
-
-  part_above : (t : Tag) (make : Value → Value) (x : Value)
-      → ((bs : List ℕ) → behind (value_at n) t bs ≡ made make (value_at n bs))
-      → canonical (make x) ≡ tag_byte t ∷ canonical x → fits (make x) ≡ fits x
-      → levels_of (make x) ≡ levels_of x + 1 → Above (make x)
-  part_above t make x read bytes held levels rest p h =
-      by_tag n t (make x) (canonical x) rest bytes
-      (read _ ∙ ap (made make) (again x rest (sym held ∙ p)
-      (lower n (levels_of x) (make x) levels h)))
-
   -- what holds of a variant holds of its layer
   of_layer : (v : Value) (x : Value-F Value) → out-Value v ≡ x → Above v → Above (roll-Value x)
   of_layer v x is = subst Above (sym (roll-out-Value v) ∙ ap roll-Value is)
+
+  -- a value that a list makes, and one that a value makes, each by its tag
+  items_above : (t : Tag) (make : List Value → Value) (xs : List Value) (x : Value-F Value)
+      → out-Value (make xs) ≡ x
+      → ((bs : List ℕ) → behind (value_at n) t bs ≡ made make (items_at (value_at n) bs))
+      → canonical (make xs) ≡ tag_byte t ∷ (length_bytes (length xs) ++ flat_map canonical xs)
+      → fits (make xs) ≡ (fits_length (length xs) && list_all fits xs)
+      → levels_of (make xs) ≡ greatest_by levels_of xs + 1 → Above (roll-Value x)
+  items_above t make xs x is read bytes held levels = of_layer (make xs) x is (λ rest p h.
+      by_tag n t (make xs) (length_bytes (length xs) ++ flat_map canonical xs) rest bytes
+      (read _ ∙ ap (made make) (items_again (value_at n) n again xs rest (sym held ∙ p)
+      (within_greatest n xs (lower n (greatest_by levels_of xs) (make xs) levels h)))))
+
+  part_above : (t : Tag) (make : Value → Value) (part : Value) (x : Value-F Value)
+      → out-Value (make part) ≡ x
+      → ((bs : List ℕ) → behind (value_at n) t bs ≡ made make (value_at n bs))
+      → canonical (make part) ≡ tag_byte t ∷ canonical part → fits (make part) ≡ fits part
+      → levels_of (make part) ≡ levels_of part + 1 → Above (roll-Value x)
+  part_above t make part x is read bytes held levels = of_layer (make part) x is (λ rest p h.
+      by_tag n t (make part) (canonical part) rest bytes
+      (read _ ∙ ap (made make) (again part rest (sym held ∙ p)
+      (lower n (levels_of part) (make part) levels h))))
 
   layer_above : (x : Value-F Value) → Above (roll-Value x)
   layer_above (Value-F.Int z) = of_layer (variant.Int z) _ (variant.outs-Int z) (λ rest p h.
@@ -95,18 +97,14 @@ module _ (n : ℕ) (again : (v : Value) → IsReadBy (value_at n) n v) where
   layer_above (Value-F.Text s) = of_layer (variant.Text s) _ (variant.outs-Text s) (λ rest p h.
       by_tag n tag.Text (variant.Text s) (length_bytes (length s) ++ s) rest (canonical-Text s)
       (ap (made variant.Text) (text_again s rest (sym (fits-Text s) ∙ p))))
-  layer_above (Value-F.List xs) = of_layer (variant.List xs) _ (variant.outs-List xs)
-      (items_above tag.List variant.List xs (λ bs. refl) (canonical-List xs) (fits-List xs)
-      (levels-List xs))
-  layer_above (Value-F.Rec xs) = of_layer (variant.Rec xs) _ (variant.outs-Rec xs)
-      (items_above tag.Rec variant.Rec xs (λ bs. refl) (canonical-Rec xs) (fits-Rec xs)
-      (levels-Rec xs))
-  layer_above (Value-F.Left x) = of_layer (variant.Left x) _ (variant.outs-Left x)
-      (part_above tag.Left variant.Left x (λ bs. refl) (canonical-Left x) (fits-Left x)
-      (levels-Left x))
-  layer_above (Value-F.Right x) = of_layer (variant.Right x) _ (variant.outs-Right x)
-      (part_above tag.Right variant.Right x (λ bs. refl) (canonical-Right x) (fits-Right x)
-      (levels-Right x))
+  layer_above (Value-F.List xs) = items_above tag.List variant.List xs _ (variant.outs-List xs)
+      (λ bs. refl) (canonical-List xs) (fits-List xs) (levels-List xs)
+  layer_above (Value-F.Rec xs) = items_above tag.Rec variant.Rec xs _ (variant.outs-Rec xs)
+      (λ bs. refl) (canonical-Rec xs) (fits-Rec xs) (levels-Rec xs)
+  layer_above (Value-F.Left x) = part_above tag.Left variant.Left x _ (variant.outs-Left x)
+      (λ bs. refl) (canonical-Left x) (fits-Left x) (levels-Left x)
+  layer_above (Value-F.Right x) = part_above tag.Right variant.Right x _ (variant.outs-Right x)
+      (λ bs. refl) (canonical-Right x) (fits-Right x) (levels-Right x)
   layer_above (Value-F.Wide z) = of_layer (variant.Wide z) _ (variant.outs-Wide z) (λ rest p h.
       by_tag n tag.Wide (variant.Wide z) (wide_bytes z) rest (canonical-Wide z)
       (ap (made variant.Wide) (wide_again z rest (sym (fits-Wide z) ∙ p))))

@@ -1,5 +1,5 @@
 -- What is read as a value are its canonical bytes, and it has no more levels than that.
-use Rattle.std.proofs.Common.{◌≡◌, ℕ, zero, suc, ◌+◌, ◌≤◌, true, List, [], ◌∷◌, ◌++◌, length, Some, refl, sym, ap, ◌∙◌, subst, arith}
+use Rattle.std.proofs.Common.{◌≡◌, ℕ, zero, suc, ◌+◌, ◌≤◌, ◌&&◌, true, List, [], ◌∷◌, ◌++◌, length, Some, refl, sym, ap, ◌∙◌, subst, arith}
 use Rattle.std.specs.List.{list_all, flat_map}
 use Rattle.flume_value.specs.declared.value.Value.{Value}
 use Rattle.flume_value.specs.declared.value.Value.TheVariants as variant
@@ -8,7 +8,7 @@ use Rattle.flume_value.specs.Ranges.{fits_length, fits}
 use Rattle.flume_value.proofs.BoolLemmas.{and_both}
 use Rattle.flume_value.proofs.CanonicalLemmas.{canonical-Int, canonical-Bool, canonical-Text, canonical-List, canonical-Rec, canonical-Left, canonical-Right, canonical-Wide}
 use Rattle.flume_value.proofs.RangeLemmas.{fits-Int, fits-Bool, fits-Text, fits-List, fits-Rec, fits-Left, fits-Right, fits-Wide}
-use Rattle.value_reading.specs.Levels.{levels_of}
+use Rattle.value_reading.specs.Levels.{greatest_by, levels_of}
 use Rattle.value_reading.specs.declared.tag.Tag.{Tag}
 use Rattle.value_reading.specs.declared.tag.Tag.TheVariants as tag
 use Rattle.value_reading.specs.inner.Reading.{Out, made, number_at, int_at, wide_at, bool_at, tag_at, text_at, parts_at, items_at, behind, value_at}
@@ -129,6 +129,35 @@ module _ (part : List ℕ → Out Value) (n : ℕ)
         levels = levels;
       })
 
+  -- a variant of a list, and one of a value
+  list_takes : (make : List Value → Value) (t : ℕ)
+      → ((xs : List Value) → canonical (make xs) ≡ t ∷ items_bytes xs)
+      → ((xs : List Value) → fits (make xs) ≡ (fits_length (length xs) && list_all fits xs))
+      → ((xs : List Value) → levels_of (make xs) ≡ greatest_by levels_of xs + 1)
+      → (bytes : List ℕ) (x : Value × List ℕ) → Small bytes
+      → made make (items_at part bytes) ≡ Some x → Behind (suc n) t bytes x.0 x.1
+  list_takes make t bytes_are held levels bytes x s =
+      variant_takes make t items_bytes (items_at part bytes) bytes x bytes_are
+      (λ y e. let taken = items_take bytes y s e in (
+        taken.all,
+        held y.0 ∙ and_both _ _ taken.count taken.held,
+        more_level n _ (make y.0) (levels y.0) (greatest_within n y.0 taken.levels),
+      ))
+
+  part_takes : (make : Value → Value) (t : ℕ)
+      → ((v : Value) → canonical (make v) ≡ t ∷ canonical v)
+      → ((v : Value) → fits (make v) ≡ fits v)
+      → ((v : Value) → levels_of (make v) ≡ levels_of v + 1)
+      → (bytes : List ℕ) (x : Value × List ℕ) → Small bytes
+      → made make (part bytes) ≡ Some x → Behind (suc n) t bytes x.0 x.1
+  part_takes make t bytes_are held levels bytes x s =
+      variant_takes make t canonical (part bytes) bytes x bytes_are (λ y e.
+      let taken = takes bytes y s e in (
+        taken.takes,
+        held y.0 ∙ taken.held,
+        more_level n _ (make y.0) (levels y.0) taken.levels,
+      ))
+
   behind_takes : (t : Tag) (bytes : List ℕ) (x : Value × List ℕ) → Small bytes
       → behind part t bytes ≡ Some x → Behind (suc n) (tag_byte t) bytes x.0 x.1
   behind_takes tag.Int bytes x s =
@@ -147,29 +176,13 @@ module _ (part : List ℕ → Out Value) (n : ℕ)
       let t = text_takes bytes y s e in
       (t.0, fits-Text y.0 ∙ t.1, one_level n (variant.Text y.0) (levels-Text y.0)))
   behind_takes tag.List bytes x s =
-      variant_takes variant.List 4 items_bytes (items_at part bytes) bytes x canonical-List
-      (λ y e. let t = items_take bytes y s e in (
-        t.all,
-        fits-List y.0 ∙ and_both _ _ t.count t.held,
-        more_level n _ (variant.List y.0) (levels-List y.0) (greatest_within n y.0 t.levels),
-      ))
+      list_takes variant.List 4 canonical-List fits-List levels-List bytes x s
   behind_takes tag.Rec bytes x s =
-      variant_takes variant.Rec 5 items_bytes (items_at part bytes) bytes x canonical-Rec
-      (λ y e. let t = items_take bytes y s e in (
-        t.all,
-        fits-Rec y.0 ∙ and_both _ _ t.count t.held,
-        more_level n _ (variant.Rec y.0) (levels-Rec y.0) (greatest_within n y.0 t.levels),
-      ))
+      list_takes variant.Rec 5 canonical-Rec fits-Rec levels-Rec bytes x s
   behind_takes tag.Left bytes x s =
-      variant_takes variant.Left 6 canonical (part bytes) bytes x canonical-Left (λ y e.
-      let t = takes bytes y s e in
-      let levels = more_level n _ (variant.Left y.0) (levels-Left y.0) t.levels in
-      (t.takes, fits-Left y.0 ∙ t.held, levels))
+      part_takes variant.Left 6 canonical-Left fits-Left levels-Left bytes x s
   behind_takes tag.Right bytes x s =
-      variant_takes variant.Right 7 canonical (part bytes) bytes x canonical-Right (λ y e.
-      let t = takes bytes y s e in
-      let levels = more_level n _ (variant.Right y.0) (levels-Right y.0) t.levels in
-      (t.takes, fits-Right y.0 ∙ t.held, levels))
+      part_takes variant.Right 7 canonical-Right fits-Right levels-Right bytes x s
   behind_takes tag.Wide bytes x s =
       variant_takes variant.Wide 8 wide_bytes (wide_at bytes) bytes x canonical-Wide (λ y e.
       let t = wide_takes bytes y s e in

@@ -8,14 +8,14 @@ use Rattle.flume_value.specs.Canonical.{canonical}
 use Rattle.flume_value.proofs.ApartLemmas.{canonical-tells}
 use Rattle.value_reading.specs.declared.fault.ReadFault.{ReadFault}
 use Rattle.value_reading.specs.declared.fault.ReadFault.TheVariants.{NotOne, Memory}
-use Rattle.value_reading.specs.Written.{IsWritten}
+use Rattle.value_reading.specs.Written.{IsCanonical}
 use Rattle.value_reading.specs.inner.Reading.{Out, alone, value_at, whole_at}
 use Rattle.value_reading.specs.inner.Reads.{Answers}
 use Rattle.value_reading.proofs.Digits.{Small}
 use Rattle.value_reading.proofs.Taking.{value_takes}
 use Rattle.value_reading.proofs.Again.{value_again}
 
-pub only_one : (v w : Value) (bytes : List ℕ) → IsWritten v bytes → IsWritten w bytes → v ≡ w
+pub only_one : (v w : Value) (bytes : List ℕ) → IsCanonical v bytes → IsCanonical w bytes → v ≡ w
 only_one v w bytes p q = canonical-tells v w p.held q.held (sym p.bytes_are ∙ q.bytes_are)
 
 -- nothing is left behind what is alone
@@ -32,7 +32,7 @@ alone_some (Some x) v e = tested (length x.1 == 0) refl e
     tested false q e = absurd (cc)
 
 whole_written : (bytes : List ℕ) (v : Value) → Small bytes → whole_at bytes ≡ Some v
-    → IsWritten v bytes
+    → IsCanonical v bytes
 whole_written bytes v s e =
     let r = value_takes 16 bytes (v, []) s (alone_some (value_at 16 bytes) v e) in
     record {
@@ -41,24 +41,24 @@ whole_written bytes v s e =
       held = r.held;
     }
 
-written_whole : (bytes : List ℕ) (v : Value) → IsWritten v bytes → whole_at bytes ≡ Some v
+written_whole : (bytes : List ℕ) (v : Value) → IsCanonical v bytes → whole_at bytes ≡ Some v
 written_whole bytes v w =
     ap alone (ap (value_at 16) (w.bytes_are ∙ sym (append-nil (canonical v)))
     ∙ value_again 16 v [] w.held w.levels)
 
 pub is_written : (bytes : List ℕ) (r : Result Value ReadFault) → Small bytes
-    → Answers (whole_at bytes) r → IfOk r (λ v. IsWritten v bytes)
+    → Answers (whole_at bytes) r → IfOk r (λ v. IsCanonical v bytes)
 is_written bytes (Ok v) s h = whole_written bytes v s h
 is_written bytes (Err e) s h = tt
 
 pub none_is : (bytes : List ℕ) (r : Result Value ReadFault) → Answers (whole_at bytes) r
-    → IsErrOf r NotOne → (v : Value) → IsWritten v bytes → ⊥
+    → IsErrOf r NotOne → (v : Value) → IsCanonical v bytes → ⊥
 none_is bytes (Ok w) h e v p = absurd (cc)
 none_is bytes (Err NotOne) h e v w =
     let none = h (λ q. cc) in let some = written_whole bytes v w in cc
 none_is bytes (Err Memory) h e v w = absurd (cc)
 
 pub is_back : (bytes : List ℕ) (r : Result Value ReadFault) → Answers (whole_at bytes) r
-    → (v : Value) → IsWritten v bytes → IfOk r (λ w. w ≡ v)
+    → (v : Value) → IsCanonical v bytes → IfOk r (λ w. w ≡ v)
 is_back bytes (Ok w) h v p = let some = written_whole bytes v p in cc
 is_back bytes (Err e) h v p = tt

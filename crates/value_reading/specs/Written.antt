@@ -7,7 +7,7 @@ use Rattle.value_reading.specs.Levels.{levels_of}
 
 -- These are the canonical bytes of the value, which has at most 16 levels and is one that a program
 -- can hold.
-pub record IsWritten (v : Value) (bytes : List ℕ) : Type 0 where
+pub record IsCanonical (v : Value) (bytes : List ℕ) : Type 0 where
   pub bytes_are : bytes ≡ canonical v
   pub levels : levels_of v ≤ 16
   pub held : IsHeld v

@@ -1,7 +1,7 @@
 // A value from its canonical bytes, level after level.
 ghost use Rattle.std.specs.Prelude.{◌≡◌, IfOk, IsErrOf, List, ℕ};
 ghost use Rattle.flume_value.specs.declared.value.Value.{Value as Value_};
-ghost use Rattle.value_reading.specs.Written.{IsWritten};
+ghost use Rattle.value_reading.specs.Written.{IsCanonical};
 ghost use Rattle.value_reading.specs.inner.Reading as spec;
 ghost use Rattle.value_reading.specs.inner.Reads.{ReadsFront, Answers};
 
@@ -18,16 +18,16 @@ pub const MOST_LEVELS: u32 = 16;
 ///
 /// It is the one that there is, and where there is none, that is the answer; else memory ran out.
 pub fn read_canonical(alloc: Global, bytes: &[u8]) -> Result<Value, ReadFault>
-    ensures value { IfOk result (λ v. IsWritten v bytes.now) }
-    ensures none { IsErrOf result ReadFault.NotOne → (v : Value_) → IsWritten v bytes.now → ⊥ }
-    ensures back { (v : Value_) → IsWritten v bytes.now → IfOk result (λ w. w ≡ v) }
+    ensures value { IfOk result (λ v. IsCanonical v bytes.now) }
+    ensures none { IsErrOf result ReadFault.NotOne → (v : Value_) → IsCanonical v bytes.now → ⊥ }
+    ensures back { (v : Value_) → IsCanonical v bytes.now → IfOk result (λ w. w ≡ v) }
 {
     whole(alloc, bytes)
 }
 
 /// No two values of at most 16 levels have one list of canonical bytes.
 pub fn reading_law()
-    ensures { (v w : Value_) (bytes : List ℕ) → IsWritten v bytes → IsWritten w bytes → v ≡ w }
+    ensures { (v w : Value_) (bytes : List ℕ) → IsCanonical v bytes → IsCanonical w bytes → v ≡ w }
 {}
 
 // The value that all of the bytes are read as.
@@ -39,6 +39,7 @@ fn whole(alloc: Global, bytes: &[u8]) -> Result<Value, ReadFault>
     if left.is_empty() {
         Ok(value)
     } else {
+        drop(value);
         Err(ReadFault::NotOne)
     }
 }
@@ -102,12 +103,12 @@ fn members_of(
 ) -> Result<Items, ReadFault>
     ensures { ReadsFront (spec.parts_at (spec.value_at levels) count) left.old left.new result }
 {
-    let mut members = Vec::new(alloc);
+    let mut members = Pile::new(alloc);
     for _turn in 0..count {
         let value = value_of(alloc, left, levels)?;
         members.push(value)?;
     }
-    Ok(Pile::from_vec(members))
+    Ok(members)
 }
 
 // A text, with its length before it.

@@ -17,7 +17,7 @@ use Rattle.drill_text.proofs.DrillLemmas.{neither}
 use Rattle.command_words.specs.Options.{settings_given}
 use Rattle.command_words.specs.Words.{Asked, asked_at, asked_for, asked_of, asking, flume_app, is_operand, plan_given, run_of, run_with}
 use Rattle.word_laws.specs.Parts.{AskForRun, Fail, Name, Part, Partitions, PlanFile, Script, Shards, Tries, Workers, words_of}
-use Rattle.word_laws.specs.Grammar.{AsksFor}
+use Rattle.word_laws.specs.Grammar.{WordsAskFor}
 use Rattle.command_words.specs.declared.words.Command.{Command}
 use Rattle.command_words.specs.declared.words.Command.TheVariants.{Run}
 use Rattle.word_laws.proofs.GrammarLemmas.{answer, asked, at_first}
@@ -202,7 +202,7 @@ nothing_fails parts script settings from h place asks holds =
 
 pub run_asked : (script : Text) (parts : List Part) (settings : RunSettings) (from : Option Text)
     → is_operand script ≡ true → AskForRun parts script settings from
-    → AsksFor (codes "run" ∷ flat_map words_of parts) (Run settings from) script
+    → WordsAskFor (codes "run" ∷ flat_map words_of parts) (Run settings from) script
 run_asked script parts settings from is asks program =
     let end = walks parts [] nothing_held 1 holds_none (fresh parts [] asks.apart)
     (are_operands parts script settings from is asks) (λ none. refl) in
@@ -215,7 +215,7 @@ run_asked script parts settings from is asks program =
 
 -- a script alone
 pub run_alone : (script : Text) → is_operand script ≡ true
-    → AsksFor (codes "run" ∷ script ∷ []) (Run standard None) script
+    → WordsAskFor (codes "run" ∷ script ∷ []) (Run standard None) script
 run_alone script is =
     run_asked script (record { name = Script; value = script } ∷ []) standard None is
     (record {

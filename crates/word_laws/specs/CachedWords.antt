@@ -2,7 +2,7 @@
 use Rattle.std.specs.Prelude.{◌≡◌, List, [], ◌∷◌, None, Some, codes}
 use Rattle.clap.specs.Words.{Text}
 use Rattle.run_settings.specs.Settings.{RunSettings, standard}
-use Rattle.word_laws.specs.Grammar.{AsksFor}
+use Rattle.word_laws.specs.Grammar.{WordsAskFor}
 use Rattle.command_words.specs.Cached.{CachedRun, cached_for}
 use Rattle.command_words.specs.declared.words.Command.TheVariants.{Run}
 
@@ -19,4 +19,4 @@ pub record TakesCached (script : Text) : Type 0 where
 
 -- some words behind the program's name ask for this run without a cache
 abbrev pub HasPlainWords : CachedRun → Type 0
-HasPlainWords run = (words : List Text) × AsksFor words (Run run.settings None) run.script
+HasPlainWords run = (words : List Text) × WordsAskFor words (Run run.settings None) run.script

@@ -18,9 +18,15 @@ pub fn command_of(alloc: Global, line: &[u8]) -> Result<Command, Unread> {
 fn push_words(alloc: Global, words: &mut Vec<String>, line: &[u8]) -> Result<(), Unread> {
     words.push(String::from_str(alloc, "flume")?)?;
     for word in &parts(alloc, line, b' ')? {
-        if !word.is_empty() {
-            words.push(word_of(alloc, word)?)?;
-        }
+        push_word(alloc, words, word)?;
+    }
+    Ok(())
+}
+
+// Adds a word that has bytes.
+fn push_word(alloc: Global, words: &mut Vec<String>, word: &[u8]) -> Result<(), Unread> {
+    if !word.is_empty() {
+        words.push(word_of(alloc, word)?)?;
     }
     Ok(())
 }

@@ -26,18 +26,24 @@ pub fn push_faults(alloc: Global, faults: &mut Faults, line: &[u8]) -> Result<()
 fn push_fault(faults: &mut Faults, text: &[u8]) -> Result<(), Unread> {
     let (kind, rest) = first_word(text);
     if kind == b"source".as_slice() {
-        faults.source.push(fail_of(rest)?)?;
+        push_read(&mut faults.source, fail_of(rest))
     } else if kind == b"shelf".as_slice() {
-        faults.shelf.push(fail_of(rest)?)?;
+        push_read(&mut faults.shelf, fail_of(rest))
     } else if kind == b"step".as_slice() {
         faults.step = Some(number_of(rest)?);
+        Ok(())
     } else if kind == b"screen".as_slice() {
-        faults.screen.push(number_of(rest)?)?;
+        push_read(&mut faults.screen, number_of(rest))
     } else if kind == b"cache".as_slice() {
-        faults.cache.push(number_of(rest)?)?;
+        push_read(&mut faults.cache, number_of(rest))
     } else {
-        faults.hosts.push(down_of(kind, rest)?)?;
+        push_read(&mut faults.hosts, down_of(kind, rest))
     }
+}
+
+// Adds what was read, if it was.
+fn push_read<T: Drop>(all: &mut Vec<T>, read: Result<T, Mistake>) -> Result<(), Unread> {
+    all.push(read?)?;
     Ok(())
 }
 

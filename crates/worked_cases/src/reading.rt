@@ -137,7 +137,14 @@ fn read_case(
     at: &mut usize,
 ) -> Result<(), Unread> {
     let mut case = Case::new(alloc, Vec::from_slice(alloc, name)?);
-    fill(alloc, &mut case, lines, texts, at)?;
-    entries.push(Entry::Case(case))?;
-    Ok(())
+    match fill(alloc, &mut case, lines, texts, at) {
+        Ok(()) => {
+            entries.push(Entry::Case(case))?;
+            Ok(())
+        }
+        Err(unread) => {
+            drop(case);
+            Err(unread)
+        }
+    }
 }

@@ -51,14 +51,6 @@ impl TypeNames {
         &self.types
     }
 
-    /// The types under numbers, without the names.
-    pub fn into_types(self) -> Types
-        ensures { result ≡ self.types }
-    {
-        let TypeNames { types, names: _ } = self;
-        types
-    }
-
     /// The number of the type that a shape stands for. Every name keeps its type.
     pub fn intern(&mut self, shape: Shape) -> Result<TypeId, AllocError>
         requires { IsWithin (length self.old.types) shape }

@@ -4,7 +4,7 @@ ghost use Rattle.flume_types.specs.Tables.{table_of};
 ghost use Rattle.type_table.specs.Table.{type_at, Extends};
 
 use crate::names::TypeNames;
-use flume_value::{Pile, Str};
+use flume_value::Pile;
 use std::alloc::{AllocError, Global};
 use type_table::{Part, Parts, Shape, TypeId};
 
@@ -32,13 +32,7 @@ fn table_fields(alloc: Global, key: TypeId, value: TypeId) -> Result<Parts, Allo
         ∷ record { name = codes "value"; ty = value } ∷ []) }
 {
     let mut fields = Pile::new(alloc);
-    fields.push(Part {
-        name: Str::from_slice(alloc, b"key")?,
-        ty: key,
-    })?;
-    fields.push(Part {
-        name: Str::from_slice(alloc, b"value")?,
-        ty: value,
-    })?;
+    fields.push(Part::named(alloc, b"key", key)?)?;
+    fields.push(Part::named(alloc, b"value", value)?)?;
     Ok(fields)
 }

@@ -12,7 +12,7 @@ use Rattle.expression_check.specs.of_written_types.Named.{fresh}
 use Rattle.expression_check.specs.of_expression_types.Sight.{Sight, with_name}
 use Rattle.expression_check.specs.of_expression_types.Fields.{member_type, side_types}
 use Rattle.expression_check.specs.of_expression_types.Types.{is_same, is_bool}
-use Rattle.expression_check.specs.Slots.{Typed, slots_of}
+use Rattle.expression_check.specs.Slots.{SlotsAndType, slots_of}
 use Rattle.body_check.specs.Outputs.{output_of}
 
 -- a statement, and what is in sight behind it
@@ -46,7 +46,7 @@ module _ (line : ℕ) where
     Ok (x.0)
 
   -- what a name that is not in sight yet is to stand for
-  abbrev pub new_value : List ℕ → Expr → Sight → Checked Typed
+  abbrev pub new_value : List ℕ → Expr → Sight → Checked SlotsAndType
   new_value name e s = do
     new ← fresh line name s.names
     slots_of line e s

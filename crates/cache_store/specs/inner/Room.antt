@@ -1,8 +1,8 @@
 -- The room of a cache in memory.
 use Rattle.std.specs.Prelude.{ℕ, ◌≤◌, ◌+◌, All, sum_by, vec_capacity, vec_len}
 use Rattle.std.specs.Global.{Vec}
-use Rattle.cache_store.specs.inner.Slots.{HasRoom, slot_size}
-use Rattle.cache_store.specs.declared.memory.slots.Slot.{Slot}
+use Rattle.outside.specs.Slots.{HasRoom, slot_size}
+use Rattle.outside.specs.declared.slots.Slot.{Slot}
 
 -- The entries are within the room, and each slot has all of the room, those to spare included.
 pub record AreSlots (slots spare : Vec Slot) (room : ℕ) : Type 0 where

@@ -1,18 +1,19 @@
 // The cache itself, and its calls.
-ghost use Rattle.std.specs.Prelude.{Some, ◌≡◌, ◌≤◌, ◌<◌, ◌⊎◌, ◌↔◌, length, sum_by, is_ok, if◌then◌else◌, IsTrue, IsErr, IsErrOf, IfOk};
+ghost use Rattle.std.specs.Prelude.{Some, ◌≡◌, ◌≤◌, ◌<◌, ◌⊎◌, ◌↔◌, length, map, sum_by, is_ok, if◌then◌else◌, IsTrue, IsErr, IsErrOf, IfOk};
 ghost use Rattle.std.specs.Option.{option_copied, option_map};
 ghost use Rattle.outside.specs.Calls.{counted, is_numbered};
 ghost use Rattle.outside.specs.Cause.{HasCause, raised};
 ghost use Rattle.cache_store.specs.Cause.{HasFindCause};
 ghost use Rattle.cache_store.specs.Entries.{entry_size, found_in, with_entry};
 ghost use Rattle.cache_store.specs.Memory.{FitsIn, counted_find};
+ghost use Rattle.cache_store.specs.inner.Slots.{as_entry};
 
 use super::put::{copied, put};
-use super::slots::{Slot, copy_entries, slot_place, slot_value, spare_slots};
 use crate::cache::{Cache, FindFault};
 use crate::entry::CacheEntry;
 use flume_value::Pile;
-use outside::Failed;
+use outside::slots::{Slot, copy_files, slot_bytes, slot_place, spare_slots};
+use outside::{Failed, File};
 use std::alloc::{AllocError, Global};
 use std::marker::Model;
 
@@ -72,7 +73,8 @@ impl MemCache {
     {
         let count = max_entries as usize;
         let room = max_bytes as usize;
-        let slots = copy_entries(alloc, entries.as_slice(), count, room)?;
+        let files = as_files(alloc, entries.into_vec())?;
+        let slots = copy_files(alloc, &files, count, room)?;
         let spare = spare_slots(alloc, count - slots.len(), room)?;
         Ok(MemCache {
             slots,
@@ -89,7 +91,7 @@ impl MemCache {
         ensures { option_copied result ≡ found_in self.now.entries key.now }
     {
         match slot_place(&self.slots, key) {
-            Some(k) => Some(slot_value(&self.slots, k)),
+            Some(k) => Some(slot_bytes(&self.slots, k)),
             None => None,
         }
     }
@@ -127,9 +129,7 @@ impl Cache for MemCache {
             × (self.new.max_entries ≡ self.old.max_entries)
             × (self.new.max_bytes ≡ self.old.max_bytes) }
     {
-        let call = self.calls;
-        self.calls = call.saturating_add(1);
-        if is_numbered(self.fails.as_slice(), call) {
+        if fails_call(self.fails.as_slice(), &mut self.calls) {
             self.faults = self.faults.saturating_add(1);
             return Err(FindFault::Failed);
         }
@@ -152,9 +152,7 @@ impl Cache for MemCache {
             × (self.new.max_entries ≡ self.old.max_entries)
             × (self.new.max_bytes ≡ self.old.max_bytes) }
     {
-        let call = self.calls;
-        self.calls = call.saturating_add(1);
-        if is_numbered(self.fails.as_slice(), call)
+        if fails_call(self.fails.as_slice(), &mut self.calls)
             || !put(&mut self.slots, &mut self.spare, self.room, key, value)
         {
             self.faults = self.faults.saturating_add(1);
@@ -164,9 +162,27 @@ impl Cache for MemCache {
     }
 }
 
-// Whether the list names this call.
-fn is_numbered(fails: &[u32], call: u64) -> bool
-    ensures { result ≡ is_numbered fails.now call }
+// Counts a call, and says whether the list names it.
+fn fails_call(fails: &[u32], calls: &mut u64) -> bool
+    ensures named { result ≡ is_numbered fails.now calls.old }
+    ensures counted { calls.new ≡ raised calls.old }
 {
+    let call = *calls;
+    *calls = call.saturating_add(1);
     fails.iter().any(|fail| u64::from(*fail) == call)
+}
+
+// Each entry as a file, whose name is the key.
+fn as_files(alloc: Global, entries: Vec<CacheEntry>) -> Result<Vec<File>, AllocError>
+    ensures { IfOk result (λ files. map as_entry files.items ≡ entries.items) }
+{
+    let mut files = Vec::with_capacity(alloc, entries.len())?;
+    for entry in entries {
+        let CacheEntry { key, value } = entry;
+        files.push(File {
+            name: key,
+            bytes: value,
+        })?;
+    }
+    Ok(files)
 }

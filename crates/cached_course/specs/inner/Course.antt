@@ -18,9 +18,9 @@ use Rattle.outside.specs.Seen.{SeenScreen, SeenShelf, SeenSource}
 use Rattle.outside.specs.declared.file.File.{File}
 use Rattle.outside.specs.declared.host.Phase.{Phase}
 use Rattle.plan_phases.specs.Told.{IsGivenUp}
-use Rattle.run_course.specs.Answers.{FailsAtFile, HasText, IsCause, IsCutOff, IsFirstOfPlan, name_at}
+use Rattle.run_course.specs.Answers.{FailsAtFile, HasShown, IsCause, IsCutOff, IsFirstOfPlan, name_at}
 use Rattle.run_course.specs.Lent.{lent}
-use Rattle.run_course.specs.Written.{AllTasksRan, Table, files_of, text_shown}
+use Rattle.run_course.specs.Written.{AllTasksRan, CollectionTable, files_of, text_shown}
 use Rattle.run_course.specs.inner.Course.{IsRunStop, MayHaveCome}
 use Rattle.run_course.specs.declared.stop.Stop.{Stop}
 use Rattle.run_course.specs.declared.stop.Stop.TheVariants.{Refused, Trapped}
@@ -33,12 +33,12 @@ use Rattle.run_texts.specs.declared.status.Status.TheVariants.{Done, GaveUp, Wan
 use Rattle.saved_results.specs.declared.saved.Saved.{Saved}
 use Rattle.run_course.specs.of_script_plans.Plans.{IsScriptPlan}
 use Rattle.script_program.specs.Script.{Script}
-use Rattle.run_course.specs.of_script_run.Comes.{AreMembers}
+use Rattle.run_course.specs.of_script_run.Comes.{AreMembersOf}
 use Rattle.run_course.specs.of_script_run.Runs.{AsksSomePhases, phases_of}
-use Rattle.cached_course.specs.Answers.{AsksRun, HasLooked, found, lists_run, script_run}
+use Rattle.cached_course.specs.Answers.{AsksRun, HasLooked, IsRunning, found, lists_run, script_run}
 use Rattle.cached_course.specs.Kept.{HasKept, entries_kept, value_kept}
 use Rattle.cached_course.specs.Looked.{WereLooked, not_found}
-use Rattle.cached_course.specs.Reused.{IsReused, WritesReused}
+use Rattle.cached_course.specs.Reused.{WritesReused}
 use Rattle.cached_course.specs.declared.looking.LookedUp.{LookedUp}
 use Rattle.cached_course.specs.declared.saving.Given.{Given}
 use Rattle.cached_course.specs.inner.Found.{IsApart}
@@ -80,7 +80,7 @@ counted_too script known ran =
     known ++ beside (nodes_needed script) (map (λ line. line.1) ran)
 
 -- what is known of sizes where what was given means this table
-abbrev pub known_by : Given → Table → List (ℕ × ℕ)
+abbrev pub known_by : Given → CollectionTable → List (ℕ × ℕ)
 known_by given table =
     counted_too given.program.script given.known.items (sizes_of given.program.script table)
 
@@ -88,13 +88,13 @@ known_by given table =
 -- and what is kept. Each task of its plan was run on these hosts.
 pub record WasRun (s : RunSettings) (given : Given) (olds news : List Account) (files : List File)
     (text : List ℕ) (kept : List CacheEntry) : Type 0 where
-  pub table : Table
+  pub table : CollectionTable
   pub plan : Plan
   pub written : List (List Value)
   pub means : meaning given.program.script given.lists ≡ Some table
   pub through : traps_of table ≡ []
   pub planned : IsScriptPlan given.program.script plan
-  pub are : AllZip (λ output members. AreMembers table output.1.reads members)
+  pub are : AllZip (λ output members. AreMembersOf table output.1.reads members)
       given.program.script.outputs written
   pub has_files : files_of table given.program.script.outputs ≡ Some files
   pub shown : text
@@ -128,7 +128,7 @@ pub record IsPrepared (words : List (List ℕ)) (told : Option (List File))
     (olds news : List Account) (cache later : SeenCache) (files : List File) (text : List ℕ)
     (kept : List CacheEntry) : Type 0 where
   pub it : HasLooked words told cache later
-  pub table : Table
+  pub table : CollectionTable
   pub writes : WritesReused it.settings told olds news it.script (found it) files text table
   pub keeps : kept ≡ entries_kept it.script it.asked it.looked table
   pub held : AllByRecursion (λ one. IsHeld (value_kept it.script (found it) table one.0))
@@ -136,18 +136,9 @@ pub record IsPrepared (words : List (List ℕ)) (told : Option (List File))
 
 module _ (words : List (List ℕ)) (before after : SeenSource) (olds news : List Account)
     (cache later : SeenCache) where
-  -- the plan that is run, over what it is run over, which means this table
-  pub record IsRunning : Type 0 where
-    pub it : HasLooked words before.files cache later
-    pub rows : List (List Value)
-    pub table : Table
-    pub plan : Plan
-    pub meant : IsReused before.files it.script (found it) rows table
-    pub planned : IsScriptPlan (script_run it) plan
-
   abbrev pub GivesUp : ℕ → Phase → ℕ → Type 0
   GivesUp stage phase task =
-      (run : IsRunning)
+      (run : IsRunning words before.files cache later)
       × IsGivenUp run.it.settings.tries run.it.settings.drill
       (script_world (script_run run.it) (lists_run run.it run.rows))
       (phases_of run.it.settings (script_run run.it) (lists_run run.it run.rows) run.plan)
@@ -155,7 +146,7 @@ module _ (words : List (List ℕ)) (before after : SeenSource) (olds news : List
 
   abbrev pub Traps : Trap → List ℕ → Type 0
   Traps trap name =
-      (run : IsRunning) × Contains (traps_of run.table) trap
+      (run : IsRunning words before.files cache later) × Contains (traps_of run.table) trap
       × IsFirstOfPlan run.it.settings (script_run run.it) (lists_run run.it run.rows) run.plan
       (lent run.it.settings olds) (lent run.it.settings news) trap
       × (name_at run.it.script trap.origin ≡ Some name)
@@ -181,7 +172,7 @@ module _ (files : List File) (text : List ℕ) (kept : List CacheEntry) (shelf s
     (screen screen' : SeenScreen) (cache later : SeenCache) where
   abbrev pub DeliversKept : Status → Type 0
   DeliversKept Done =
-      HasFiles files shelf shelf' × HasKept kept cache later × HasText text screen screen'
+      HasFiles files shelf shelf' × HasKept kept cache later × HasShown text screen screen'
   DeliversKept (WriteFault (AtFile name)) =
       FailsAtFile name files shelf shelf' × (later ≡ cache)
       × HasLine (line_of (WriteFault (AtFile name))) screen screen'

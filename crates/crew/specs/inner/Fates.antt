@@ -3,7 +3,7 @@ use Rattle.std.specs.Prelude.{◌≡◌, ◌≢◌, ℕ, ◌<◌, true, List, le
 use Rattle.claim_board.specs.Counts.{times, times_first}
 use Rattle.claim_board.specs.Protocol.{PassState, limit, task_of}
 use Rattle.outside.specs.Accounts.{Account}
-use Rattle.crew.specs.Hosts.{HaveRisen, Refused, SomeHost}
+use Rattle.crew.specs.Hosts.{HaveRisen, RefusedPlace, SomeHost}
 use Rattle.crew.specs.Drills.{Settings, is_drilled}
 use Rattle.crew.specs.Work.{drawn_attempt}
 
@@ -23,4 +23,5 @@ module _ (tasks : ℕ) (s : Settings) where
     pub downs : List ℕ
     pub fates : All (λ p. All (λ d. d < limit tasks s.tries → Fate downs p d) p.draws) ps
     pub risen : HaveRisen (length downs) olds news
-    pub told : All (λ d. SomeHost (λ a b. Refused a b (drawn_attempt tasks s d)) olds news) downs
+    pub told : All
+        (λ d. SomeHost (λ a b. RefusedPlace a b (drawn_attempt tasks s d)) olds news) downs

@@ -1,15 +1,18 @@
 -- What an evaluation leaves.
-use Rattle.std.specs.Prelude.{◌≡◌, ℕ, true, false, Result, Ok, Err, List, ◌∷◌}
+use Rattle.std.specs.Prelude.{◌≡◌, ℕ, Result, Ok, Err, List, ◌∷◌}
 use Rattle.flume_value.specs.declared.value.Value.{Value}
 use Rattle.flume_value.specs.declared.value.Value.TheVariants as variant
 use Rattle.flume_value.specs.declared.fault.CallFault.{CallFault}
 use Rattle.flume_value.specs.Parts.{left_of, right_of}
 use Rattle.dofn_eval.specs.Outcome.{Outcome, Gives, IsFaultIn, then, then_both}
 use Rattle.dofn_eval.specs.Operations.{of_two, member_in, chosen}
-use Rattle.dofn_eval.specs.declared.expr.Binary.{Binary}
-use Rattle.dofn_eval.specs.declared.expr.Expr.{Expr}
+use Rattle.dofn_eval.specs.declared.expr.Expr.{Expr, size-Expr}
 use Rattle.dofn_eval.specs.declared.stmt.Stmt.{Stmt}
 use Rattle.dofn_calls.specs.declared.scope.Scope.{Scope}
+use Rattle.dofn_calls.specs.declared.evaluate.Pairing.{Pairing}
+use Rattle.dofn_calls.specs.declared.evaluate.Pairing.TheVariants.{Operation, Member}
+use Rattle.dofn_calls.specs.declared.evaluate.Branch.{Branch}
+use Rattle.dofn_calls.specs.declared.evaluate.Branch.TheVariants.{Truth, Part}
 use Rattle.dofn_eval.specs.Meaning.{value_of}
 use Rattle.dofn_eval.specs.Run.{Emissions, SlotState, state, emitted_to, run, run_one as one_run}
 use Rattle.dofn_eval.specs.Run.{for_each, side_of, by_side}
@@ -28,20 +31,25 @@ Returns = Evaluates (λ a. a)
 abbrev pub value_in : Scope → Expr → Outcome Value
 value_in scope e = value_of e (values scope)
 
-abbrev pub two : Scope → Binary → Expr → Expr → Outcome Value
-two scope op a b = then_both (value_in scope a) (value_in scope b) (of_two op)
+abbrev pub paired : Pairing → Value → Value → Outcome Value
+paired (Operation op) = of_two op
+paired Member = member_in
 
-abbrev pub index : Scope → Expr → Expr → Outcome Value
-index scope a b = then_both (value_in scope a) (value_in scope b) member_in
+abbrev pub two : Scope → Pairing → Expr → Expr → Outcome Value
+two scope pairing a b = then_both (value_in scope a) (value_in scope b) (paired pairing)
 
-abbrev pub both : Scope → Expr → Expr → Outcome Value
-both scope a b = chosen (value_in scope a) (value_in scope b) (Gives (variant.Bool false))
+abbrev pub branch : Scope → Branch → Outcome Value
+branch scope (Truth b) = Gives (variant.Bool b)
+branch scope (Part e) = value_in scope e.now
 
-abbrev pub either : Scope → Expr → Expr → Outcome Value
-either scope a b = chosen (value_in scope a) (Gives (variant.Bool true)) (value_in scope b)
+-- what a test chooses of two
+abbrev pub one_of : Scope → Expr → Branch → Branch → Outcome Value
+one_of scope test a b = chosen (value_in scope test) (branch scope a) (branch scope b)
 
-abbrev pub pick : Scope → Expr → Expr → Expr → Outcome Value
-pick scope c a b = chosen (value_in scope c) (value_in scope a) (value_in scope b)
+-- how deep it is
+abbrev pub branch_size : Branch → ℕ
+branch_size (Truth b) = 0
+branch_size (Part e) = size-Expr e.now
 
 -- what a block emits with these values in scope, behind what was emitted so far
 abbrev pub run_in : Scope → List Stmt → Emissions → Outcome Emissions

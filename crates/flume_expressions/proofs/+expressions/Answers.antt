@@ -1,12 +1,12 @@
-use Rattle.std.proofs.Common.{is_some, refl, sym, ap, ◌∙◌, arith}
+use Rattle.std.proofs.Common.{◌<◌, is_some, refl, sym, ap, ◌∙◌, arith}
 use Rattle.std.proofs.lemmas.Result.{err_from_is_err_and}
 use Rattle.flume_grammar.specs.Limits.{the_limits}
 use Rattle.flume_grammar.specs.inner.Out.{all_of}
 use Rattle.flume_grammar.specs.inner.Types.{at_comma}
 use Rattle.flume_grammar.specs.inner.Expressions.{suffix_of, goes_on, next_suffix, next_field, next_member, with_suffix, expression_below}
-use Rattle.flume_grammar.proofs.Loops.{lost, reaches_start, reaches_fault}
+use Rattle.flume_grammar.proofs.Loops.{lost, reaches_start, reaches_fault, at_first, failed}
 use Rattle.flume_grammar.proofs.Operands.{opens_fault, close_next, close_fault}
-use Rattle.flume_grammar.specs.inner.Reads.{FitsSoFar}
+use Rattle.flume_grammar.specs.inner.Reads.{Below, FitsSoFar}
 use Rattle.flume_expressions.proofs.Sides.{after_side}
 use Rattle.flume_expressions.proofs.+expressions.Goals as goal
 
@@ -22,24 +22,14 @@ expression::continued-more-init t c = record {
 }
 
 pub operand::more_fields-more-init : goal.operand::more_fields-more-init
-operand::more_fields-more-init t c = record {
-  reaches =
-      reaches_start at_comma (next_field the_limits (expression_below c.args.limit)) c.args.first
-      c.args.tokens.now;
-  limit = c.requires.limit;
-  depth = c.requires.depth;
-  shorter = omega arith;
-}
+operand::more_fields-more-init t c =
+    at_first at_comma (next_field the_limits (expression_below c.args.limit)) (Below c.args.limit)
+    c.args.first c.args.first c.args.tokens.now refl c.requires.depth
 
 pub operand::more_members-more-init : goal.operand::more_members-more-init
-operand::more_members-more-init t c = record {
-  reaches =
-      reaches_start at_comma (next_member the_limits (expression_below c.args.limit)) c.args.first
-      c.args.tokens.now;
-  limit = c.requires.limit;
-  depth = c.requires.depth;
-  shorter = omega arith;
-}
+operand::more_members-more-init t c =
+    at_first at_comma (next_member the_limits (expression_below c.args.limit))
+    (λ m. m.1 < c.args.limit) c.args.first c.args.first c.args.tokens.now refl c.requires.depth
 
 pub expression::continued-returns-in_err-left : goal.expression::continued-returns-in_err-left
 expression::continued-returns-in_err-left t c =
@@ -57,19 +47,15 @@ expression::continued-returns-in_err-left t c =
 
 pub operand::more_fields-returns-in_err-fields : goal.operand::more_fields-returns-in_err-fields
 operand::more_fields-returns-in_err-fields t c =
-    let p = err_from_is_err_and c.from_residual.result c.from_residual.ensures.1 in
-    rw (p.1, p.2) (λ other.
-    reaches_fault at_comma (next_field the_limits (expression_below c.args.limit)) _ c.more.fields
-    c.more.tokens _ refl c.more.invariant.reaches (sym c.is_at_sign.ensures ∙ c.more-test.true)
-    (c.in_err-fields.ensures other))
+    let q = failed c.more.invariant refl (sym c.is_at_sign.ensures ∙ c.more-test.true)
+    c.in_err-fields.ensures c.from_residual.result c.from_residual.ensures.1 in
+    rw q.0 q.1
 
 pub operand::more_members-returns-in_err-members : goal.operand::more_members-returns-in_err-members
 operand::more_members-returns-in_err-members t c =
-    let p = err_from_is_err_and c.from_residual.result c.from_residual.ensures.1 in
-    rw (p.1, p.2) (λ other.
-    reaches_fault at_comma (next_member the_limits (expression_below c.args.limit)) _ c.more.members
-    c.more.tokens _ refl c.more.invariant.reaches (sym c.is_at_sign.ensures ∙ c.more-test.true)
-    (c.in_err-members.ensures other))
+    let q = failed c.more.invariant refl (sym c.is_at_sign.ensures ∙ c.more-test.true)
+    c.in_err-members.ensures c.from_residual.result c.from_residual.ensures.1 in
+    rw q.0 q.1
 
 pub operand::operand-returns-in_err-inner : goal.operand::operand-returns-in_err-inner
 operand::operand-returns-in_err-inner t c =

@@ -2,9 +2,10 @@ use Rattle.std.proofs.Common.{◌+◌, ◌-◌, ◌*◌, ◌≡◌, ◌<◌, ◌
 use Rattle.flume_grammar.specs.Limits.{the_limits}
 use Rattle.flume_grammar.specs.inner.Out.{all_of}
 use Rattle.std.specs.Prelude.{Ok}
+use Rattle.flume_grammar.specs.inner.Reads.{Below}
 use Rattle.flume_grammar.specs.inner.Types.{at_comma}
 use Rattle.flume_grammar.specs.inner.Expressions.{next_field, next_member, next_suffix, goes_on, wrapped, operand, expression_below}
-use Rattle.flume_grammar.proofs.Loops.{Reaches}
+use Rattle.flume_grammar.proofs.Loops.{Reaches, Turned}
 use Rattle.flume_expressions.proofs.+expressions.Given as goal
 
 abbrev pub decreases-expression::extended : goal.decreases-expression::extended
@@ -78,28 +79,16 @@ decreases-operand::operand l = 10 * l.limit + 6
 
 abbrev pub invariant-operand::more_fields-more : goal.invariant-operand::more_fields-more
 invariant-operand::more_fields-more l =
-    let part = next_field the_limits (expression_below l.limit) in
-    record {
-      reaches : Reaches at_comma part (all_of at_comma part l.initial.fields l.fn.tokens) l.fields
-          l.tokens;
-      limit : 2 ≤ l.limit;
-      depth : l.fields.depth < l.limit;
-      shorter : length l.tokens ≤ length l.fn.tokens;
-    }
+    Turned at_comma (next_field the_limits (expression_below l.limit)) (Below l.limit)
+    l.initial.fields l.fn.tokens l.fields l.tokens
 
 abbrev pub decreases-operand::more_fields-more : goal.decreases-operand::more_fields-more
 decreases-operand::more_fields-more l = length l.tokens
 
 abbrev pub invariant-operand::more_members-more : goal.invariant-operand::more_members-more
 invariant-operand::more_members-more l =
-    let part = next_member the_limits (expression_below l.limit) in
-    record {
-      reaches : Reaches at_comma part (all_of at_comma part l.initial.members l.fn.tokens) l.members
-          l.tokens;
-      limit : 2 ≤ l.limit;
-      depth : l.members.1 < l.limit;
-      shorter : length l.tokens ≤ length l.fn.tokens;
-    }
+    Turned at_comma (next_member the_limits (expression_below l.limit)) (λ m. m.1 < l.limit)
+    l.initial.members l.fn.tokens l.members l.tokens
 
 abbrev pub decreases-operand::more_members-more : goal.decreases-operand::more_members-more
 decreases-operand::more_members-more l = length l.tokens

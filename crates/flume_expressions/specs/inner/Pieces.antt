@@ -1,7 +1,6 @@
 -- Pieces of expressions that are read by themselves.
 use Rattle.std.specs.Prelude.{ℕ, ◌+◌, List}
-use Rattle.flume_tokens.specs.declared.sign.Sign.{Sign}
-use Rattle.flume_tokens.specs.declared.sign.Sign.TheVariants.{Close, CloseBrace, CloseBracket, Colon, Greater, Less, Open}
+use Rattle.flume_tokens.specs.declared.sign.Sign.TheVariants.{Close, CloseBrace, CloseBracket, Greater, Less, Open}
 use Rattle.flume_tokens.specs.declared.token.Token.{Token}
 use Rattle.flume_grammar.specs.declared.parts.Parts.{Parts}
 use Rattle.flume_grammar.specs.declared.parts.SoFar.{SoFar}
@@ -15,17 +14,9 @@ use Rattle.flume_grammar.specs.inner.Reading.{comma_at, sign_at, word_at}
 use Rattle.flume_grammar.specs.inner.Types.{whole_type}
 use Rattle.flume_grammar.specs.inner.Expressions.{Inner, Members, argument, so_far}
 
--- what was read, where this sign ends it
-abbrev pub ended : {A : Type 0} → Sign → A → List Token → Out A
-ended end a ts = bind (one (sign_at end) ts) (λ _ us. give a us)
-
 -- so many parts that were read, where a comma and a part may follow
 abbrev pub after_comma : {A : Type 0} → ℕ → ℕ → A → List Token → Out A
 after_comma parts limit a ts = bind (one (comma_at parts limit) ts) (λ _ us. give a us)
-
--- a field's name, and the colon after it
-abbrev pub field_name : List Token → Out (List ℕ)
-field_name ts = bind (one word_at ts) (λ w us. ended Colon w us)
 
 -- the field, whose name comes here, of an expression of that depth
 abbrev pub with_field : Expr → ℕ → List Token → Out SoFar

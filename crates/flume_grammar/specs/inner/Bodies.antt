@@ -26,11 +26,8 @@ keyword_body keyword.For = Some start.For
 keyword_body keyword.Case = Some start.Case
 keyword_body _ = None
 
-abbrev pub body_of : TokenKind → Option BodyStart
-body_of = of_keyword keyword_body
-
 abbrev pub begins_body : Option TokenKind → Bool
-begins_body (Some k) = is_some (body_of k)
+begins_body (Some k) = is_some (of_keyword keyword_body k)
 begins_body None = false
 
 abbrev pub started : ℕ → Token → Option BodyStart → Result (BodyStart × ℕ) Stop
@@ -39,7 +36,7 @@ started limit t None = Err (at t Syntax)
 
 -- a statement is at least two deep
 abbrev pub body_start : ℕ → Token → Result (BodyStart × ℕ) Stop
-body_start limit t = started limit t (body_of t.kind)
+body_start limit t = started limit t (of_keyword keyword_body t.kind)
 
 -- statements with the depth of the deepest
 abbrev pub Block : Type 0

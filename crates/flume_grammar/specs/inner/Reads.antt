@@ -43,10 +43,6 @@ abbrev pub PassesSuch : {A : Type 0} → (A → Type 0) → (List Token → Out 
 PassesSuch such p ts us (Ok x) = Passed such p ts us x
 PassesSuch such p ts us (Err e) = e ≢ Memory → p ts ≡ Err e
 
-abbrev pub Passes : {A : Type 0} → (List Token → Out A) → List Token → List Token → Result A Stop
-    → Type 0
-Passes p ts us r = PassesSuch all p ts us r
-
 -- a tree with its depth, which is at most the limit
 abbrev pub Within : {A : Type 0} → ℕ → A × ℕ → Type 0
 Within limit x = x.1 ≤ limit

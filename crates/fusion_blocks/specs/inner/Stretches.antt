@@ -1,5 +1,5 @@
 -- What is known of the chain to a collection, and what is marked so far.
-use Rattle.std.specs.Prelude.{◌≡◌, ◌⊎◌, ◌<◌, ◌^◌, ℕ, true, cond, nat_lt, List, [], ◌∷◌, Some, nat_eq}
+use Rattle.std.specs.Prelude.{◌≡◌, ◌↔◌, ◌⊎◌, ◌<◌, ◌^◌, ℕ, true, cond, nat_lt, List, [], ◌∷◌, Some, nat_eq}
 use Rattle.std.specs.HashMap.{HashMap, get}
 use Rattle.std.specs.HashSet.{HashSet, contains}
 use Rattle.exec_graph.specs.Forests.{Forest}
@@ -34,6 +34,10 @@ abbrev pub IsStretch : List Entry → (ℕ → ℕ) → Place → Stretch → Ty
 IsStretch es m c Open = (cs : List Place) → IsChain es c cs → ⊥
 IsStretch es m c Empty = IsChain es c []
 IsStretch es m c (Least d) = HasLeast es m c d
+
+-- where it has a first of least estimate, that is what is marked of the chain to c
+abbrev pub TellsMark : List Entry → (ℕ → ℕ) → Place → Stretch → Type 0
+TellsMark es m c s = (d : Place) → (s ≡ Least d) ↔ IsMarkOf es m c d
 
 pub record IsPdoOf (es : List Entry) (n : ℕ) (c : Place) : Type 0 where
   pub forest : Forest

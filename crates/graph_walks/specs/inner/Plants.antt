@@ -17,6 +17,11 @@ put_in j k g (Grow l kids rest) =
     (cond (is_out l.out j) (beside kids g) (put_in j k g kids))
     (cond (is_out l.out j || has_out j kids) rest (put_in j k g rest))
 
+-- each becomes what is put for it, up to the first that is the one; those behind it stay
+abbrev pub put_first : {X : Type 0} → (X → Bool) → (X → X) → List X → List X
+put_first on put [] = []
+put_first on put (x ∷ xs) = put x ∷ cond (on x) xs (put_first on put xs)
+
 -- ---- an output with the steps on it
 
 -- whether it is the output, or a step on it has it
@@ -35,8 +40,7 @@ abbrev pub on_twigs : ℕ → List Twig → Bool
 on_twigs j ts = list_any (on_twig j) ts
 
 abbrev pub put_twigs : ℕ → Bool → Forest → List Twig → List Twig
-put_twigs j k g [] = []
-put_twigs j k g (t ∷ ts) = put_twig j k g t ∷ cond (on_twig j t) ts (put_twigs j k g ts)
+put_twigs j k g ts = put_first (on_twig j) (put_twig j k g) ts
 
 -- ---- steps
 
@@ -56,6 +60,4 @@ abbrev pub on_branches : ℕ → List Branch → Bool
 on_branches j bs = list_any (on_branch j) bs
 
 abbrev pub put_branches : ℕ → Bool → Forest → List Branch → List Branch
-put_branches j k g [] = []
-put_branches j k g (b ∷ bs) =
-    put_branch j k g b ∷ cond (on_branch j b) bs (put_branches j k g bs)
+put_branches j k g bs = put_first (on_branch j) (put_branch j k g) bs

@@ -1,7 +1,7 @@
 -- The room of a shelf in memory.
 use Rattle.std.specs.Prelude.{◌≤◌, ◌+◌, All, sum_by, vec_capacity, vec_len}
 use Rattle.std.specs.Option.{ForSome}
-use Rattle.outside.specs.inner.Slots.{files_of, HasRoom, IsPlace, slot_size}
+use Rattle.outside.specs.Slots.{files_of, HasRoom, IsPlace, slot_size}
 use Rattle.outside.specs.declared.memory.shelf.MemShelf.TheInside.{Inside}
 
 -- The files are within the room, each slot has all of the room, and the begun file is found by its

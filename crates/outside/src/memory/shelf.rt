@@ -7,7 +7,7 @@ ghost use Rattle.outside.specs.Cause.{HasStrictCause};
 ghost use Rattle.outside.specs.Files.{bytes_of, file_size, with_file, with_piece};
 
 use super::calls::{Calls, failed};
-use super::slots::{
+use crate::slots::{
     Slot, add_file, add_piece, copy_files, empty_file, slot_place, spare_slots, used,
 };
 use crate::{Fail, Failed, File, Shelf};
@@ -37,7 +37,7 @@ impl Model for MemShelf {
     ghost Value = { ShelfInMemory };
 
     ghost use Rattle.outside.specs.inner.Room.{IsWithinRoom};
-    ghost use Rattle.outside.specs.inner.Slots.{files_of, name_at};
+    ghost use Rattle.outside.specs.Slots.{files_of, name_at};
 
     ghost view = { λ s. record {
       files = files_of s.slots.items;

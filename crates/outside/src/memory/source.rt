@@ -6,7 +6,7 @@ ghost use Rattle.outside.specs.Cause.{HasCause, HasBeginCause};
 ghost use Rattle.outside.specs.Files.{bytes_of};
 ghost use Rattle.outside.specs.Memory.{source_of};
 ghost use Rattle.outside.specs.Told.{WhileTold};
-ghost use Rattle.outside.specs.inner.Slots.{bytes_at};
+ghost use Rattle.outside.specs.Slots.{bytes_at};
 
 use super::calls::{Calls, failed};
 use crate::{BeginFault, Fail, Failed, File, Source};
@@ -33,7 +33,7 @@ impl Model for MemSource {
     ghost use Rattle.std.specs.Prelude.{◌<◌};
     ghost use Rattle.std.specs.Option.{option_map};
     ghost use Rattle.outside.specs.Memory.{SourceInMemory};
-    ghost use Rattle.outside.specs.inner.Slots.{rest_of};
+    ghost use Rattle.outside.specs.Slots.{rest_of};
 
     ghost Value = { SourceInMemory };
 

@@ -1,9 +1,7 @@
 -- A forest printed step by step.
 use Rattle.std.specs.Prelude.{ℕ, ◌==◌, List, [], ◌∷◌, ◌++◌, codes, decimal, Option, Some, None, if◌then◌else◌}
 use Rattle.std.proofs.Common.{suc}
-use Rattle.std.specs.List.{flat_map}
 use Rattle.exec_graph.specs.Forests.{Branch, Twig}
-use Rattle.exec_plan.specs.Channels.{kept_out, outs_of}
 use Rattle.plan_writing.specs.Naming.{Naming}
 use Rattle.plan_writing.specs.Forests.{is_used, kids_text, number_text, steps_text}
 
@@ -42,11 +40,3 @@ abbrev pub branches_text : Naming → List ℕ → List Branch → List ℕ
 branches_text names before [] = []
 branches_text names before (step ∷ steps) =
     before ++ (branch_text names step ++ branches_text names (codes " ") steps)
-
--- ---- the outputs that are kept, in preorder
-
-abbrev pub twig_outs : Twig → List ℕ
-twig_outs twig = kept_out twig.out ++ outs_of twig.kids
-
-abbrev pub branch_outs : Branch → List ℕ
-branch_outs step = twig_outs step.first ++ flat_map twig_outs step.more

@@ -23,23 +23,23 @@ use Rattle.plan_faults.specs.declared.fault.PlanFault.{PlanFault}
 use Rattle.plan_faults.specs.declared.fault.PlanFault.TheVariants as plan_fault
 use Rattle.plan_faults.specs.declared.fault.PlanKind.{PlanKind}
 use Rattle.run_settings.specs.Settings.{RunSettings}
-use Rattle.run_texts.specs.Lines.{line_of}
+use Rattle.run_texts.specs.Lines.{line_of, trap_line}
 use Rattle.run_texts.specs.Texts.{size_lines}
 use Rattle.run_texts.specs.declared.status.Place.TheVariants.{File, Screen}
 use Rattle.run_texts.specs.declared.status.Status.{Status}
-use Rattle.run_texts.specs.declared.status.Status.TheVariants.{Done, GaveUp, WriteFault, WantOfMemory, PlanRefused}
+use Rattle.run_texts.specs.declared.status.Status.TheVariants.{Done, GaveUp, Trap as Trapping, WriteFault, WantOfMemory, PlanRefused}
 use Rattle.script_program.specs.declared.made.Output.{Output}
 use Rattle.script_program.specs.Script.{Script}
 use Rattle.script_run.specs.Runs.{IsLostOf}
 use Rattle.script_loading.specs.Asks.{AsksToStop}
 use Rattle.script_loading.specs.Causes.{IsInputsCause}
 use Rattle.script_loading.specs.Loads.{AllHaveRows}
-use Rattle.run_course.specs.Answers.{FailsAtFile, GivesUp, HasText, IsCause, IsCutOff, IsFirstOfPlan, MayTell, name_at}
+use Rattle.run_course.specs.Answers.{FailsAtFile, GivesUp, HasShown, IsCause, IsCutOff, IsFirstOfPlan, MayTell, name_at}
 use Rattle.run_course.specs.Asked.{AskOn, inputs_read, plan_read, tries_of}
 use Rattle.run_course.specs.Asks.{AsksAll, AsksFor}
 use Rattle.run_course.specs.Hosts.{AsksInRun, AsksRun, MayHaveRun}
 use Rattle.run_course.specs.Plans.{IsFileCause}
-use Rattle.run_course.specs.Written.{IsMeant, Table, files_of}
+use Rattle.run_course.specs.Written.{IsMeant, CollectionTable, files_of}
 use Rattle.run_course.specs.Limits.{usual_tries}
 use Rattle.run_course.specs.declared.stop.Stop.{Stop}
 use Rattle.run_course.specs.declared.stop.Trapped.{Trapped}
@@ -50,7 +50,7 @@ use Rattle.run_course.specs.declared.stop.Stop.TheVariants as stop
 -- Over these rows the script means collections without a trap, of which these files and this text
 -- are.
 pub record Comes (script : Script) (rows : List (List Value)) (front : List ℕ)
-    (files : List NamedBytes) (text : List ℕ) (table : Table) : Type 0 where
+    (files : List NamedBytes) (text : List ℕ) (table : CollectionTable) : Type 0 where
   pub means : meaning script rows ≡ Some table
   pub through : traps_of table ≡ []
   pub written : files_of table script.outputs ≡ Some files
@@ -58,11 +58,11 @@ pub record Comes (script : Script) (rows : List (List Value)) (front : List ℕ)
 
 abbrev pub GivesFiles : Script → List (List Value) → List ℕ → List NamedBytes → List ℕ → Type 0
 GivesFiles script rows front files text =
-    (table : Table) × Comes script rows front files text table
+    (table : CollectionTable) × Comes script rows front files text table
 
 -- over these rows the script has this trap, of which may be told, at a collection of this name
 pub record TrapsAt (may_tell : List Trap → Trap → Type 0) (script : Script)
-    (rows : List (List Value)) (trap : Trapped) (table : Table) : Type 0 where
+    (rows : List (List Value)) (trap : Trapped) (table : CollectionTable) : Type 0 where
   pub means : meaning script rows ≡ Some table
   pub told : may_tell (traps_of table) trap.trap
   pub named : name_at script trap.trap.origin ≡ Some trap.name
@@ -101,7 +101,8 @@ IsTrapOf script trap (stop.Trapped it) =
 -- why the meaning of a script over these rows writes nothing: no memory was found, or a call traps
 abbrev pub IsStop : Script → List (List Value) → Stop → Type 0
 IsStop script rows (stop.Refused status) = status ≡ WantOfMemory
-IsStop script rows (stop.Trapped trap) = (table : Table) × TrapsAt IsLeast script rows trap table
+IsStop script rows (stop.Trapped trap) =
+    (table : CollectionTable) × TrapsAt IsLeast script rows trap table
 
 -- the answer is that the run of this plan over these rows gave a task up
 abbrev pub IsGivingUp : RunSettings → Script → List (List Value) → Plan → List Account
@@ -117,7 +118,7 @@ abbrev pub IsRunStop : RunSettings → Script → List (List Value) → Plan →
 IsRunStop s script rows plan olds news (stop.Refused status) =
     (status ≡ WantOfMemory) ⊎ IsGivingUp s script rows plan olds news status
 IsRunStop s script rows plan olds news (stop.Trapped trap) =
-    (table : Table)
+    (table : CollectionTable)
     × TrapsAt (λ traps it. Contains traps it × IsFirstOfPlan s script rows plan olds news it) script
     rows trap table
 
@@ -126,7 +127,7 @@ IsRunStop s script rows plan olds news (stop.Trapped trap) =
 abbrev pub IsTrappedAt : Command → List Account → List Account → Option (List NamedBytes) → Script
     → Trapped → Type 0
 IsTrappedAt command olds news told script trap =
-    (rows : List (List Value)) × (table : Table) × IsMeant told script rows table
+    (rows : List (List Value)) × (table : CollectionTable) × IsMeant told script rows table
     × MayTell command told script rows olds news (traps_of table) trap.trap
     × (name_at script trap.trap.origin ≡ Some trap.name)
 
@@ -189,7 +190,7 @@ IsCommandStop command before after olds news script (stop.Trapped trap) =
 abbrev pub HasTrap : List (List ℕ) → Option (List NamedBytes) → List Account → List Account
     → Trapped → Type 0
 HasTrap words told olds news trap =
-    (command : Command) × (script : Script) × (rows : List (List Value)) × (table : Table)
+    (command : Command) × (script : Script) × (rows : List (List Value)) × (table : CollectionTable)
     × AskOn words told command script × IsMeant told script rows table
     × MayTell command told script rows olds news (traps_of table) trap.trap
     × (name_at script trap.trap.origin ≡ Some trap.name)
@@ -201,6 +202,14 @@ IsStopped words before after olds news (stop.Refused status) =
     IsCause words before after olds news status
 IsStopped words before after olds news (stop.Trapped trap) =
     HasTrap words before.files olds news trap
+
+-- what is answered where this stops a call, and the line that the screen has got
+abbrev pub TellsStop : Stop → SeenScreen → SeenScreen → Status → Type 0
+TellsStop (stop.Refused told) before after status =
+    (status ≡ told) × HasLine (line_of told) before after
+TellsStop (stop.Trapped it) before after status =
+    (status ≡ Trapping it.trap.origin it.trap.kind it.trap.element)
+    × HasLine (trap_line it.name it.trap.kind it.trap.element) before after
 
 -- ---- what is asked for
 
@@ -258,7 +267,7 @@ AsksHostsInCall words told olds news r =
 abbrev pub Delivers : List NamedBytes → List ℕ → SeenShelf → SeenShelf → SeenScreen →
     SeenScreen → Status → Type 0
 Delivers files text shelf shelf' screen screen' Done =
-    HasFiles files shelf shelf' × HasText text screen screen'
+    HasFiles files shelf shelf' × HasShown text screen screen'
 Delivers files text shelf shelf' screen screen' (WriteFault (File name)) =
     FailsAtFile name files shelf shelf'
     × HasLine (line_of (WriteFault (File name))) screen screen'

@@ -11,10 +11,8 @@ use Rattle.flume_grammar.specs.declared.fault.ScriptFault.TheVariants as script_
 use Rattle.flume_types.specs.Columns.{input_columns_of}
 use Rattle.flume_types.specs.declared.column.Column.{Column}
 use Rattle.flume_types.specs.declared.types.Ty.{Ty}
-use Rattle.flume_value.specs.declared.value.Value.{Value}
 use Rattle.outside.specs.Asked.{Asks}
 use Rattle.outside.specs.Seen.{SeenSource}
-use Rattle.outside.specs.declared.file.File.{File as NamedBytes}
 use Rattle.outside.specs.declared.loads.LoadFault.{LoadFault}
 use Rattle.outside.specs.declared.loads.LoadFault.TheVariants as load
 use Rattle.run_texts.specs.declared.status.Status.{Status}
@@ -23,8 +21,9 @@ use Rattle.script_program.specs.Needed.{is_needed, numbered}
 use Rattle.script_program.specs.Script.{Node, Script}
 use Rattle.written_types.specs.Named.{Named}
 use Rattle.script_loading.specs.Accepted.{Refused}
-use Rattle.script_loading.specs.Causes.{IsInputCause}
-use Rattle.script_loading.specs.Loads.{AllHaveRows, file_names}
+use Rattle.script_loading.specs.Asks.{AsksToStop}
+use Rattle.script_loading.specs.Causes.{IsInputCause, IsInputsCause}
+use Rattle.script_loading.specs.Loads.{file_names}
 
 -- why a program was not made of the bytes
 abbrev pub IsScriptFault : List ℕ → ScriptFault → Type 0
@@ -55,10 +54,19 @@ HoldsBelow P script number =
     (done : List Wanted)
     × (inputs_of script ≡ done ++ inputs_from script number (drop number script.nodes)) × P done
 
--- the source was asked for the files of these inputs, which have these rows
-abbrev pub AreRead : ℕ → SeenSource → SeenSource → List (List Value) → List Wanted → Type 0
-AreRead tries before after rows inputs =
-    AllHaveRows before.files inputs rows × Asks tries (file_names inputs) before after
+-- what holds of one list of inputs holds of another where these are behind them
+abbrev pub GoesOver : (List Wanted → Type 0) → (List Wanted → Type 0) → List Wanted → Type 0
+GoesOver P Q own = (done : List Wanted) → P done → Q (done ++ own)
+
+-- this holds of these inputs, for whose files the source was asked
+abbrev pub AreRead : (List Wanted → Type 0) → ℕ → SeenSource → SeenSource → List Wanted → Type 0
+AreRead P tries before after inputs = P inputs × Asks tries (file_names inputs) before after
+
+-- one of these inputs has no rows, where the answer is this one, and its file was asked for last
+abbrev pub StopsReading : ℕ → SeenSource → SeenSource → List Wanted → Status → Type 0
+StopsReading tries before after inputs status =
+    IsInputsCause tries before after inputs status
+    × AsksToStop tries (file_names inputs) before after status
 
 -- ---- one node
 
@@ -82,10 +90,3 @@ abbrev pub StopsAt : ℕ → SeenSource → SeenSource → Script → ℕ → St
 StopsAt tries before after script number status =
     (wanted : Wanted) × (inputs_at script number ≡ wanted ∷ [])
     × IsInputCause tries before after wanted status
-
--- behind these rows stand those of the node of that number, where it is an input that is needed
-abbrev pub AddsRows : Option (List NamedBytes) → Script → ℕ → List (List Value)
-    → List (List Value) → Type 0
-AddsRows told script number rows more =
-    (own : List (List Value)) × (more ≡ rows ++ own)
-    × AllHaveRows told (inputs_at script number) own

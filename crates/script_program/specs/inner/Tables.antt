@@ -10,7 +10,7 @@ use Rattle.script_program.specs.declared.made.Output.{Output}
 use Rattle.script_program.specs.Script.{Function, Node}
 use Rattle.script_program.specs.Needed.{has}
 use Rattle.script_program.specs.Saved.{saved_as}
-use Rattle.script_program.specs.Program.{Numbered, HasTypes, function_in, node_in, Does}
+use Rattle.script_program.specs.Program.{Numbered, HasTypes, function_in, node_in, DoesAsWritten}
 
 abbrev pub function_of : Known → List ℕ × HeldFunction → List ℕ × Function
 function_of known entry = (entry.0, function_in known entry.1)
@@ -32,7 +32,7 @@ numbered_of known functions nodes outputs = record {
 pub record FunctionIn (known : Known) (held : HeldFunction) : Type 0 where
   pub within : HasTypes known.types held.signature
   pub named : held.type_names ≤ length known.names
-  pub does : Does held.fun (function_in known held)
+  pub does : DoesAsWritten held.fun (function_in known held)
 
 -- the number is that of a type
 abbrev pub NodeIn : Known → HeldNode → Type 0

@@ -12,7 +12,7 @@ use Rattle.map_shard.specs.Work.{Work}
 use Rattle.reduce_part.specs.Reducing.{Reducing}
 use Rattle.phase_outs.specs.declared.stop.PhaseStop.{PhaseStop}
 use Rattle.phase_outs.specs.declared.stop.PhaseStop.TheVariants as stop
-use Rattle.task_lists.specs.Outs.{IsCalm, IsFirstTrap}
+use Rattle.task_lists.specs.Outs.{IsCalm, IsFirstTaskTrap}
 use Rattle.task_lists.specs.Tasks.{Task, places}
 use Rattle.plan_phases.specs.declared.fault.RunFault.{RunFault}
 use Rattle.plan_phases.specs.declared.fault.RunFault.TheVariants as fault
@@ -70,5 +70,5 @@ module _ {O : Type 0} where
     pub calm : (k : ℕ) (task : Task) (out : O) → slice_get ph.tasks k ≡ Some task →
         is_value k (Ok out) → IsCalm w task
     pub trapped : (k : ℕ) (task : Task) (trap : Trap) → slice_get ph.tasks k ≡ Some task →
-        is_value k (Err trap) → IsFirstTrap w task trap
+        is_value k (Err trap) → IsFirstTaskTrap w task trap
     pub asks : (k : ℕ) (task : Task) → slice_get ph.tasks k ≡ Some task → asked k ≡ places task

@@ -1,10 +1,9 @@
-use Rattle.std.proofs.Common.{◌≡◌, refl, arith}
-use Rattle.std.proofs.lemmas.Grind.{common_steps}
+use Rattle.std.proofs.Common.{refl, arith}
 use Rattle.std.proofs.lemmas.List.{take_rest}
 use Rattle.flume_value.proofs.BagLemmas.{bag_of-settled}
 use Rattle.keyed_steps.specs.of_bag_groups.Groups.{grouped}
 use Rattle.keyed_steps.proofs.of_bag_groups.Grouping.{grouped-IsSorted}
-use Rattle.bag_steps.proofs.GroupSteps.{group_more, run_within, sorted_as}
+use Rattle.bag_steps.proofs.GroupSteps.{group_more, run_within, sorted}
 use Rattle.bag_steps.proofs.groups.group.Goals as goal
 
 pub loop-at-preserved : goal.loop-at-preserved
@@ -25,8 +24,7 @@ loop-at-preserved c = record {
 
 pub returns-clause-ascending : goal.returns-clause-ascending
 returns-clause-ascending c =
-    let all : c.loop-at.groups.items ≡ grouped c.args.pairs.now = grind (arith, common_steps) in
-    sorted_as _ _ all (grouped-IsSorted c.args.pairs.now)
+    sorted grouped _ _ _ c.loop-at.invariant (omega arith) refl (grouped-IsSorted c.args.pairs.now)
 
 pub returns-clause-bag : goal.returns-clause-bag
 returns-clause-bag c = bag_of-settled c.loop-at.groups.items (returns-clause-ascending c)

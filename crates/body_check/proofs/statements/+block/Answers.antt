@@ -1,13 +1,14 @@
 use Rattle.std.proofs.Common.{◌≡◌, ◌+◌, Ok, drop, sym, ap, ◌∙◌, subst}
-use Rattle.std.proofs.lemmas.Result.{err_from_is_err_and}
 use Rattle.flume_types.specs.declared.types.Ty.{Ty}
+use Rattle.flume_grammar.specs.declared.tree.Body.{Body}
 use Rattle.flume_grammar.specs.declared.fault.ScriptKind.TheVariants.{Mistyped}
 use Rattle.expression_check.specs.of_type_table.Table.{type_at}
 use Rattle.expression_check.proofs.of_type_table.TableLemmas.{Extends-twice}
-use Rattle.expression_check.specs.of_written_types.Answer.{Gives, Fails, or_fault}
+use Rattle.expression_check.specs.of_written_types.Answer.{Checked, Gives, Fails, or_fault}
 use Rattle.expression_check.proofs.of_written_types.FailsLemmas.{Fails-first, Fails-same}
 use Rattle.expression_check.specs.of_expression_types.Fields.{side_types}
 use Rattle.expression_check.specs.Slots.{typed}
+use Rattle.body_check.specs.inner.Frames.{InBody}
 use Rattle.body_check.specs.inner.Slots.{Placed, block, block_slots, both_slots, placed_of}
 use Rattle.body_check.proofs.PlacedLemmas.{placed-If, placed-For, placed-Case}
 use Rattle.body_check.proofs.SightLemmas.{behind-twice, next-placed, case-goes-on}
@@ -43,57 +44,56 @@ block-loop-statement-preserved t c =
       emits = c.placed.ensures.emits ∙ is.emits;
     }
 
+-- a statement is placed as the form that it has
+formed : (f : InBody) (b x : Body) (o : Checked Placed) (Is : Checked Placed → Type 0) → b ≡ x
+    → placed_of f.gives x f.sight ≡ o → Is o → Is (placed_of f.gives b f.sight)
+formed f b x o Is same form =
+    subst Is (sym (ap (λ st. placed_of f.gives st f.sight) same ∙ form))
+
 pub placed-returns-in-If-clause-gives : goal.placed-returns-in-If-clause-gives
 placed-returns-in-If-clause-gives t c =
-    let gives = c.args.frame.now.gives in
-    let s = c.args.frame.now.sight in
-    subst (Gives (λ k. (k, c.place_if.new.frame.sight)) c.place_if.result)
-    (sym (ap (λ st. placed_of gives st s) c.in-If.is
-    ∙ placed-If gives c.in-If.line c.in-If.e c.in-If.a c.in-If.b s)) c.place_if.ensures.gives
+    formed c.args.frame.now _ _ _ (Gives (λ k. (k, c.place_if.new.frame.sight)) c.place_if.result)
+    c.in-If.is (placed-If c.args.frame.now.gives c.in-If.line c.in-If.e c.in-If.a c.in-If.b
+    c.args.frame.now.sight) c.place_if.ensures.gives
 
 pub placed-returns-in-For-clause-gives : goal.placed-returns-in-For-clause-gives
 placed-returns-in-For-clause-gives t c =
-    let gives = c.args.frame.now.gives in
-    let s = c.args.frame.now.sight in
-    subst (Gives (λ k. (k, c.place_for.new.frame.sight)) c.place_for.result)
-    (sym (ap (λ st. placed_of gives st s) c.in-For.is
-    ∙ placed-For gives c.in-For.line c.in-For.name c.in-For.e c.in-For.body s))
-    c.place_for.ensures.gives
+    formed c.args.frame.now _ _ _ (Gives (λ k. (k, c.place_for.new.frame.sight)) c.place_for.result)
+    c.in-For.is (placed-For c.args.frame.now.gives c.in-For.line c.in-For.name c.in-For.e
+    c.in-For.body c.args.frame.now.sight) c.place_for.ensures.gives
 
 pub placed-returns-in-Case-clause-gives : goal.placed-returns-in-Case-clause-gives
 placed-returns-in-Case-clause-gives t c =
-    let gives = c.args.frame.now.gives in
-    let s = c.args.frame.now.sight in
-    subst (Gives (λ k. (k, c.place_case.new.frame.sight)) c.place_case.result)
-    (sym (ap (λ st. placed_of gives st s) c.in-Case.is
-    ∙ placed-Case gives c.in-Case.line c.in-Case.e c.in-Case.left c.in-Case.a c.in-Case.right
-    c.in-Case.b s)) c.place_case.ensures.gives
+    formed c.args.frame.now _ _ _
+    (Gives (λ k. (k, c.place_case.new.frame.sight)) c.place_case.result) c.in-Case.is
+    (placed-Case c.args.frame.now.gives c.in-Case.line c.in-Case.e c.in-Case.left c.in-Case.a
+    c.in-Case.right c.in-Case.b c.args.frame.now.sight) c.place_case.ensures.gives
 
-pub place_case-returns-in_err-both-clause-gives : goal.place_case-returns-in_err-both-clause-gives
-place_case-returns-in_err-both-clause-gives t c =
-    let p = err_from_is_err_and c.from_residual-in_err-both.result
-    c.from_residual-in_err-both.ensures.1 in
+pub place_case-returns-in-Err-both_sides-clause-gives :
+    goal.place_case-returns-in-Err-both_sides-clause-gives
+place_case-returns-in-Err-both_sides-clause-gives t c =
     let line = c.args.line in
     let s = c.args.frame.now.sight in
     let gives = c.args.frame.now.gives in
     let mid = c.resolve.new.self in
-    let e = c.in_err-both.field-0.0 in
+    let e = c.in-Err-both_sides.fault in
     let left = c.args.names.left.now in
     let right_ = c.args.names.right.now in
     let a = c.args.blocks.first.now in
     let b = c.args.blocks.second.now in
     let x = c.in_ok-x.x in
-    let sides = c.in_ok-sides.sides in
+    let sides = c.in-Ok.sides in
     let types_of : Ty × Ty = (type_at mid.types sides.left, type_at mid.types sides.right) in
     let has = subst (λ ts. or_fault line Mistyped (side_types (type_at ts x.ty))
     ≡ Ok (type_at ts sides.left, type_at ts sides.right)) c.types.ensures
-    c.in_ok-sides.ensures.gives in
+    c.in-Ok.ensures.gives in
     let fails = subst (λ g. Fails e (both_slots line types_of left (block (placed_of g) a) right_
     (block (placed_of g) b) s)) c.resolve.ensures.emits
     (subst (λ t. Fails e (both_slots line types_of left (block (placed_of mid.gives) a) right_
-    (block (placed_of mid.gives) b) t)) c.resolve.ensures.sight c.in_err-both.ensures.gives) in
-    rw (p.1, p.2) (Fails-same e _ _
+    (block (placed_of mid.gives) b) t)) c.resolve.ensures.sight
+    c.in-Err-both_sides.ensures.gives) in
+    Fails-same e _ _
     (case-goes-on line c.args.e.now left right_ (block (placed_of gives) a) (block
     (placed_of gives) b) s
     (typed mid.types x) types_of c.in_ok-x.ensures.gives has)
-    (Fails-first e _ _ fails))
+    (Fails-first e _ _ fails)

@@ -12,12 +12,13 @@ loop-turn-init c =
     let script = c.args.program.now.script in
     let known = c.args.known.now in
     let written = c.args.written.now in
-    let missing = c.args.missing.items in
     let held = λ (it : Missing). IsHeld (kept_value script known written it) in
-    let all : into_iter_items c.into_iter-left.result ≡ missing = search rules in record {
+    let all : into_iter_items c.into_iter-left.result ≡ c.args.missing.items = search rules in
+    record {
       count = omega (arith, ap length all);
       entries = ap (λ l. c.new-entries.result.items ++ map (entry_of script known written) l) all
-          ∙ ap (λ l. l ++ map (entry_of script known written) missing) c.new-entries.ensures.items;
+          ∙ ap (λ l. l ++ map (entry_of script known written) c.args.missing.items)
+          c.new-entries.ensures.items;
       held = λ each. subst (AllByRecursion held) all each;
     }
 
@@ -26,18 +27,18 @@ loop-turn-preserved c =
     let script = c.args.program.now.script in
     let known = c.args.known.now in
     let written = c.args.written.now in
-    let missing = c.args.missing.items in
     let left = into_iter_items c.loop-turn.left in
     let after = into_iter_items c.push_entry.new.left in
     let next = c.in_ok-push_entry.ensures.left in
     let held = λ (it : Missing). IsHeld (kept_value script known written it) in record {
       count = ap (λ l. length l + (c.loop-turn._turn + 1)) next
-          ∙ left_one left c.loop-turn._turn (length missing) c.loop-turn.invariant.count
+          ∙ left_one left c.loop-turn._turn (length c.args.missing.items)
+          c.loop-turn.invariant.count
           (omega arith);
       entries = ap
           (λ l. c.push_entry.new.entries.items ++ map (entry_of script known written) l) next
           ∙ left_map (entry_of script known written) left c.loop-turn.entries.items
-          c.push_entry.new.entries.items (map (entry_of script known written) missing)
+          c.push_entry.new.entries.items (map (entry_of script known written) c.args.missing.items)
           c.in_ok-push_entry.ensures.entries c.loop-turn.invariant.entries;
       held = λ rest. c.loop-turn.invariant.held
           (left_each held left c.in_ok-push_entry.ensures.held
@@ -59,11 +60,9 @@ returns-clause-entries c =
 
 pub returns-clause-held : goal.returns-clause-held
 returns-clause-held c =
-    let script = c.args.program.now.script in
-    let known = c.args.known.now in
-    let written = c.args.written.now in
-    let held = λ (it : Missing). IsHeld (kept_value script known written it) in
     c.loop-turn.invariant.held
-    (subst (AllByRecursion held)
+    (subst
+    (AllByRecursion (λ (it : Missing). IsHeld
+    (kept_value c.args.program.now.script c.args.known.now c.args.written.now it)))
     (sym (left_none (into_iter_items c.loop-turn.left) c.loop-turn._turn
     (length c.args.missing.items) c.loop-turn.invariant.count (omega arith))) tt)

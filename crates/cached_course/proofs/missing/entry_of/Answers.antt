@@ -1,23 +1,5 @@
-use Rattle.std.proofs.Common.{◌∙◌, subst}
-use Rattle.flume_value.specs.Canonical.{canonical}
-use Rattle.flume_value.specs.Ranges.{IsHeld}
-use Rattle.kept_results.specs.Sizes.{to_keep}
-use Rattle.saved_results.specs.Saved.{saved_value}
 use Rattle.cached_course.proofs.missing.entry_of.Goals as goal
 
-pub returns-clause-entry : goal.returns-clause-entry
-returns-clause-entry c =
-    let known = c.args.known.now in
-    let nodes = c.as_slice-rested.ensures.value in
-    let members = c.in_ok-members.ensures in
-    let value = c.in_ok-value.ensures.bytes
-    ∙ (λ i. canonical (saved_value (to_keep known (nodes i) (members i)))) in
-    λ i. record { key = c.args.missing.key; value = value i }
-
-pub returns-clause-held : goal.returns-clause-held
-returns-clause-held c =
-    let known = c.args.known.now in
-    let nodes = c.as_slice-rested.ensures.value in
-    let members = c.in_ok-members.ensures in
-    subst IsHeld (λ i. saved_value (to_keep known (nodes i) (members i)))
-    c.in_ok-value.ensures.held
+pub returns-in-Ok-clause-entry : goal.returns-in-Ok-clause-entry
+returns-in-Ok-clause-entry c =
+    λ i. record { key = c.args.missing.key; value = c.in-Ok.ensures.value i }

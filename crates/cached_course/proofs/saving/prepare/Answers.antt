@@ -41,13 +41,10 @@ returns-in_err-script-clause-asked_hosts g c = λ words asks. inl refl
 
 -- ---- its inputs have no rows
 
-pub returns-in_err-inputs-clause-err : goal.returns-in_err-inputs-clause-err
-returns-in_err-inputs-clause-err g c =
-    let end = c.from_residual-in_err-inputs in
-    let p = err_from_is_err_and end.result end.ensures.1 in
+pub returns-in-Err-clause-err : goal.returns-in-Err-clause-err
+returns-in-Err-clause-err g c =
     let it = c.in_ok-script.script in
-    rw (p.1, p.2)
-    (λ words asks.
+    λ words asks.
     inputs_stop words (g.R.Source.seen c.args.source.now)
     (g.R.Source.seen c.keyed_script.new.source) (g.R.Source.seen c.keyed_inputs.new.source)
     (map g.H.Host.account c.args.hosts.now) (map g.H.Host.account c.args.hosts.now)
@@ -55,27 +52,24 @@ returns-in_err-inputs-clause-err g c =
     c.args.settings.now c.args.name.now asks it.program.script
     (is_loaded (g.R.Source.seen c.args.source.now).files c.args.name.now it.program.script
     it.outlines it.texts c.in_ok-script.ensures.ok)
-    c.in_ok-script.ensures.files c.in_ok-script.ensures.later c.in_err-inputs.field-0.0
-    (rw c.tries-tries.ensures.value at c.in_err-inputs.ensures.err))
+    c.in_ok-script.ensures.files c.in_ok-script.ensures.later c.in-Err.status
+    (rw c.tries-tries.ensures.value at c.in-Err.ensures.err)
 
-pub returns-in_err-inputs-clause-asked : goal.returns-in_err-inputs-clause-asked
-returns-in_err-inputs-clause-asked g c =
-    let end = c.from_residual-in_err-inputs in
-    let p = err_from_is_err_and end.result end.ensures.1 in
+pub returns-in-Err-clause-asked : goal.returns-in-Err-clause-asked
+returns-in-Err-clause-asked g c =
     let it = c.in_ok-script.script in
-    rw (p.1, p.2)
-    (λ words asks.
+    λ words asks.
     inputs_asked words (g.R.Source.seen c.args.source.now)
     (g.R.Source.seen c.keyed_script.new.source) (g.R.Source.seen c.keyed_inputs.new.source)
     c.args.settings.now c.args.name.now asks it.program.script
     (is_loaded (g.R.Source.seen c.args.source.now).files c.args.name.now it.program.script
     it.outlines it.texts c.in_ok-script.ensures.ok)
     (rw c.tries-tries.ensures.value at c.in_ok-script.ensures.asked)
-    c.in_err-inputs.field-0.0
-    (rw c.tries-tries.ensures.value at c.in_err-inputs.ensures.asked_until))
+    c.in-Err.status
+    (rw c.tries-tries.ensures.value at c.in-Err.ensures.asked_until)
 
-pub returns-in_err-inputs-clause-asked_hosts : goal.returns-in_err-inputs-clause-asked_hosts
-returns-in_err-inputs-clause-asked_hosts g c = λ words asks. inl refl
+pub returns-in-Err-clause-asked_hosts : goal.returns-in-Err-clause-asked_hosts
+returns-in-Err-clause-asked_hosts g c = λ words asks. inl refl
 
 -- ---- no memory is found for what was kept
 
@@ -98,7 +92,7 @@ returns-in_err-given-clause-asked g c =
     (is_loaded (g.R.Source.seen c.args.source.now).files c.args.name.now it.program.script
     it.outlines it.texts c.in_ok-script.ensures.ok)
     (rw c.tries-tries.ensures.value at c.in_ok-script.ensures.asked)
-    (rw c.tries-tries.ensures.value at c.in_ok-inputs.ensures.asked))
+    (rw c.tries-tries.ensures.value at c.in-Ok.ensures.asked))
 
 pub returns-in_err-given-clause-asked_hosts : goal.returns-in_err-given-clause-asked_hosts
 returns-in_err-given-clause-asked_hosts g c = λ words asks. inl refl
@@ -109,7 +103,7 @@ pub returns-clause-ok : goal.returns-clause-ok
 returns-clause-ok g c =
     let told = (g.R.Source.seen c.args.source.now).files in
     let it = c.in_ok-script.script in
-    let inputs = c.in_ok-inputs.inputs in
+    let inputs = c.in-Ok.inputs in
     let asked = keyed_nodes it.outlines it.texts inputs.files it.program.script in
     IfOk-weaker c.run_given.result _ _
     (λ reused run words asks.
@@ -120,10 +114,10 @@ returns-clause-ok g c =
     (are_asked told (g.R.Source.seen c.keyed_script.new.source).files c.args.name.now
     it.program.script it.outlines it.texts c.as_slice-texts.result.now inputs.files
     c.in_ok-script.ensures.files c.as_slice-texts.ensures c.in_ok-script.ensures.ok
-    c.in_ok-inputs.ensures.loaded c.texts_short.ensures
+    c.in-Ok.ensures.loaded c.texts_short.ensures
     (rw c.as_program-held.ensures.is at c.names_short.ensures))
     inputs.rows
-    (rw c.in_ok-script.ensures.files at c.in_ok-inputs.ensures.ok)
+    (rw c.in_ok-script.ensures.files at c.in-Ok.ensures.ok)
     c.in_ok-given.given c.in_ok-given.ensures.given
     (map output_file reused.written.outputs.items) reused.written.screen.items reused.kept.items
     run)
@@ -133,7 +127,7 @@ pub returns-clause-err : goal.returns-clause-err
 returns-clause-err g c =
     let told = (g.R.Source.seen c.args.source.now).files in
     let it = c.in_ok-script.script in
-    let inputs = c.in_ok-inputs.inputs in
+    let inputs = c.in-Ok.inputs in
     let asked = keyed_nodes it.outlines it.texts inputs.files it.program.script in
     IfErr-weaker c.run_given.result _ _
     (λ why stop words asks.
@@ -144,10 +138,10 @@ returns-clause-err g c =
     (are_asked told (g.R.Source.seen c.keyed_script.new.source).files c.args.name.now
     it.program.script it.outlines it.texts c.as_slice-texts.result.now inputs.files
     c.in_ok-script.ensures.files c.as_slice-texts.ensures c.in_ok-script.ensures.ok
-    c.in_ok-inputs.ensures.loaded c.texts_short.ensures
+    c.in-Ok.ensures.loaded c.texts_short.ensures
     (rw c.as_program-held.ensures.is at c.names_short.ensures))
     inputs.rows
-    (rw c.in_ok-script.ensures.files at c.in_ok-inputs.ensures.ok)
+    (rw c.in_ok-script.ensures.files at c.in-Ok.ensures.ok)
     c.in_ok-given.given c.in_ok-given.ensures.given why stop)
     c.run_given.ensures.stop
 
@@ -161,7 +155,7 @@ returns-clause-asked g c =
     (is_loaded (g.R.Source.seen c.args.source.now).files c.args.name.now it.program.script
     it.outlines it.texts c.in_ok-script.ensures.ok)
     (rw c.tries-tries.ensures.value at c.in_ok-script.ensures.asked)
-    (rw c.tries-tries.ensures.value at c.in_ok-inputs.ensures.asked)
+    (rw c.tries-tries.ensures.value at c.in-Ok.ensures.asked)
     c.in_ok-given.given (lent c.args.settings.now (map g.H.Host.account c.args.hosts.now))
     (lent c.args.settings.now (map g.H.Host.account c.run_given.new.hosts))
     c.run_given.result c.run_given.ensures.stop
@@ -169,7 +163,7 @@ returns-clause-asked g c =
 pub returns-clause-asked_hosts : goal.returns-clause-asked_hosts
 returns-clause-asked_hosts g c =
     let it = c.in_ok-script.script in
-    let inputs = c.in_ok-inputs.inputs in
+    let inputs = c.in-Ok.inputs in
     let asked = keyed_nodes it.outlines it.texts inputs.files it.program.script in
     λ words asks.
     ⊎_elim (λ none. inl none)
@@ -187,10 +181,10 @@ returns-clause-asked_hosts g c =
           (g.R.Source.seen c.keyed_script.new.source).files c.args.name.now it.program.script
           it.outlines it.texts c.as_slice-texts.result.now inputs.files
           c.in_ok-script.ensures.files c.as_slice-texts.ensures c.in_ok-script.ensures.ok
-          c.in_ok-inputs.ensures.loaded c.texts_short.ensures
+          c.in-Ok.ensures.loaded c.texts_short.ensures
           (rw c.as_program-held.ensures.is at c.names_short.ensures))
           inputs.rows
-          (rw c.in_ok-script.ensures.files at c.in_ok-inputs.ensures.ok)
+          (rw c.in_ok-script.ensures.files at c.in-Ok.ensures.ok)
           c.in_ok-given.given c.in_ok-given.ensures.given phases
           (others_as g.H.Host.account c.args.settings.now.workers
           c.args.hosts.now c.run_given.new.hosts c.run_given.ensures.hosts),

@@ -11,14 +11,14 @@ given_lists-requires c =
     c.as_slice-asked.result.now c.as_slice-kept.result.now
     (c.as_slice-asked.ensures.value ∙ c.requires) c.with_saved-later.ensures.script)
 
-pub returns-clause-program : goal.returns-clause-program
-returns-clause-program c =
+pub returns-in-Ok-clause-program : goal.returns-in-Ok-clause-program
+returns-in-Ok-clause-program c =
     c.with_saved-later.ensures.script
     ∙ ap (λ (l : List ℕ). with_saved l c.args.program.script) c.as_slice-kept.ensures.value
 
-pub returns-clause-lists : goal.returns-clause-lists
-returns-clause-lists c =
-    (rw c.as_program-held.ensures.is at c.in_ok-lists.ensures)
+pub returns-in-Ok-clause-lists : goal.returns-in-Ok-clause-lists
+returns-in-Ok-clause-lists c =
+    (rw c.as_program-held.ensures.is at c.in-Ok.ensures)
     ∙ ap
     (λ (l : List ℕ). given_lists c.with_saved-later.result.script l c.args.rows
     c.args.it.found.members.items)

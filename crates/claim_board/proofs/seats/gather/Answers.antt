@@ -1,5 +1,5 @@
 use Rattle.std.proofs.Common.{◌≡◌, [], ◌∷◌, ap, ◌∙◌, subst}
-use Rattle.claim_board.specs.Boards.{Board, Pass, AreOf}
+use Rattle.claim_board.specs.Boards.{Board, Pass, AreOfBoard}
 use Rattle.claim_board.specs.Seats.{pass_view}
 use Rattle.claim_board.specs.inner.Seats.{Seated, pass_in, board_of}
 use Rattle.std.proofs.lemmas.List.Elements.{All-head}
@@ -16,7 +16,7 @@ join_seat-requires c =
     let p = c.in-Some.pass in
     let mine = All-head (λ (q : Pass). q.board ≡ board) p []
     (all_right (λ (q : Pass). q.board ≡ board) c.pop.new.self.items (p ∷ [])
-    (subst (AreOf board) c.in-Some.ensures.items i.members)) in
+    (subst (AreOfBoard board) c.in-Some.ensures.items i.members)) in
     let of = ap (λ (q : Pass). q.board) c.pass.view_is ∙ mine in
     let me = c.pass.invariant.0 in (
       i.table,

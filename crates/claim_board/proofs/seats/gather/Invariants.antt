@@ -1,7 +1,7 @@
 use Rattle.std.proofs.Common.{◌≡◌, [], ◌++◌}
 use Rattle.claim_board.specs.Seats.{maker_view}
 use Rattle.claim_board.specs.inner.Seats.{board_of}
-use Rattle.claim_board.specs.Boards.{states_of, AreOf}
+use Rattle.claim_board.specs.Boards.{states_of, AreOfBoard}
 use Rattle.claim_board.proofs.seats.gather.Given as goal
 
 abbrev pub invariant-loop-pass : goal.invariant-loop-pass
@@ -10,7 +10,7 @@ invariant-loop-pass l = record {
   first : l.maker.id ≡ 0;
   view : l.maker.me ≡ (maker_view l.words.key l.initial.maker.me.0.made l.maker.me.0.passes, []);
   all : states_of l.members.items ++ l.maker.me.0.passes ≡ states_of l.initial.members.items;
-  members : AreOf (board_of l.words.table_id l.words.key) l.members.items;
+  members : AreOfBoard (board_of l.words.table_id l.words.key) l.members.items;
 }
 
 abbrev pub decreases-loop-pass : goal.decreases-loop-pass

@@ -1,20 +1,14 @@
-use Rattle.std.proofs.Common.{◌∙◌, ap, ap₂}
 use Rattle.std.proofs.lemmas.Result.{IfOk-weaker}
-use Rattle.clap.specs.Words.{App, with_subcommand}
+use Rattle.command_words.proofs.AnswerLemmas.{one_more}
 use Rattle.command_words.proofs.command_line.command_line.Goals as goal
 
 pub returns : goal.returns
 returns c =
-    let top = λ (a : App). a.top in
-    let one = c.in_ok-subcommand.ensures.shape c.in_ok-check.ensures.local
-    ∙ ap₂ with_subcommand c.program.ensures (ap top c.in_ok-check.ensures.app) in
-    let two = c.in_ok-subcommand-2.ensures.shape c.in_ok-plan.ensures.local
-    ∙ ap₂ with_subcommand one (ap top c.in_ok-plan.ensures.app) in
-    let three = c.in_ok-subcommand-3.ensures.shape c.in_ok-direct.ensures.local
-    ∙ ap₂ with_subcommand two (ap top c.in_ok-direct.ensures.app) in
-    let four = c.in_ok-subcommand-4.ensures.shape c.in_ok-run.ensures.local
-    ∙ ap₂ with_subcommand three (ap top c.in_ok-run.ensures.app) in
-    IfOk-weaker c.subcommand-5.result _ _
-    (λ line h. h.shape c.in_ok-make.ensures.local
-    ∙ ap₂ with_subcommand four (ap top c.in_ok-make.ensures.app))
-    c.subcommand-5.ensures
+    let one = one_more _ _ _ _ _ c.in_ok-one.ensures c.script_command.ensures.app
+    c.program.ensures in
+    let two = one_more _ _ _ _ _ c.in_ok-two.ensures c.plan_command.ensures.app one in
+    let three = one_more _ _ _ _ _ c.in_ok-three.ensures c.script_command-2.ensures.app two in
+    let four = one_more _ _ _ _ _ c.in_ok-four.ensures c.run_command.ensures.app three in
+    IfOk-weaker c.extended-5.result _ _
+    (λ line adds. one_more _ line _ _ _ adds c.make_command.ensures.app four)
+    c.extended-5.ensures

@@ -5,7 +5,7 @@ use Rattle.outside.specs.Accounts.{Account}
 use Rattle.crew.specs.Hosts.{Grew}
 use Rattle.crew.specs.Workers.{AllTook, Phased}
 use Rattle.crew.proofs.Accounts.{all_grew-append}
-use Rattle.crew.proofs.Joining.{of_both, phased_both, took_both}
+use Rattle.crew.proofs.Joining.{of_both, phased_kept, took_both}
 use Rattle.crew.proofs.halves.+halves.Goals as goal
 
 pub both_halves-returns-clause-phased : goal.both_halves-returns-clause-phased
@@ -23,9 +23,8 @@ both_halves-returns-clause-phased g t c =
     let last : IfOk c.join_mut-first.result.1 (Phased tasks s is_value places
     c.last_passes-1.given.0 (map f c.args.last_hosts.now) (map f c.last_hosts-1.given.0)) =
     search rules in
-    rw c.in_ok-append.ensures
-    (phased_both tasks s is_value places _ _ _ _ _ _ _ _ grew
-    (rw c.in_ok-all.was at first) (rw c.in_ok-rest.was at last))
+    phased_kept tasks s is_value places c.join_mut-first.result.0 c.join_mut-first.result.1
+    c.both_kept.result _ _ _ _ _ _ grew first last c.both_kept.ensures
 
 pub work_all-returns-clause-grew : goal.work_all-returns-clause-grew
 work_all-returns-clause-grew g t c =

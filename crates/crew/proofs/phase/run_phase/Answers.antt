@@ -7,7 +7,8 @@ use Rattle.crew.specs.declared.kept.KeptOut.{KeptOut}
 use Rattle.crew.proofs.Accounts.{all_grew_not}
 use Rattle.crew.proofs.Asking.{asked_not, asked_once}
 use Rattle.crew.proofs.Fronts.{took_so_far}
-use Rattle.crew.proofs.Ending.{can_close, can_start, cannot_finish, closed_well, settled, unsettled}
+use Rattle.crew.proofs.Closing.{can_close, can_start, closed_well}
+use Rattle.crew.proofs.Ending.{cannot_finish, settled, unsettled}
 use Rattle.crew.proofs.phase.run_phase.Goals as goal
 
 pub work_all-worked-requires-clause-start : goal.work_all-worked-requires-clause-start

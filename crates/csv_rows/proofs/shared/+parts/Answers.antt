@@ -3,7 +3,7 @@ use Rattle.std.specs.Prelude.{IfOk, Ok}
 use Rattle.csv_rows.specs.Records.{records_of}
 use Rattle.csv_rows.specs.Rows.{rows_from}
 use Rattle.csv_rows.specs.inner.Parts.{rows_behind}
-use Rattle.csv_rows.proofs.JoinFacts.{behind_appended}
+use Rattle.csv_rows.proofs.JoinFacts.{both_appended}
 use Rattle.csv_rows.proofs.shared.+parts.Goals as goal
 
 pub read_both-returns : goal.read_both-returns
@@ -15,6 +15,5 @@ read_both-returns g t c =
     = search rules in
     let rest : IfOk c.join-first.result.1 (λ rows. rows_from 1 columns back ≡ Ok rows) =
     search rules in
-    behind_appended c.args.head columns front back c.in_ok-first.field-0 c.in_ok-rest.field-0
-    c.appended.result (rw c.in_ok-first.was at first) (rw c.in_ok-rest.was at rest)
-    c.appended.ensures
+    both_appended c.args.head columns front back c.join-first.result.0 c.join-first.result.1
+    c.appended.result first rest c.appended.ensures

@@ -4,7 +4,7 @@ use Rattle.std.specs.Option.{option_map}
 use Rattle.flume_value.specs.declared.value.Value.{Value}
 use Rattle.flume_collection.specs.declared.trap.Trap.{Trap}
 use Rattle.bag_groups.specs.Pairs.{pair, value_of}
-use Rattle.dofn_eval.specs.Function.{Accepts}
+use Rattle.dofn_eval.specs.Function.{CanBeCalledOn}
 use Rattle.direct_meaning.proofs.CombineLemmas.{flat_further}
 use Rattle.direct_meaning.proofs.OnlyLemmas.{second_of-pair}
 use Rattle.direct_meaning.specs.Objects.{answer_beside, naming}
@@ -16,7 +16,7 @@ call_beside-requires c =
     let v = c.args.value.now in
     let same = c.with_first-argument.ensures v c.loop-element.invariant.argument
     ∙ ap (λ (x : Value). pair x v) c.in_ok-copy-2.ensures in
-    subst (Accepts c.args.fun.now)
+    subst (CanBeCalledOn c.args.fun.now)
     (sym (same ∙ ap (λ (x : Value). pair x v) c.element-item.is))
     (c.requires c.loop-element.element-index c.element-item.result c.loop-element-test.true)
 

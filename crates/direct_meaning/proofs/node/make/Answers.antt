@@ -285,7 +285,7 @@ kept_at-requires-in-CombineAll c =
     let here = here_at c.args.program.now.known.types c.node.result.now
     (made.CombineAll c.in-CombineAll.source c.in-CombineAll.by) c.requires.well_formed
     c.requires.stands.1 c.requires.needed c.node.ensures.is c.in-CombineAll.is in
-    let it = (whole_read c.in-CombineAll.source c.in-CombineAll.by here).from in (it.held, it.at)
+    let it = (whole_read c.in-CombineAll.source c.in-CombineAll.by here).source in (it.held, it.at)
 
 pub combined_whole-requires : goal.combined_whole-requires
 combined_whole-requires c =

@@ -1,56 +1,45 @@
-use Rattle.std.proofs.Common.{◌≡◌, sym, ap, ◌∙◌}
+use Rattle.std.proofs.Common.{sym, ap, ◌∙◌}
 use Rattle.exec_graph.specs.Readers.{any_node}
 use Rattle.exec_graph.specs.Wellformed.{total_size}
-use Rattle.sink_laws.specs.Chain.{has_room}
 use Rattle.flatten_sink.specs.inner.Places.{gathers}
 use Rattle.flatten_sink.proofs.Room.{few_inputs, few_steps, room_is, size_is}
 use Rattle.flatten_sink.proofs.rooms.after_step.Goals as goal
 
 pub limit_for-limit-requires : goal.limit_for-limit-requires
 limit_for-limit-requires c =
-    few_steps c.args.graph.now c.args.call c.as_slice-nodes.result.now c.in_ok-steps.steps
-    c.requires.ok c.requires.can c.as_slice-nodes.ensures c.in_ok-steps.ensures
+    few_steps c.args.call c.requires.ok c.requires.can c.as_slice-nodes.ensures
+    c.in_ok-steps.ensures
 
 pub are_within-requires-clause-steps : goal.are_within-requires-clause-steps
 are_within-requires-clause-steps c =
-    few_steps c.args.graph.now c.args.call c.as_slice-nodes.result.now c.in_ok-steps.steps
-    c.requires.ok c.requires.can c.as_slice-nodes.ensures c.in_ok-steps.ensures
+    few_steps c.args.call c.requires.ok c.requires.can c.as_slice-nodes.ensures
+    c.in_ok-steps.ensures
 
 pub are_within-requires-clause-copies : goal.are_within-requires-clause-copies
 are_within-requires-clause-copies c =
-    few_inputs c.args.graph.now c.args.call c.as_slice-nodes.result.now
-    c.inputs_of-copies.result.now c.requires.ok c.requires.can c.as_slice-nodes.ensures
+    few_inputs c.args.call c.requires.ok c.requires.can c.as_slice-nodes.ensures
     c.inputs_of-copies.ensures
 
 pub size_within-left-requires-clause-steps : goal.size_within-left-requires-clause-steps
 size_within-left-requires-clause-steps c =
-    few_steps c.args.graph.now c.args.call c.as_slice-nodes.result.now c.in_ok-steps.steps
-    c.requires.ok c.requires.can c.as_slice-nodes.ensures c.in_ok-steps.ensures
+    few_steps c.args.call c.requires.ok c.requires.can c.as_slice-nodes.ensures
+    c.in_ok-steps.ensures
 
 pub size_within-left-requires-clause-copies : goal.size_within-left-requires-clause-copies
 size_within-left-requires-clause-copies c =
-    few_inputs c.args.graph.now c.args.call c.as_slice-nodes.result.now
-    c.inputs_of-copies.result.now c.requires.ok c.requires.can c.as_slice-nodes.ensures
+    few_inputs c.args.call c.requires.ok c.requires.can c.as_slice-nodes.ensures
     c.inputs_of-copies.ensures
 
 pub returns-then-are_within : goal.returns-then-are_within
 returns-then-are_within c =
-    let room : c.are_within.result ≡ has_room c.args.graph.now c.args.call =
-    room_is c.args.graph.now c.args.call c.as_slice-nodes.result.now c.args.size
-    c.in_ok-steps.steps c.in_ok-outputs.outputs c.limit_for-limit.result
-    c.inputs_of-copies.result.now c.is_read_elsewhere-is_read.result c.requires.ok
-    c.requires.can c.as_slice-nodes.ensures
-    (c.requires.size ∙ ap total_size (sym c.as_slice-nodes.ensures)) c.in_ok-steps.ensures
-    c.inputs_of-copies.ensures c.in_ok-outputs.ensures c.is_read_elsewhere-is_read.ensures
-    c.limit_for-limit.ensures c.are_within.result c.are_within.ensures in
+    let size = c.requires.size ∙ ap total_size (sym c.as_slice-nodes.ensures) in
     record {
-      room = sym room ∙ c.if-are_within.true;
-      size = size_is c.args.graph.now c.args.call c.as_slice-nodes.result.now c.args.size
-          c.in_ok-steps.steps c.in_ok-outputs.outputs c.limit_for-limit.result
-          c.inputs_of-copies.result.now c.is_read_elsewhere-is_read.result c.requires.ok
-          c.requires.can c.as_slice-nodes.ensures
-          (c.requires.size ∙ ap total_size (sym c.as_slice-nodes.ensures)) c.in_ok-steps.ensures
-          c.inputs_of-copies.ensures c.in_ok-outputs.ensures
+      room = sym (room_is c.args.call c.requires.ok c.requires.can c.as_slice-nodes.ensures size
+          c.in_ok-steps.ensures c.inputs_of-copies.ensures c.in_ok-outputs.ensures
+          c.is_read_elsewhere-is_read.ensures c.limit_for-limit.ensures c.are_within.result
+          c.are_within.ensures) ∙ c.if-are_within.true;
+      size = size_is c.args.call c.requires.ok c.requires.can c.as_slice-nodes.ensures size
+          c.in_ok-steps.ensures c.inputs_of-copies.ensures c.in_ok-outputs.ensures
           c.is_read_elsewhere-is_read.ensures c.limit_for-limit.ensures
           c.size_within-left.result c.size_within-left.ensures;
       read = c.is_read_elsewhere-is_read.ensures;
@@ -61,12 +50,8 @@ returns-then-are_within c =
 
 pub returns-else-are_within : goal.returns-else-are_within
 returns-else-are_within c =
-    let room : c.are_within.result ≡ has_room c.args.graph.now c.args.call =
-    room_is c.args.graph.now c.args.call c.as_slice-nodes.result.now c.args.size
-    c.in_ok-steps.steps c.in_ok-outputs.outputs c.limit_for-limit.result
-    c.inputs_of-copies.result.now c.is_read_elsewhere-is_read.result c.requires.ok
-    c.requires.can c.as_slice-nodes.ensures
-    (c.requires.size ∙ ap total_size (sym c.as_slice-nodes.ensures)) c.in_ok-steps.ensures
-    c.inputs_of-copies.ensures c.in_ok-outputs.ensures c.is_read_elsewhere-is_read.ensures
-    c.limit_for-limit.ensures c.are_within.result c.are_within.ensures in
-    sym room ∙ c.if-are_within.false
+    let size = c.requires.size ∙ ap total_size (sym c.as_slice-nodes.ensures) in
+    sym (room_is c.args.call c.requires.ok c.requires.can c.as_slice-nodes.ensures size
+    c.in_ok-steps.ensures c.inputs_of-copies.ensures c.in_ok-outputs.ensures
+    c.is_read_elsewhere-is_read.ensures c.limit_for-limit.ensures c.are_within.result
+    c.are_within.ensures) ∙ c.if-are_within.false

@@ -1,8 +1,8 @@
-use Rattle.std.proofs.Common.{◌+◌, ◌*◌, ◌<◌, ◌≤◌, length}
+use Rattle.std.proofs.Common.{◌+◌, ◌*◌, length}
 use Rattle.flume_grammar.specs.Limits.{the_limits}
-use Rattle.flume_grammar.specs.inner.Out.{all_of}
+use Rattle.flume_grammar.specs.inner.Reads.{Below}
 use Rattle.flume_grammar.specs.inner.Types.{at_comma, next_field_type, type_below}
-use Rattle.flume_grammar.proofs.Loops.{Reaches}
+use Rattle.flume_grammar.proofs.Loops.{Turned}
 use Rattle.flume_reading.proofs.written.+types.Given as goal
 
 abbrev pub decreases-type_of : goal.decreases-type_of
@@ -11,11 +11,14 @@ decreases-type_of l = 6 * l.limit + 5
 abbrev pub decreases-after_start : goal.decreases-after_start
 decreases-after_start l = 6 * l.limit + 4
 
+abbrev pub decreases-part : goal.decreases-part
+decreases-part l = 6 * l.limit
+
 abbrev pub decreases-list_type : goal.decreases-list_type
-decreases-list_type l = 6 * l.limit
+decreases-list_type l = 6 * l.limit + 1
 
 abbrev pub decreases-pair_type : goal.decreases-pair_type
-decreases-pair_type l = 6 * l.limit
+decreases-pair_type l = 6 * l.limit + 1
 
 abbrev pub decreases-record_type : goal.decreases-record_type
 decreases-record_type l = 6 * l.limit + 3
@@ -25,14 +28,8 @@ decreases-field_type l = 6 * l.limit
 
 abbrev pub invariant-more_field_types-more : goal.invariant-more_field_types-more
 invariant-more_field_types-more l =
-    let part = next_field_type the_limits (type_below l.limit) in
-    record {
-      reaches : Reaches at_comma part (all_of at_comma part l.initial.fields l.fn.tokens) l.fields
-          l.tokens;
-      limit : 2 ≤ l.limit;
-      depth : l.fields.depth < l.limit;
-      shorter : length l.tokens ≤ length l.fn.tokens;
-    }
+    Turned at_comma (next_field_type the_limits (type_below l.limit)) (Below l.limit)
+    l.initial.fields l.fn.tokens l.fields l.tokens
 
 abbrev pub decreases-more_field_types-more : goal.decreases-more_field_types-more
 decreases-more_field_types-more l = length l.tokens

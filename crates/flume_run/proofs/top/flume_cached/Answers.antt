@@ -14,33 +14,22 @@ use Rattle.flume_run.proofs.top.flume_cached.Goals as goal
 
 pub returns-in-Ok-Some-clause-promises : goal.returns-in-Ok-Some-clause-promises
 returns-in-Ok-Some-clause-promises g c =
-    of_reused (map string_bytes c.args.words.now) (world (g.R.Source.seen c.args.source.now)
-    (g.K.Shelf.seen c.args.shelf.now) (g.P.Screen.seen c.args.screen.now)
-    (map g.H.Host.account c.args.hosts.now)) (world (g.R.Source.seen c.run_cached.new.source)
-    (g.K.Shelf.seen
-    c.run_cached.new.shelf) (g.P.Screen.seen c.run_cached.new.screen)
-    (map g.H.Host.account c.run_cached.new.hosts)) (g.C.Cache.seen c.args.cache.now)
-    (g.C.Cache.seen c.run_cached.new.cache) c.run_cached.result (cached_in c.in-Ok-Some.wanted)
+    of_reused _ _ _ _ _ _ (cached_in c.in-Ok-Some.wanted)
     (ap (option_map cached_in) (sym c.in-Ok-Some.field-0-is) ∙ c.in-Ok-Some.ensures)
-    c.run_cached.ensures.promises
+    c.run_cached-status.ensures.promises
 
 pub returns-in-Ok-Some-clause-hosts : goal.returns-in-Ok-Some-clause-hosts
 returns-in-Ok-Some-clause-hosts g c =
-    subst (λ (n : ℕ). drop n c.run_cached.new.hosts ≡ drop n c.args.hosts.now)
+    subst (λ (n : ℕ). drop n c.run_cached-status.new.hosts ≡ drop n c.args.hosts.now)
     (lends_reused (map string_bytes c.args.words.now) (cached_in c.in-Ok-Some.wanted)
     (ap (option_map cached_in) (sym c.in-Ok-Some.field-0-is) ∙ c.in-Ok-Some.ensures))
-    c.run_cached.ensures.hosts
+    c.run_cached-status.ensures.hosts
 
 -- ---- other words
 
 pub returns-in-Ok-None-clause-promises : goal.returns-in-Ok-None-clause-promises
 returns-in-Ok-None-clause-promises g c =
-    of_others (map string_bytes c.args.words.now) (world (g.R.Source.seen c.args.source.now)
-    (g.K.Shelf.seen c.args.shelf.now) (g.P.Screen.seen c.args.screen.now)
-    (map g.H.Host.account c.args.hosts.now)) (world (g.R.Source.seen c.uncached.new.source)
-    (g.K.Shelf.seen
-    c.uncached.new.shelf) (g.P.Screen.seen c.uncached.new.screen)
-    (map g.H.Host.account c.uncached.new.hosts)) (g.C.Cache.seen c.args.cache.now) c.uncached.result
+    of_others _ _ _ _ _
     (ap (option_map cached_in) (sym c.in-Ok-None.field-0-is) ∙ c.in-Ok-None.ensures)
     c.uncached.ensures.promises
 

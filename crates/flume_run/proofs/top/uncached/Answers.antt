@@ -1,6 +1,6 @@
 use Rattle.std.proofs.Common.{◌≡◌, ◌∙◌, ℕ, arith, drop, map, refl, string_bytes, subst, sym}
 use Rattle.std.specs.Prelude.{IfSome, Option}
-use Rattle.command_words.specs.Workloads.{IsWithin}
+use Rattle.command_words.specs.Workloads.{IsWithinLimits}
 use Rattle.command_words.specs.declared.workload.Workload.{Workload}
 use Rattle.crew.proofs.Accounts.{all_grew_not}
 use Rattle.made_course.specs.of_run_course.World.{world}
@@ -13,17 +13,12 @@ use Rattle.flume_run.proofs.top.uncached.Goals as goal
 
 pub make-requires-clause-within : goal.make-requires-clause-within
 make-requires-clause-within g c lives bounds =
-    subst (λ (made : Option Workload). IfSome made IsWithin) c.in-Ok-Some.field-0-is
+    subst (λ (made : Option Workload). IfSome made IsWithinLimits) c.in-Ok-Some.field-0-is
     c.in-Ok-Some.ensures.within
 
 pub returns-in-Ok-Some-clause-promises : goal.returns-in-Ok-Some-clause-promises
 returns-in-Ok-Some-clause-promises g c =
-    of_make (map string_bytes c.args.words.now) (world (g.R.Source.seen c.args.source.now)
-    (g.K.Shelf.seen c.args.shelf.now) (g.P.Screen.seen c.args.screen.now)
-    (map g.H.Host.account c.args.hosts.now)) (world (g.R.Source.seen c.args.source.now)
-    (g.K.Shelf.seen c.make.new.shelf) (g.P.Screen.seen c.make.new.screen)
-    (map g.H.Host.account c.make.new.hosts)) c.make.result c.in-Ok-Some.workload
-    (sym c.in-Ok-Some.field-0-is ∙ c.in-Ok-Some.ensures.value)
+    of_make _ _ _ _ c.in-Ok-Some.workload (sym c.in-Ok-Some.field-0-is ∙ c.in-Ok-Some.ensures.value)
     (c.make.ensures.promises (g.R.Source.seen c.args.source.now))
 
 pub returns-in-Ok-Some-clause-hosts : goal.returns-in-Ok-Some-clause-hosts
@@ -36,12 +31,8 @@ returns-in-Ok-Some-clause-hosts g c =
 
 pub returns-in-Ok-None-clause-promises : goal.returns-in-Ok-None-clause-promises
 returns-in-Ok-None-clause-promises g c =
-    of_script (map string_bytes c.args.words.now) (world (g.R.Source.seen c.args.source.now)
-    (g.K.Shelf.seen c.args.shelf.now) (g.P.Screen.seen c.args.screen.now)
-    (map g.H.Host.account c.args.hosts.now)) (world (g.R.Source.seen c.run.new.source)
-    (g.K.Shelf.seen c.run.new.shelf) (g.P.Screen.seen c.run.new.screen)
-    (map g.H.Host.account c.run.new.hosts))
-    c.run.result (sym c.in-Ok-None.field-0-is ∙ c.in-Ok-None.ensures.value) c.run.ensures.promises
+    of_script _ _ _ _ (sym c.in-Ok-None.field-0-is ∙ c.in-Ok-None.ensures.value)
+    c.run.ensures.promises
 
 pub returns-in-Ok-None-clause-hosts : goal.returns-in-Ok-None-clause-hosts
 returns-in-Ok-None-clause-hosts g c =
@@ -53,13 +44,8 @@ returns-in-Ok-None-clause-hosts g c =
 
 pub returns-in-Err-clause-promises : goal.returns-in-Err-clause-promises
 returns-in-Err-clause-promises g c =
-    let words = map string_bytes c.args.words.now in
-    let before = world (g.R.Source.seen c.args.source.now) (g.K.Shelf.seen c.args.shelf.now)
-    (g.P.Screen.seen c.args.screen.now) (map g.H.Host.account c.args.hosts.now) in
-    let after = world (g.R.Source.seen c.args.source.now) (g.K.Shelf.seen c.args.shelf.now)
-    (g.P.Screen.seen c.no_memory.new.screen) (map g.H.Host.account c.args.hosts.now) in
-    subst (λ (status : Status). Promises words before after status) (sym c.no_memory.ensures.answer)
-    (of_no_memory words before after (record { shelf = refl; line = c.no_memory.ensures.line })
+    rw c.no_memory.ensures.answer
+    (of_no_memory _ _ _ (record { shelf = refl; line = c.no_memory.ensures.line })
     (record {
       told = refl;
       source = omega arith;

@@ -1,5 +1,5 @@
 use Rattle.std.proofs.Common.{◌-◌, length, sym, ◌∙◌, subst, arith}
-use Rattle.flume_tokens.specs.Pieces.{IsWithin}
+use Rattle.flume_tokens.specs.Pieces.{TakesWithin}
 use Rattle.flume_tokens.proofs.NextPieces.{on_LineEnd, on_Gap, on_Token, on_Fault}
 use Rattle.flume_tokens.proofs.cutting.cut.Goals as goal
 
@@ -15,7 +15,7 @@ loop-at-preserved-in-LineEnd c =
 
 pub loop-at-preserved-in-Gap : goal.loop-at-preserved-in-Gap
 loop-at-preserved-in-Gap c =
-    let w = subst (λ p. IsWithin p (length c.args.bytes.now - c.loop-at.at)) c.in-Gap.is
+    let w = subst (λ p. TakesWithin p (length c.args.bytes.now - c.loop-at.at)) c.in-Gap.is
     c.in_ok-piece_at.ensures.within in
     record {
       whole = on_Gap c.loop-at.tokens.items c.loop-at.at c.in-Gap.taken c.loop-at.line
@@ -27,7 +27,7 @@ loop-at-preserved-in-Gap c =
 
 pub loop-at-preserved : goal.loop-at-preserved
 loop-at-preserved c =
-    let w = subst (λ p. IsWithin p (length c.args.bytes.now - c.loop-at.at)) c.in-Token.is
+    let w = subst (λ p. TakesWithin p (length c.args.bytes.now - c.loop-at.at)) c.in-Token.is
     c.in_ok-piece_at.ensures.within in
     record {
       whole = on_Token c.loop-at.tokens.items c.put.new.tokens.items c.in-Token.kind c.loop-at.at

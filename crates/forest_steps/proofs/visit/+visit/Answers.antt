@@ -239,14 +239,14 @@ visit_moved-returns g t c =
 pub visit_one-visit_emission-requires : goal.visit_one-visit_emission-requires
 visit_one-visit_emission-requires g t c κs within =
     let w = world_of (g.F.Functions.called c.args.functions.now) in
-    let takes = g.F.Functions.can_call c.args.functions.now in
     let v = c.args.value in
     let first = sym (ap (λ (d : Branch). d.first) c.step.view_is) in
     let whole = ap size c.step.view_is in (
       omega (arith, c.decreases, whole, size_decreases c.step.inside c.step.invariant),
       (
         search (rules, lives, within) depth 24 fits 20000,
-        (safe_first w c.args.sizes.now takes c.args.step.now c.step.inside.first ((v ∷ []) ∷ [])
-            (v ∷ []) first refl c.requires).0,
+        (safe_first w c.args.sizes.now (g.F.Functions.can_call c.args.functions.now)
+            c.args.step.now c.step.inside.first ((v ∷ []) ∷ []) (v ∷ []) first refl
+            c.requires).0,
       ),
     )

@@ -2,7 +2,7 @@ use Rattle.std.proofs.Common.{List, ap, sym, subst, ◌∙◌}
 use Rattle.exec_graph.specs.Wellformed.{Ascends}
 use Rattle.exec_graph.specs.declared.graph.Entry.{Entry}
 use Rattle.graph_joining.specs.inner.Tests.{can_sibling}
-use Rattle.graph_joining.proofs.Passes.{passes_sibling, sibling_passes}
+use Rattle.graph_joining.proofs.Passes.{sibling_told}
 use Rattle.graph_joining.proofs.pairs.can_be_sibling.Goals as goal
 
 pub can_sibling-requires : goal.can_sibling-requires
@@ -10,11 +10,7 @@ can_sibling-requires c = subst Ascends (sym c.as_slice.ensures) c.requires
 
 pub returns : goal.returns
 returns c =
-    let g = c.args.graph.now in
     let p = c.args.keeper in
     let q = c.args.other in
-    let is = c.can_sibling.ensures
-    ∙ ap (λ (es : List Entry). can_sibling es p q) c.as_slice.ensures in (
-      λ e. sibling_passes g p q (sym is ∙ e),
-      λ can. is ∙ passes_sibling g p q can.0 can.1,
-    )
+    sibling_told c.args.graph.now p q _ (c.can_sibling.ensures
+    ∙ ap (λ (es : List Entry). can_sibling es p q) c.as_slice.ensures)

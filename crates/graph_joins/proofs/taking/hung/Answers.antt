@@ -7,7 +7,7 @@ use Rattle.graph_states.specs.of_graph_rewrites.Rewrites.{input_at}
 use Rattle.graph_states.specs.States.{all_but}
 use Rattle.graph_walks.specs.Outs.{outs}
 use Rattle.graph_joins.specs.inner.Splices.{spliced}
-use Rattle.graph_joins.proofs.TakenLemmas.{still_pdo, taken_again}
+use Rattle.graph_joins.proofs.TakenLemmas.{taken_again}
 use Rattle.graph_joins.proofs.taking.hung.Goals as goal
 
 pub put-requires-clause-differ : goal.put-requires-clause-differ
@@ -17,12 +17,6 @@ put-requires-clause-differ c =
 pub put-requires-clause-other : goal.put-requires-clause-other
 put-requires-clause-other c =
     ap (has_out c.args.name) c.take_apart-left.ensures.goes ∙ c.requires.apart
-
-pub with_steps-requires : goal.with_steps-requires
-with_steps-requires c =
-    still_pdo c.args.graph c.take_apart-left.result.graph c.args.keeper c.args.other
-    (input_at c.args.graph c.args.keeper) c.take_apart-left.ensures.graph c.requires.differ
-    c.requires.keeper
 
 pub returns : goal.returns
 returns c =

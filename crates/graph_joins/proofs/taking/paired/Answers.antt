@@ -3,14 +3,8 @@ use Rattle.exec_graph.specs.Forests.{Branch, Forest, grown}
 use Rattle.graph_laws.specs.Joining.{beside}
 use Rattle.graph_states.specs.of_graph_rewrites.Rewrites.{input_at}
 use Rattle.graph_walks.proofs.Relabeling.{grown_append}
-use Rattle.graph_joins.proofs.TakenLemmas.{still_pdo, taken_again}
+use Rattle.graph_joins.proofs.TakenLemmas.{taken_again}
 use Rattle.graph_joins.proofs.taking.paired.Goals as goal
-
-pub with_steps-requires : goal.with_steps-requires
-with_steps-requires c =
-    still_pdo c.args.graph c.take_apart-left.result.graph c.args.keeper c.args.other
-    (input_at c.args.graph c.args.keeper) c.take_apart-left.ensures.graph c.requires.differ
-    c.requires.keeper
 
 pub returns : goal.returns
 returns c =

@@ -11,7 +11,9 @@ use Rattle.flatten_sink.specs.of_sink_laws.Chain.{forest_of}
 use Rattle.graph_joining.proofs.Commuting.{node_set}
 use Rattle.graph_laws.specs.Joining.{set_node}
 use Rattle.graph_states.specs.States.{taken_in}
+use Rattle.graph_states.specs.of_graph_rewrites.Rewrites.{input_at}
 use Rattle.graph_joins.proofs.PresentLemmas.{forest_present, taken_shown}
+use Rattle.graph_joins.proofs.TakenLemmas.{still_pdo}
 use Rattle.graph_joins.proofs.taking.take_apart.Goals as goal
 
 pub replaced-left-requires : goal.replaced-left-requires
@@ -42,6 +44,11 @@ returns-clause-graph c =
     ∙ ap (λ (f : Forest). set_node (set_node es m (Flatten [])) n (Pdo input f))
     (c.new-roots.ensures ∙ ap (λ (bs : List Branch). grown bs) c.new-empty.ensures.items))
     ∙ ap (λ (d : Place). taken_in g n m d Bare) c.input-input.ensures
+
+pub returns-clause-pdo : goal.returns-clause-pdo
+returns-clause-pdo c =
+    still_pdo c.args.graph _ c.args.stays c.args.goes (input_at c.args.graph c.args.stays)
+    (returns-clause-graph c) c.requires.differ c.requires.stays
 
 pub returns-clause-stays : goal.returns-clause-stays
 returns-clause-stays c =

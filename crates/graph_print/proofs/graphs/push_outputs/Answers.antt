@@ -2,7 +2,7 @@ use Rattle.std.proofs.Common.{◌<◌, ◌≤◌, ◌++◌, length, min, get_or,
 use Rattle.std.proofs.lemmas.Option.{slice_get-get_or}
 use Rattle.exec_graph.specs.declared.graph.Place.{Place}
 use Rattle.graph_print.specs.GraphText.{output_lines}
-use Rattle.graph_build.proofs.StepLemmas.{found_below}
+use Rattle.script_program.proofs.SourceSteps.{found_below}
 use Rattle.graph_print.proofs.LineLemmas.{lines_all, lines_next}
 use Rattle.graph_print.proofs.graphs.push_outputs.Goals as goal
 

@@ -1,9 +1,7 @@
-use Rattle.std.proofs.Common.{sym, subst}
+use Rattle.std.proofs.Common.{subst}
 use Rattle.flatten_sink.specs.Pairs.{IsMergedAt, IsSunkAt}
-use Rattle.graph_rewrites.specs.declared.rewrite.Rewrite.{Rewrite}
 use Rattle.sink_laws.specs.declared.pair.Pair.{Pair}
-use Rattle.graph_rewriting.specs.inner.Made.{IsMade}
-use Rattle.graph_rewriting.proofs.Sinks.{made_as, merge_made, sink_made}
+use Rattle.graph_rewriting.proofs.Sinks.{made_as, made_so, merge_made, sink_made}
 use Rattle.graph_rewriting.proofs.applying.rewritten.Goals as goal
 
 pub returns-in-Merge : goal.returns-in-Merge
@@ -26,8 +24,7 @@ lift_at-requires c = c.requires.founded.ascends
 
 pub returns-in-Lift : goal.returns-in-Lift
 returns-in-Lift c =
-    subst (λ (r : Rewrite). IsMade c.args.graph r c.lift_at.result) (sym c.in-Lift.is)
-    c.lift_at.ensures
+    made_so c.args.graph c.args.rewrite _ c.lift_at.result c.in-Lift.is c.lift_at.ensures
 
 pub returns-in-Kid : goal.returns-in-Kid
 returns-in-Kid c =
@@ -43,5 +40,4 @@ markable-requires c = c.requires.founded.ascends
 
 pub returns-in-Mark : goal.returns-in-Mark
 returns-in-Mark c =
-    subst (λ (r : Rewrite). IsMade c.args.graph r c.markable.result) (sym c.in-Mark.is)
-    c.markable.ensures
+    made_so c.args.graph c.args.rewrite _ c.markable.result c.in-Mark.is c.markable.ensures

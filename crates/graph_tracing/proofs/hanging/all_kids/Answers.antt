@@ -6,19 +6,17 @@ use Rattle.graph_tracing.specs.inner.Waiting.{IsLeaving}
 use Rattle.graph_tracing.proofs.hanging.all_kids.Goals as goal
 
 pub loop-number-preserved : goal.loop-number-preserved
-loop-number-preserved c =
-    let ns : List ℕ = c.args.numbers.now in
-    let i : ℕ = c.loop-number.number-index in
-    let front = drop_more ns i 0 c.loop-number-test.true in
-    record {
-      session = c.in_ok-kids.ensures.session;
-      keeps = c.in_ok-kids.ensures.keeps;
-      traced = λ g t. c.in_ok-kids.ensures.traced g (c.loop-number.invariant.traced g t);
-      whole = λ m f all u. c.in_ok-kids.ensures.whole m f (drop (i + 1) ns) all
-          (subst (λ (xs : List ℕ). IsLeaving (number_in c.loop-number.kids.numbers) f
-          (trace_of c.loop-number.kids.trace) m xs all) front
-          (c.loop-number.invariant.whole m f all u));
-    }
+loop-number-preserved c = record {
+  session = c.in_ok-kids.ensures.session;
+  keeps = c.in_ok-kids.ensures.keeps;
+  traced = λ g t. c.in_ok-kids.ensures.traced g (c.loop-number.invariant.traced g t);
+  whole = λ m f all u. c.in_ok-kids.ensures.whole m f
+      (drop (c.loop-number.number-index + 1) c.args.numbers.now) all
+      (subst (λ (xs : List ℕ). IsLeaving (number_in c.loop-number.kids.numbers) f
+      (trace_of c.loop-number.kids.trace) m xs all)
+      (drop_more c.args.numbers.now c.loop-number.number-index 0 c.loop-number-test.true)
+      (c.loop-number.invariant.whole m f all u));
+}
 
 pub returns-clause-whole : goal.returns-clause-whole
 returns-clause-whole c = λ m f all u.

@@ -16,15 +16,13 @@ merge-requires-clause-next c =
 
 pub merges-smaller : goal.merges-smaller
 merges-smaller c =
-    merge_lighter c.args.trace.graph c.merges.trace.graph c.in_ok-trace-in-Some.trace.graph
-    c.in-Some.nest c.merges.invariant.way
+    merge_lighter c.merges.invariant.way
     (ap next_nest (sym c.as_slice.ensures) ∙ sym c.next_nest.ensures ∙ c.in-Some.is)
     c.in_ok-trace-in-Some.ensures.graph
 
 pub merges-preserved : goal.merges-preserved
 merges-preserved c = record {
-  way = on_way_more c.args.trace.graph c.merges.trace.graph c.in_ok-trace-in-Some.trace.graph
-      c.in-Some.nest c.merges.invariant.way
+  way = on_way_more c.merges.invariant.way
       (ap next_nest (sym c.as_slice.ensures) ∙ sym c.next_nest.ensures ∙ c.in-Some.is)
       c.in_ok-trace-in-Some.ensures.graph;
   traced = goes_then 0 c.args.trace c.merges.trace c.in_ok-trace-in-Some.trace

@@ -1,25 +1,20 @@
-use Rattle.std.proofs.Common.{false, true, refl, sym, ap, ◌∙◌, arith}
-use Rattle.graph_laws.specs.of_exec_graph.Forests.{Bare}
-use Rattle.graph_walks.specs.inner.Plants.{on_branches, put_branch}
-use Rattle.graph_walks.proofs.PlantTurns.{none_all, one_found, twig_on}
+use Rattle.std.proofs.Common.{sym, ap, ◌∙◌, arith}
+use denote.Param.Weighed.{most}
+use Rattle.graph_laws.specs.of_exec_graph.declared.step.Step.TheDeep.{deep-Output}
+use Rattle.graph_walks.specs.inner.Plants.{on_branches}
+use Rattle.graph_walks.proofs.Falling.{more_fall}
+use Rattle.graph_walks.proofs.PlantTurns.{twig_on}
 use Rattle.graph_walks.proofs.finding.+find.Goals as goal
-
-pub on_output-returns-then-on_step : goal.on_output-returns-then-on_step
-on_output-returns-then-on_step t c =
-    let l = c.loop-kid in
-    let j = c.args.output in
-    let o = c.args.one.now in
-    let b = c.kid-item.result in
-    twig_on j o.number o.kids.items true (sym c.is_out.ensures ∙ c.if-is_out.false)
-    (one_found j true Bare c.deref-kid-items.result.now l.kid-index b (put_branch j true Bare b)
-    (omega arith) c.kid-item.is refl (sym c.on_step.ensures ∙ c.if-on_step.true)
-    ∙ l.invariant ∙ ap (on_branches j) c.deref-kid-items.ensures.value)
 
 pub on_output-returns : goal.on_output-returns
 on_output-returns t c =
-    let l = c.loop-kid in
-    let j = c.args.output in
     let o = c.args.one.now in
-    twig_on j o.number o.kids.items false (sym c.is_out.ensures ∙ c.if-is_out.false)
-    (sym (none_all j true Bare c.deref-kid-items.result.now l.kid-index (omega arith))
-    ∙ l.invariant ∙ ap (on_branches j) c.deref-kid-items.ensures.value)
+    twig_on c.args.output o.number o.kids.items _ (sym c.is_out.ensures ∙ c.if-is_out.false)
+    (c.on_steps.ensures ∙ ap (on_branches c.args.output) c.as_slice.ensures.value)
+
+pub on_step-on_outputs-requires : goal.on_step-on_outputs-requires
+on_step-on_outputs-requires t c =
+    let more = ap (most deep-Output) c.as_slice.ensures.value in (
+      omega (arith, c.decreases, more, more_fall c.step.inside _ c.step.view_is),
+      tt,
+    )

@@ -1,27 +1,36 @@
-use Rattle.std.proofs.Common.{◌≡◌, ◌++◌, take, drop, length, map}
+use Rattle.std.proofs.Common.{◌+◌, ◌*◌, List, map}
+use denote.Param.Weighed.{most}
+use Rattle.graph_laws.specs.of_exec_graph.declared.step.Step.TheDeep.{deep-Output}
+use Rattle.graph_laws.specs.of_exec_graph.declared.step.Step.TheView.{size}
+use Rattle.graph_laws.specs.of_exec_graph.Forests.{Branch}
 use Rattle.graph_laws.specs.of_exec_graph.Twigs.{twig}
-use Rattle.graph_walks.specs.inner.Numbering.{branches_outs, numbered_branches, numbered_twigs, twigs_outs}
+use Rattle.graph_laws.specs.of_exec_graph.declared.step.Output.{Output}
+use Rattle.graph_walks.specs.inner.Numbering.{after_branch, after_twig, branch_outs, numbered_branch, numbered_twig, twig_outs}
+use Rattle.graph_walks.proofs.Turns.{AreNumbered}
 use Rattle.graph_walks.proofs.numbering.+number.Given as goal
 
--- what is left has its numbers behind those that have theirs
-abbrev pub invariant-number_outputs-loop-i : goal.invariant-number_outputs-loop-i
-invariant-number_outputs-loop-i l = record {
-  same : length l.outputs.items ≡ length l.fn.outputs.items;
-  outputs : map twig (take l.i l.outputs.items)
-      ++ numbered_twigs (length l.outs.items) (map twig (drop l.i l.outputs.items))
-      ≡ numbered_twigs (length l.fn.outs.items) (map twig l.fn.outputs.items);
-  outs : l.outs.items ++ twigs_outs (map twig (drop l.i l.outputs.items))
-      ≡ l.fn.outs.items ++ twigs_outs (map twig l.fn.outputs.items);
-  left : goal.unvisited-number_outputs-loop-i l;
+abbrev pub decreases-number_steps : goal.decreases-number_steps
+decreases-number_steps l = 4 * most (λ b. size b + 1) l.steps.now.items
+
+abbrev pub decreases-number_step : goal.decreases-number_step
+decreases-number_step l = 4 * size l.step.now + 3
+
+abbrev pub decreases-number_outputs : goal.decreases-number_outputs
+decreases-number_outputs l = 4 * most deep-Output l.outputs.now.items + 2
+
+abbrev pub decreases-number_output : goal.decreases-number_output
+decreases-number_output l = 4 * deep-Output l.output.now + 1
+
+abbrev pub invariant-number_steps-loop-i : goal.invariant-number_steps-loop-i
+invariant-number_steps-loop-i l = record {
+  numbered : AreNumbered (λ (bs : List Branch). bs) numbered_branch after_branch branch_outs
+      l.fn.steps.items l.steps.items l.fn.outs.items l.outs.items l.i;
+  left : goal.unvisited-number_steps-loop-i l;
 }
 
-abbrev pub invariant-number_output-loop-i : goal.invariant-number_output-loop-i
-invariant-number_output-loop-i l = record {
-  same : length l.kids.items ≡ length l.initial.kids.items;
-  steps : take l.i l.kids.items
-      ++ numbered_branches (length l.outs.items) (drop l.i l.kids.items)
-      ≡ numbered_branches (length l.initial.outs.items) l.initial.kids.items;
-  outs : l.outs.items ++ branches_outs (drop l.i l.kids.items)
-      ≡ l.initial.outs.items ++ branches_outs l.initial.kids.items;
-  left : goal.unvisited-number_output-loop-i l;
+abbrev pub invariant-number_outputs-loop-i : goal.invariant-number_outputs-loop-i
+invariant-number_outputs-loop-i l = record {
+  numbered : AreNumbered (λ (os : List Output). map twig os) numbered_twig after_twig twig_outs
+      l.fn.outputs.items l.outputs.items l.fn.outs.items l.outs.items l.i;
+  left : goal.unvisited-number_outputs-loop-i l;
 }

@@ -1,82 +1,88 @@
-use Rattle.std.proofs.Common.{◌≡◌, true, false, List, rules, refl, sym, ap, ◌∙◌, arith, length-set}
+use Rattle.std.proofs.Common.{rules, List, map, sym, ap, ◌∙◌, arith}
 use Rattle.graph_laws.specs.of_exec_graph.Forests.{Branch, grown}
 use Rattle.graph_laws.specs.of_exec_graph.Twigs.{twig}
+use Rattle.graph_laws.specs.of_exec_graph.declared.step.Output.{Output}
 use Rattle.graph_walks.specs.inner.Plants.{on_branch, on_twig, put_branch, put_twig, put_twigs}
-use Rattle.graph_walks.proofs.PlantTurns.{no_all, no_next, none_all, none_next, on_found, one_found, step_found, step_next, step_off, step_on, steps_all, steps_found, steps_next, twig_on, twig_put, twigs_all, twigs_found, twigs_next}
+use Rattle.graph_walks.proofs.Falling.{more_fall}
+use Rattle.graph_walks.proofs.InPlace.{as_held, as_twigs}
+use Rattle.graph_walks.proofs.PlantTurns.{none_passed, passed_here, passed_next, passed_none, step_found, step_next, step_off, step_on, twig_on, twig_put}
 use Rattle.graph_walks.proofs.Relabeling.{held}
 use Rattle.graph_walks.proofs.planting.+put.Goals as goal
 
-pub put_output-loop-i-preserved : goal.put_output-loop-i-preserved
-put_output-loop-i-preserved t c =
-    let l = c.loop-i in
-    let j = c.args.output in
-    let k = c.args.keep in
-    let g = grown c.args.others.now.items in
-    let bs = l.kids.items in
-    let b = c.index_mut.result.now in
-    let y = c.put_step.new.step in
-    let no : on_branch j b ≡ false = sym c.in_ok-put_step.ensures.found ∙ c.if-branch.false in
-    let e : y ≡ put_branch j k g b = c.in_ok-put_step.ensures.step
-    ∙ ap (λ (os : List Branch). put_branch j k (grown os) b) l.invariant.others in record {
-      same = length-set _ _ _ ∙ l.invariant.same;
-      others = c.in_ok-put_step.ensures.others c.if-branch.false ∙ l.invariant.others;
-      found = none_next j k g bs l.i b y (search rules) c.index_mut.ensures.value e no
-          ∙ l.invariant.found;
-      steps = steps_next j k g bs l.i b y (search rules) c.index_mut.ensures.value e no
-          ∙ l.invariant.steps;
-      left = search rules;
+pub put_steps-loop-i-init : goal.put_steps-loop-i-init
+put_steps-loop-i-init t c = record {
+  passed = passed_none (λ (bs : List Branch). bs) (λ (b : Branch). b) as_held
+      (on_branch c.args.output)
+      (λ (bs : List Branch). put_branch c.args.output c.args.keep (grown bs))
+      c.args.steps.now.items c.args.others.now.items;
+  left = search rules;
+}
+
+pub put_steps-loop-i-preserved : goal.put_steps-loop-i-preserved
+put_steps-loop-i-preserved t c = record {
+  passed = passed_next (λ (bs : List Branch). bs) (λ (b : Branch). b) as_held
+      c.loop-i.invariant.passed c.index_mut.result.now c.put_step.new.step _ (search rules)
+      c.index_mut.ensures.value c.in_ok-put_step.ensures.found c.in_ok-put_step.ensures.step _
+      c.if-branch.false (c.in_ok-put_step.ensures.others c.if-branch.false);
+  left = search rules;
+}
+
+pub put_steps-returns-then-branch : goal.put_steps-returns-then-branch
+put_steps-returns-then-branch t c =
+    let here = passed_here (λ (bs : List Branch). bs) (λ (b : Branch). b) as_held
+    c.loop-i.invariant.passed c.index_mut.result.now c.put_step.new.step _ (search rules)
+    c.index_mut.ensures.value c.in_ok-put_step.ensures.found c.in_ok-put_step.ensures.step
+    c.if-branch.true in record {
+      found = here.0;
+      steps = here.1;
+      others = search rules;
     }
 
-pub put_outputs-loop-i-preserved : goal.put_outputs-loop-i-preserved
-put_outputs-loop-i-preserved t c =
-    let l = c.loop-i in
-    let j = c.args.output in
-    let k = c.args.keep in
-    let g = grown c.args.others.now.items in
-    let os = l.outputs.items in
-    let o = c.index_mut.result.now in
-    let y = c.put_output.new.one in
-    let no : on_twig j (twig o) ≡ false =
-    sym c.in_ok-put_output.ensures.found ∙ c.if-branch.false in
-    let e : twig y ≡ put_twig j k g (twig o) = c.in_ok-put_output.ensures.output
-    ∙ ap (λ (os : List Branch). put_twig j k (grown os) (twig o)) l.invariant.others in record {
-      same = length-set _ _ _ ∙ l.invariant.same;
-      others = c.in_ok-put_output.ensures.others c.if-branch.false ∙ l.invariant.others;
-      found = no_next j k g os l.i o y (search rules) c.index_mut.ensures.value e no
-          ∙ l.invariant.found;
-      outputs = twigs_next j k g os l.i o y (search rules) c.index_mut.ensures.value e no
-          ∙ l.invariant.outputs;
-      left = search rules;
+pub put_steps-returns : goal.put_steps-returns
+put_steps-returns t c =
+    let none = none_passed (λ (bs : List Branch). bs) (λ (b : Branch). b) as_held
+    c.loop-i.invariant.passed (omega arith) in record {
+      found = none.0;
+      steps = none.1;
+      others = λ _. c.loop-i.invariant.passed.kept;
     }
+
+pub put_outputs-loop-i-init : goal.put_outputs-loop-i-init
+put_outputs-loop-i-init t c = record {
+  passed = passed_none (λ (os : List Output). map twig os) twig as_twigs (on_twig c.args.output)
+      (λ (bs : List Branch). put_twig c.args.output c.args.keep (grown bs))
+      c.args.outputs.now.items c.args.others.now.items;
+  left = search rules;
+}
+
+pub put_outputs-loop-i-preserved : goal.put_outputs-loop-i-preserved
+put_outputs-loop-i-preserved t c = record {
+  passed = passed_next (λ (os : List Output). map twig os) twig as_twigs
+      c.loop-i.invariant.passed c.index_mut.result.now c.put_output.new.one _ (search rules)
+      c.index_mut.ensures.value c.in_ok-put_output.ensures.found
+      c.in_ok-put_output.ensures.output _ c.if-branch.false
+      (c.in_ok-put_output.ensures.others c.if-branch.false);
+  left = search rules;
+}
 
 pub put_outputs-returns-then-branch : goal.put_outputs-returns-then-branch
 put_outputs-returns-then-branch t c =
-    let l = c.loop-i in
-    let j = c.args.output in
-    let k = c.args.keep in
-    let g = grown c.args.others.now.items in
-    let os = l.outputs.items in
-    let o = c.index_mut.result.now in
-    let y = c.put_output.new.one in
-    let on = sym c.in_ok-put_output.ensures.found ∙ c.if-branch.true in
-    let e : twig y ≡ put_twig j k g (twig o) = c.in_ok-put_output.ensures.output
-    ∙ ap (λ (os : List Branch). put_twig j k (grown os) (twig o)) l.invariant.others in record {
-      found = on_found j k g os l.i o y (search rules) c.index_mut.ensures.value e on
-          ∙ l.invariant.found;
-      outputs = twigs_found j k g os l.i o y (search rules) c.index_mut.ensures.value e on
-          ∙ l.invariant.outputs;
+    let here = passed_here (λ (os : List Output). map twig os) twig as_twigs
+    c.loop-i.invariant.passed c.index_mut.result.now c.put_output.new.one _ (search rules)
+    c.index_mut.ensures.value c.in_ok-put_output.ensures.found
+    c.in_ok-put_output.ensures.output c.if-branch.true in record {
+      found = here.0;
+      outputs = here.1;
       others = search rules;
     }
 
 pub put_outputs-returns : goal.put_outputs-returns
 put_outputs-returns t c =
-    let l = c.loop-i in
-    let j = c.args.output in
-    let k = c.args.keep in
-    let g = grown c.args.others.now.items in record {
-      found = sym (no_all j k g l.outputs.items l.i (omega arith)) ∙ l.invariant.found;
-      outputs = sym (twigs_all j k g l.outputs.items l.i (omega arith)) ∙ l.invariant.outputs;
-      others = λ _. l.invariant.others;
+    let none = none_passed (λ (os : List Output). map twig os) twig as_twigs
+    c.loop-i.invariant.passed (omega arith) in record {
+      found = none.0;
+      outputs = none.1;
+      others = λ _. c.loop-i.invariant.passed.kept;
     }
 
 pub put_step-returns-then-branch : goal.put_step-returns-then-branch
@@ -108,52 +114,20 @@ put_step-returns t c =
       others = λ e. c.in_ok-found.ensures.others e ∙ same;
     }
 
-pub put_output-returns-then-branch-clause-found
-    : goal.put_output-returns-then-branch-clause-found
-put_output-returns-then-branch-clause-found t c =
-    let l = c.loop-i in
-    let j = c.args.output in
-    let k = c.args.keep in
-    let g = grown c.args.others.now.items in
-    let o = c.args.one.now in
-    let b = c.index_mut.result.now in
-    twig_on j o.number o.kids.items true (sym c.is_out.ensures ∙ c.if-is_out.false)
-    (one_found j k g l.kids.items l.i b (put_branch j k g b) (search rules)
-    c.index_mut.ensures.value refl
-    (sym c.in_ok-put_step.ensures.found ∙ c.if-branch.true) ∙ l.invariant.found)
-
-pub put_output-returns-then-branch-clause-output
-    : goal.put_output-returns-then-branch-clause-output
-put_output-returns-then-branch-clause-output t c =
-    let l = c.loop-i in
-    let j = c.args.output in
-    let k = c.args.keep in
-    let g = grown c.args.others.now.items in
-    let o = c.args.one.now in
-    let b = c.index_mut.result.now in
-    let e = c.in_ok-put_step.ensures.step
-    ∙ ap (λ (os : List Branch). put_branch j k (grown os) b) l.invariant.others in
-    twig_put j k g o.number o.kids.items _ (sym c.is_out.ensures ∙ c.if-is_out.false)
-    (steps_found j k g l.kids.items l.i b c.put_step.new.step (search rules)
-    c.index_mut.ensures.value e
-    (sym c.in_ok-put_step.ensures.found ∙ c.if-branch.true) ∙ l.invariant.steps)
-
 pub put_output-returns-clause-found : goal.put_output-returns-clause-found
 put_output-returns-clause-found t c =
-    let l = c.loop-i in
-    let j = c.args.output in
-    let k = c.args.keep in
-    let g = grown c.args.others.now.items in
     let o = c.args.one.now in
-    twig_on j o.number o.kids.items false (sym c.is_out.ensures ∙ c.if-is_out.false)
-    (sym (none_all j k g l.kids.items l.i (omega arith)) ∙ l.invariant.found)
+    twig_on c.args.output o.number o.kids.items _ (sym c.is_out.ensures ∙ c.if-is_out.false)
+    c.in_ok-found.ensures.found
 
 pub put_output-returns-clause-output : goal.put_output-returns-clause-output
 put_output-returns-clause-output t c =
-    let l = c.loop-i in
-    let j = c.args.output in
-    let k = c.args.keep in
-    let g = grown c.args.others.now.items in
     let o = c.args.one.now in
-    twig_put j k g o.number o.kids.items _ (sym c.is_out.ensures ∙ c.if-is_out.false)
-    (sym (steps_all j k g l.kids.items l.i (omega arith)) ∙ l.invariant.steps)
+    twig_put c.args.output c.args.keep (grown c.args.others.now.items) o.number o.kids.items _
+    (sym c.is_out.ensures ∙ c.if-is_out.false) c.in_ok-found.ensures.steps
+
+pub put_step-put_outputs-requires : goal.put_step-put_outputs-requires
+put_step-put_outputs-requires t c = (
+  omega (arith, c.decreases, more_fall c.step.inside _ c.step.view_is),
+  tt,
+)

@@ -1,26 +1,15 @@
-use Rattle.std.proofs.Common.{◌≡◌, ◌<◌, ◌∷◌, [], length, arith}
-use Rattle.kept_results.proofs.Steps.{flag_read, pushed_by, told_all, told_next}
+use Rattle.std.proofs.Common.{arith}
+use Rattle.kept_results.proofs.Steps.{flagged_next, told_all}
 use Rattle.script_program.specs.Rested.{rested_names, rests}
 use Rattle.kept_results.proofs.names.rested_names.Goals as goal
 
 pub loop-number-preserved : goal.loop-number-preserved
 loop-number-preserved c =
     let script = c.args.program.now.script in
-    let below : c.loop-number.number < length script.nodes = omega arith in
-    let number = c.loop-number.number in
-    let old = c.loop-number.names in
-    let new = c.push_rested.new.names in
-    let flags = c.in_ok-flags.flags.items in
-    let within : number < length flags = omega (arith, below, c.in_ok-flags.ensures.many) in
-    let flag : c.index.result.now ≡ rests script c.args.asked number =
-    flag_read flags number c.index.result.now (rests script c.args.asked number) within
-    c.index.ensures (c.in_ok-flags.ensures.told number within) in
-    told_next script.nodes (rests script c.args.asked) (λ it. it.1.0) old new
-    (rested_names script c.args.asked) number below
-    (λ entry at.
-    pushed_by old new (entry.0 ∷ []) c.index.result.now (rests script c.args.asked number) flag
-    (c.in_ok-push_rested.ensures entry at))
-    c.loop-number.invariant
+    flagged_next script.nodes (rests script c.args.asked) (λ it. it.1.0) c.in_ok-flags.flags.items
+    c.loop-number.names c.push_rested.new.names (rested_names script c.args.asked)
+    c.loop-number.number c.index.result.now (omega arith) c.in_ok-flags.ensures.many
+    c.in_ok-flags.ensures.told c.index.ensures c.in_ok-push_rested.ensures c.loop-number.invariant
 
 pub returns : goal.returns
 returns c =

@@ -68,17 +68,13 @@ returns-clause-bounds c = λ sources below kinds.
 
 pub returns-clause-object_free : goal.returns-clause-object_free
 returns-clause-object_free c = λ free.
-    let b : Blocked = c.in_ok-blocked.blocked in
-    let can : IsFusible b =
-    fusible c.args.graph c.in_ok-sunk.sunk c.in_ok-lifted.lifted b
+    subst (λ (x : Blocked). IsObjectFree x.graph) (sym c.in_ok-fused.ensures.fused)
+    (c.object_free_law.ensures.fused c.in_ok-blocked.blocked
+    (fusible c.args.graph c.in_ok-sunk.sunk c.in_ok-lifted.lifted c.in_ok-blocked.blocked
     c.in_ok-blocked.ensures.well_formed c.in_ok-blocked.ensures.same
     c.in_ok-lifted.ensures.lifted c.in_ok-sunk.ensures.steps c.in_ok-lifted.ensures.unfused
-    c.requires.unfused c.requires.narrow in
-    let sunk : IsObjectFree c.in_ok-sunk.sunk =
-    c.object_free_law.ensures.sunk c.args.graph c.in_ok-sunk.sunk c.in_ok-sunk.ensures.sunk free in
-    let raised : IsObjectFree c.in_ok-lifted.lifted =
-    subst IsObjectFree (sym c.in_ok-lifted.ensures.lifted)
-    (c.object_free_law.ensures.lifted c.in_ok-sunk.sunk sunk) in
-    subst (λ (x : Blocked). IsObjectFree x.graph) (sym c.in_ok-fused.ensures.fused)
-    (c.object_free_law.ensures.fused b can
-    (subst IsObjectFree (sym c.in_ok-blocked.ensures.same) raised))
+    c.requires.unfused c.requires.narrow)
+    (subst IsObjectFree (sym c.in_ok-blocked.ensures.same)
+    (subst IsObjectFree (sym c.in_ok-lifted.ensures.lifted)
+    (c.object_free_law.ensures.lifted c.in_ok-sunk.sunk (c.object_free_law.ensures.sunk
+    c.args.graph c.in_ok-sunk.sunk c.in_ok-sunk.ensures.sunk free)))))

@@ -1,12 +1,11 @@
-use Rattle.std.proofs.Common.{◌∙◌, ap, subst, sym}
+use Rattle.std.proofs.Common.{◌∙◌, ap, subst}
 use Rattle.std.specs.Prelude.{IfOk}
 use Rattle.std.proofs.lemmas.Result.{IfOk-weaker}
 use Rattle.exec_graph.specs.declared.graph.Graph.{Graph}
 use Rattle.exec_graph.specs.Typing.{IsTyped, Signatures}
-use Rattle.exec_graph.specs.Wellformed.{IsGraphOk}
 use Rattle.exec_graph.specs.World.{World}
 use Rattle.exec_plan.specs.Typing.{IsPlanTyped}
-use Rattle.script_plans.specs.of_optimise.Optimised.{CanOptimise, source_count}
+use Rattle.script_plans.specs.of_optimise.Optimised.{source_count}
 use Rattle.plan_tracing.specs.of_plan_check.Checked.{IsChecked}
 use Rattle.plan_laws.specs.Operations.{SamePlan}
 use Rattle.plan_texts.specs.Texts.{naming_of}
@@ -17,10 +16,8 @@ use Rattle.outer_plans.proofs.taken.taken_plan.Goals as goal
 
 pub check_plan-requires : goal.check_plan-requires
 check_plan-requires c =
-    subst CanOptimise (sym c.requires.built) (can_optimise c.args.program.now.script
-    c.requires.well_formed (subst IsGraphOk c.requires.built c.requires.ok)
-    (c.one_step_law.ensures.unfused c.args.program.now.script)
-    (c.one_step_law.ensures.narrow c.args.program.now.script c.requires.well_formed))
+    can_optimise c.args.program.now.script c.args.graph c.requires.well_formed c.requires.built
+    c.requires.ok c.one_step_law.ensures.unfused c.one_step_law.ensures.narrow
 
 pub returns-clause-answer : goal.returns-clause-answer
 returns-clause-answer c =

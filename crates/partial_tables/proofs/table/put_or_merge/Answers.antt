@@ -21,8 +21,8 @@ merge_behind-requires-clause-slot c =
     c.index_mut.ensures.value))
     c.requires.shape
 
-pub returns-in-Ok : goal.returns-in-Ok
-returns-in-Ok c =
+pub returns-in_ok-merge_behind-in-Some : goal.returns-in_ok-merge_behind-in-Some
+returns-in_ok-merge_behind-in-Some c =
     let slot = slot_is c.args.key c.args.acc c.index_mut.result.now c.args.table.now.entries
     c.in-Ok.at c.insert_full.new.self.entries c.in-Ok.ensures.index c.in-Ok.ensures.entries
     c.index_mut.ensures.value in

@@ -1,6 +1,5 @@
 use Rattle.std.proofs.Common.{ℕ, ◌<◌, ◌^◌, sym, ap, ◌∙◌, subst}
 use Rattle.exec_graph.specs.declared.graph.Graph.{Graph}
-use Rattle.exec_plan.specs.ObjectFree.{IsPlanObjectFree}
 use Rattle.optimise.specs.of_form_laws.Formed.{IsFormed}
 use Rattle.optimise.specs.Optimised.{source_count}
 use Rattle.graph_rewrites.specs.of_plan_rules.Fitting.{HasSourcesBelow}
@@ -46,12 +45,9 @@ returns-clause-types c = λ s typed.
 
 pub returns-clause-object_free : goal.returns-clause-object_free
 returns-clause-object_free c = λ free.
-    let formed = c.in_ok-plan.ensures.formed in
-    let last : Graph = c.in-Ok.blocked.graph in
-    subst IsPlanObjectFree (sym formed.plan)
-    (c.object_free_law.ensures c.in_ok-sources.sources last formed.operations
-    (c.replay_law.ensures.object_free c.args.rewrites.now c.args.graph
-    c.in-Ok.blocked c.in-Ok.ensures free))
+    c.in_ok-plan.ensures.object_free
+    (c.replay_law.ensures.object_free c.args.rewrites.now c.args.graph c.in-Ok.blocked
+    c.in-Ok.ensures free)
 
 pub returns-in-Err-clause-formed : goal.returns-in-Err-clause-formed
 returns-in-Err-clause-formed c =

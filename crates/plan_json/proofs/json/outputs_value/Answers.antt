@@ -1,4 +1,4 @@
-use Rattle.std.proofs.Common.{◌<◌, ◌≤◌, ◌++◌, [], List, length, map, min, get_or, arith, sym, ap, ◌∙◌, append-nil}
+use Rattle.std.proofs.Common.{◌≤◌, ◌++◌, List, length, map, min, arith, sym, ap, ◌∙◌, append-nil}
 use Rattle.std.proofs.lemmas.Option.{slice_get-get_or}
 use Rattle.serde_json.specs.Data.{Data, array}
 use Rattle.serde_json.specs.View.{items_of, view}
@@ -11,16 +11,10 @@ use Rattle.plan_json.proofs.json.outputs_value.Goals as goal
 
 pub loop-number-preserved : goal.loop-number-preserved
 loop-number-preserved g c =
-    let outputs : List Written = (g.N.Names.naming c.args.names.now).outputs in
-    let below : c.loop-number.number < length outputs = omega arith in
-    let within : c.loop-number.number < length c.args.places.now = omega arith in
-    let none : Written = record { name = []; file = [] } in
-    let here = slice_get-get_or outputs c.loop-number.number none below in
-    values_next output_json view c.loop-number.values.items c.push.new.self.items _ outputs
-    c.args.places.now c.loop-number.number (get_or outputs c.loop-number.number none) _ _ here
-    (slice_get-get_or c.args.places.now c.loop-number.number _ within)
-    (c.in_ok-output_value.ensures (get_or outputs c.loop-number.number none) here)
-    c.in_ok-push.ensures.items c.loop-number.invariant
+    values_next output_json view c.loop-number.values.items c.push.new.self.items _
+    (g.N.Names.naming c.args.names.now).outputs c.args.places.now c.loop-number.number _ _
+    (omega arith) (slice_get-get_or c.args.places.now c.loop-number.number _ (omega arith))
+    c.in_ok-output_value.ensures c.in_ok-push.ensures.items c.loop-number.invariant
 
 pub returns : goal.returns
 returns g c =

@@ -1,18 +1,12 @@
-use Rattle.std.proofs.Common.{◌≡◌, ℕ, List, false, Result, Ok, Err, ap, ◌∙◌}
-use Rattle.std.specs.Prelude.{IfOk}
-use Rattle.serde_json.specs.Data.{Data}
+use Rattle.std.proofs.Common.{ap, ◌∙◌}
+use Rattle.std.proofs.lemmas.Result.{IfOk-weaker}
 use Rattle.serde_json.specs.Written.{compact_text, has_float}
 use Rattle.plan_json.proofs.Floats.{plan_whole}
 use Rattle.plan_json.proofs.json.plan_json.Goals as goal
 
--- the text of a value without floats, under another name of the value
-written : {V E : Type 0} (items : V → List ℕ) (r : Result V E) (d e : Data) → d ≡ e
-    → has_float e ≡ false → IfOk r (λ v. has_float d ≡ false → items v ≡ compact_text d)
-    → IfOk r (λ v. items v ≡ compact_text e)
-written items (Ok v) d e same whole h = h (ap has_float same ∙ whole) ∙ ap compact_text same
-written items (Err x) d e same whole h = tt
-
 pub returns : goal.returns
 returns g c =
-    written (λ v. v.items) c.to_vec.result _ _ c.in_ok-plan_value.ensures
-    (plan_whole (g.N.Names.naming c.args.names.now) c.args.plan.now) c.to_vec.ensures.text
+    let same = c.in_ok-plan_value.ensures in
+    let whole = plan_whole (g.N.Names.naming c.args.names.now) c.args.plan.now in
+    IfOk-weaker c.to_vec.result _ _ (λ text h. h (ap has_float same ∙ whole) ∙ ap compact_text same)
+    c.to_vec.ensures.text

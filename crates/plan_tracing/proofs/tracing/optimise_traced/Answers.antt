@@ -3,7 +3,7 @@ use Rattle.std.specs.List.{AllByRecursion}
 use Rattle.graph_tracing.specs.of_form_laws.Formed.{IsFormed}
 use Rattle.plan_check.specs.of_optimise.Optimised.{source_count}
 use Rattle.plan_check.proofs.Narrow.{narrow_forests}
-use Rattle.plan_file_law.specs.of_plan_files.Written.{IsSmall}
+use Rattle.plan_file_law.specs.of_plan_files.Written.{HasSmallNumbers}
 use Rattle.graph_rewrites.specs.of_plan_rules.Fitting.{HasSourcesBelow}
 use Rattle.plan_tracing.proofs.Refined.{forms, optimised}
 use Rattle.plan_tracing.proofs.tracing.optimise_traced.Goals as goal
@@ -47,4 +47,4 @@ returns-clause-order c = c.in_ok-refined.ensures.marked.order
 
 pub returns-clause-small : goal.returns-clause-small
 returns-clause-small c =
-    subst (AllByRecursion IsSmall) c.as_slice-2.ensures c.are_small.ensures
+    subst (AllByRecursion HasSmallNumbers) c.as_slice-2.ensures c.are_small.ensures

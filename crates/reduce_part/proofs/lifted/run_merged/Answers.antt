@@ -1,14 +1,13 @@
-use Rattle.std.proofs.Common.{◌≡◌, ℕ, length, map, sym, ap, ◌∙◌, subst}
+use Rattle.std.proofs.Common.{◌≡◌, length, map, sym, ap, ◌∙◌, subst}
 use borrow.Author.Rules.{rules}
 use Rattle.std.specs.Prelude.{IfOk}
 use Rattle.std.specs.List.{AllByRecursion}
 use Rattle.std.proofs.lemmas.List.{length-map}
 use Rattle.partial_tables.specs.Tables.{Pairs}
-use Rattle.crew.specs.Attempts.{IsMadeOf}
-use Rattle.crew.specs.Drills.{attempt_at}
+use Rattle.crew.specs.Attempts.{MadeHas}
 use Rattle.forest_steps.specs.Functions.{world_of}
 use Rattle.forest_steps.specs.Turns.{in_turn}
-use Rattle.forest_run.specs.Asked.{Asked}
+use Rattle.forest_run.proofs.Asking.{asked_at}
 use Rattle.lifted_root.specs.Lifted.{run_partial, SafePartial}
 use Rattle.reduce_part.proofs.Merging.{courses_merged, root_is, safe_merged}
 use Rattle.reduce_part.proofs.lifted.run_merged.Goals as goal
@@ -37,18 +36,12 @@ returns-clause-value g c =
     courses_merged w c.args.comb c.args.roots.now b root c.args.merged.items sizes begun.outputs
     (c.deref.ensures.value ∙ begun.ensures.sizes) begun.ensures.fresh begun.ensures.few
     c.requires.numbered c.walk.result
-    (subst (λ (l : Pairs). IfOk c.walk.result (IsMadeOf (λ end.
+    (subst (λ (l : Pairs). IfOk c.walk.result (MadeHas (λ end.
     in_turn (map (run_partial w sizes b c.args.comb) l) begun.outputs ≡ end))) all
     c.walk.ensures.value)
 
 pub returns-clause-asked : goal.returns-clause-asked
 returns-clause-asked g c =
-    let w = world_of (g.F.Functions.called c.args.functions.now) in
-    let e = attempt_at c.args.spot.now c.args.task in
-    let a = g.H.Host.account c.args.host.now in
-    let b = g.H.Host.account c.walk.new.host in
     let all : c.into_iter.result.rest.items ≡ c.args.merged.items = search rules in
-    subst (λ (n : ℕ). Asked e n a b c.walk.result)
-    (length-map c.into_iter.result.rest.items
-    (run_partial w c.deref.result.now c.index-steps-0.result c.args.comb) ∙ ap length all)
+    asked_at _ _ _ _ _ c.walk.result (length-map c.into_iter.result.rest.items _ ∙ ap length all)
     c.walk.ensures.asked

@@ -1,8 +1,6 @@
-use Rattle.std.proofs.Common.{subst}
-use Rattle.crew.specs.Drills.{attempt_at}
-use Rattle.forest_run.specs.Asked.{Asked}
+use Rattle.forest_run.proofs.Asking.{asked_at}
 use Rattle.forest_steps.specs.Functions.{world_of}
-use Rattle.reduce_part.proofs.Gathering.{all_reduced, can_run, count_gathered, count_merged, groups_reduced, merged_has_shape, pairs_gathered, partials_gathered, safe_groups, shape_gathered}
+use Rattle.reduce_part.proofs.Gathering.{all_reduced, can_run, count_gathered, count_merged, groups_reduced, merged_has_shape, pairs_gathered, safe_groups, shape_gathered}
 use Rattle.reduce_part.proofs.reduce.reduce_partition.Goals as goal
 
 -- ---- a channel that is not lifted
@@ -32,10 +30,7 @@ returns-in_ok-groups-in-None-default-clause-value g c =
 pub returns-in_ok-groups-in-None-default-clause-asked :
     goal.returns-in_ok-groups-in-None-default-clause-asked
 returns-in_ok-groups-in-None-default-clause-asked g c pairs gathered =
-    let e = attempt_at c.args.spot.now c.args.task in
-    let a = g.H.Host.account c.args.host.now in
-    let b = g.H.Host.account c.reduce_groups.new.host in
-    subst (λ n. Asked e n a b c.reduce_groups.result)
+    asked_at _ _ _ _ _ c.reduce_groups.result
     (count_gathered c.args.outs.now c.args.channel c.args.partition c.args.grouping.now
     c.in-None-default.is-0 c.in_ok-groups-in-None-default.groups.items
     c.in_ok-groups-in-None-default.ensures pairs gathered) c.reduce_groups.ensures.asked
@@ -50,52 +45,25 @@ merge_gathered-requires g c =
 
 pub reduce_merged-requires-clause-shape : goal.reduce_merged-requires-clause-shape
 reduce_merged-requires-clause-shape g c =
-    let found = partials_gathered (world_of (g.F.Functions.called c.args.functions.now))
-    (g.F.Functions.can_call c.args.functions.now) c.args.outs.now c.args.channel
-    c.args.partition c.args.grouping.now c.in-Some-Some.comb c.in-Some-Some.is-0
-    c.requires.ready in
-    let merged = c.in_ok-merged-in-Some-Some in
-    merged_has_shape c.in-Some-Some.comb found.0 merged.merged.items
-    (merged.ensures found.0 found.1)
+    merged_has_shape (g.F.Functions.called c.args.functions.now) _ _ _ _ _ _ _ c.in-Some-Some.is-0
+    c.in-Some-Some.is-1 _ c.requires.ready c.in_ok-merged-in-Some-Some.ensures
 
 pub reduce_merged-requires-clause-ready : goal.reduce_merged-requires-clause-ready
 reduce_merged-requires-clause-ready g c =
-    let it = c.in-Some-Some in
-    let merged = c.in_ok-merged-in-Some-Some in
-    let found = partials_gathered (world_of (g.F.Functions.called c.args.functions.now))
-    (g.F.Functions.can_call c.args.functions.now) c.args.outs.now c.args.channel
-    c.args.partition c.args.grouping.now it.comb it.is-0 c.requires.ready in
-    can_run (g.F.Functions.called c.args.functions.now) c.args.outs.now c.args.channel
-    c.args.partition c.args.grouping.now it.comb it.roots merged.merged.items it.is-0 it.is-1
-    found.0 found.1 (merged.ensures found.0 found.1)
-    (g.F.Functions.can_call c.args.functions.now) c.requires.ready
+    can_run (g.F.Functions.called c.args.functions.now) _ _ _ _ _ _ _ c.in-Some-Some.is-0
+    c.in-Some-Some.is-1 _ c.requires.ready c.in_ok-merged-in-Some-Some.ensures
 
 pub returns-in_ok-merged-in-Some-Some-clause-value :
     goal.returns-in_ok-merged-in-Some-Some-clause-value
 returns-in_ok-merged-in-Some-Some-clause-value g c =
-    let it = c.in-Some-Some in
-    let merged = c.in_ok-merged-in-Some-Some in
-    let found = partials_gathered (world_of (g.F.Functions.called c.args.functions.now))
-    (g.F.Functions.can_call c.args.functions.now) c.args.outs.now c.args.channel
-    c.args.partition c.args.grouping.now it.comb it.is-0 c.requires.ready in
-    all_reduced (g.F.Functions.called c.args.functions.now) c.args.outs.now c.args.channel
-    c.args.partition c.args.grouping.now it.comb it.roots merged.merged.items it.is-0 it.is-1
-    found.0 found.1 (merged.ensures found.0 found.1) c.reduce_merged.result
-    c.reduce_merged.ensures.value
+    all_reduced (g.F.Functions.called c.args.functions.now) _ _ _ _ _ _ _ c.in-Some-Some.is-0
+    c.in-Some-Some.is-1 _ c.requires.ready c.in_ok-merged-in-Some-Some.ensures
+    c.reduce_merged.result c.reduce_merged.ensures.value
 
 pub returns-in_ok-merged-in-Some-Some-clause-asked :
     goal.returns-in_ok-merged-in-Some-Some-clause-asked
 returns-in_ok-merged-in-Some-Some-clause-asked g c pairs gathered =
-    let it = c.in-Some-Some in
-    let merged = c.in_ok-merged-in-Some-Some in
-    let found = partials_gathered (world_of (g.F.Functions.called c.args.functions.now))
-    (g.F.Functions.can_call c.args.functions.now) c.args.outs.now c.args.channel
-    c.args.partition c.args.grouping.now it.comb it.is-0 c.requires.ready in
-    let e = attempt_at c.args.spot.now c.args.task in
-    let a = g.H.Host.account c.args.host.now in
-    let b = g.H.Host.account c.reduce_merged.new.host in
-    subst (λ n. Asked e n a b c.reduce_merged.result)
-    (count_merged (g.F.Functions.called c.args.functions.now) c.args.outs.now c.args.channel
-    c.args.partition c.args.grouping.now it.comb it.roots merged.merged.items it.is-0 it.is-1
-    found.0 found.1 (merged.ensures found.0 found.1) pairs gathered)
+    asked_at _ _ _ _ _ c.reduce_merged.result
+    (count_merged (g.F.Functions.called c.args.functions.now) _ _ _ _ _ _ _ c.in-Some-Some.is-0
+    c.in-Some-Some.is-1 _ c.requires.ready c.in_ok-merged-in-Some-Some.ensures pairs gathered)
     c.reduce_merged.ensures.asked

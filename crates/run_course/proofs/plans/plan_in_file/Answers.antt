@@ -15,18 +15,18 @@ returns-in_err-bytes-clause-stop g c =
 
 pub returns-clause-plan : goal.returns-clause-plan
 returns-clause-plan g c =
-    IfOk-weaker c.taken_shown.result _ _ (λ it taken. (
+    IfOk-weaker c.taken_shown-shown.result _ _ (λ it taken. (
       c.in_ok-bytes.bytes.items,
       c.in_ok-bytes.ensures.ok,
       subst (λ (l : List ℕ). IsTaken c.args.program.now.script l it.plan) c.as_slice.ensures.value
           taken,
-    )) c.taken_shown.ensures.taken
+    )) c.taken_shown-shown.ensures.taken
 
 pub returns-clause-stop : goal.returns-clause-stop
 returns-clause-stop g c =
-    IfErr-weaker c.taken_shown.result _ _ (λ status stops.
+    IfErr-weaker c.taken_shown-shown.result _ _ (λ status stops.
     file_taken c.args.tries (g.R.Source.seen c.args.source.now)
     (g.R.Source.seen c.plan_bytes.new.source) c.args.program.now.script
     c.args.name.now c.in_ok-bytes.bytes.items status c.in_ok-bytes.ensures.ok
     (subst (λ (l : List ℕ). IsTakingStop c.args.program.now.script l status)
-    c.as_slice.ensures.value stops)) c.taken_shown.ensures.stop
+    c.as_slice.ensures.value stops)) c.taken_shown-shown.ensures.stop

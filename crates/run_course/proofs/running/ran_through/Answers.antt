@@ -16,9 +16,9 @@ trapped-requires g c =
     = lent s (map g.H.Host.account c.ran_on.new.hosts) in
     record {
       within = rw c.as_program-held.ensures.is
-          (within s script c.args.inputs c.args.plan.now olds news c.in-Err-Trap.trap
+          (within s script c.args.inputs c.args.plan.now olds news c.in-Trap.trap
           (subst
           (λ (f : RunFault).
           IsRunFault s script c.args.inputs c.args.plan.now olds news f)
-          c.in-Err-Trap.field-0-is c.in-Err-Trap.ensures.fault));
+          c.in-Trap.is c.in-Err.ensures.fault));
     }

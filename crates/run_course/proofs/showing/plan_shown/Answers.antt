@@ -1,8 +1,8 @@
 use Rattle.script_loading.specs.of_build_law.Signatures.{signatures_of}
 use Rattle.run_course.proofs.showing.plan_shown.Goals as goal
 
-pub returns-clause-of_script : goal.returns-clause-of_script
-returns-clause-of_script c =
+pub returns-in-Ok-clause-of_script : goal.returns-in-Ok-clause-of_script
+returns-in-Ok-clause-of_script c =
     let held = c.as_program-held in
     let script = held.result.now.script in
     rw (← held.ensures.is)

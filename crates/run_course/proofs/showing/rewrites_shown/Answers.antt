@@ -13,9 +13,10 @@ returns c =
     let script = held.result.now.script in
     let plan = c.in_ok-traced.traced.plan in
     subst
-    (λ (p : Numbered). IfOk c.traced_text.result (λ text. ShowsPlan Rewrites p.script text.items))
+    (λ (p : Numbered). IfOk c.traced_text-text.result
+    (λ text. ShowsPlan Rewrites p.script text.items))
     held.ensures.is
-    (IfOk-weaker c.traced_text.result _ _ (λ text shown. (
+    (IfOk-weaker c.traced_text-text.result _ _ (λ text shown. (
       plan,
       c.in_ok-traced.traced.rewrites,
       c.in_ok-traced.ensures.optimised,
@@ -24,4 +25,4 @@ returns c =
           (c.line_law.ensures script c.in_ok-traced.traced.rewrites plan
           c.in_ok-traced.ensures.small c.in_ok-traced.ensures.leads),
       shown,
-    )) c.traced_text.ensures)
+    )) c.traced_text-text.ensures)

@@ -18,6 +18,8 @@ loop-number-preserved c =
     let members = c.args.members.now in
     let numbers = c.args.numbers.now in
     let counts = c.args.counts.now in
+    let sized = sized_as members numbers counts in
+    let along = sizes_along script members numbers counts in
     let n = c.loop-number.number in
     let sizes = c.loop-number.sizes.items in
     let here = c.loop-number.invariant in
@@ -27,16 +29,16 @@ loop-number-preserved c =
       | then-is_needed w ↦
           let mk = w.node.result.now.made in
           let size = w.size_of-size.result in
-          let is : size ≡ sized_as members numbers counts n mk c.loop-number.source sizes
+          let is : size ≡ sized n mk c.loop-number.source sizes
           = w.size_of-size.ensures
-          ∙ ap (sized_as members numbers counts n mk c.loop-number.source)
+          ∙ ap (sized n mk c.loop-number.source)
           w.as_slice.ensures.value in
           record {
             count = count;
             sources = subst (λ k. k ≤ n + 1) (sym (w.source-is ∙ w.behind-source.ensures))
                 (few_behind mk c.loop-number.source n here.sources);
             ahead =
-                (λ i. sizes_along script members numbers counts (drop (n + 1) script.nodes)
+                (λ i. along (drop (n + 1) script.nodes)
                 ((w.source-is ∙ w.behind-source.ensures) i)
                 ((c.in_ok-push.ensures.items ∙ (λ j. sizes ++ w.size-is j ∷ [])) i))
                 ∙ on_taken script members numbers counts script.nodes n c.loop-number.source sizes
@@ -50,7 +52,7 @@ loop-number-preserved c =
             count = count;
             sources = subst (λ k. k ≤ n + 1) (sym w.source-is) (omega (arith, here.sources));
             ahead =
-                (λ i. sizes_along script members numbers counts (drop (n + 1) script.nodes)
+                (λ i. along (drop (n + 1) script.nodes)
                 (w.source-is i)
                 ((c.in_ok-push.ensures.items ∙ (λ j. sizes ++ w.size-is j ∷ [])) i))
                 ∙ on_passed script members numbers counts script.nodes n c.loop-number.source sizes

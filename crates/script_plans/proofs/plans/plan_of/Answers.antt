@@ -1,10 +1,9 @@
-use Rattle.std.proofs.Common.{◌≡◌, ◌∙◌, subst, sym}
+use Rattle.std.proofs.Common.{◌≡◌, ◌∙◌, subst}
 use Rattle.exec_graph.specs.declared.graph.Graph.{Graph}
 use Rattle.exec_graph.specs.Typing.{IsTyped, Signatures}
-use Rattle.exec_graph.specs.Wellformed.{IsGraphOk}
 use Rattle.exec_graph.specs.World.{World}
 use Rattle.exec_plan.specs.Typing.{IsPlanTyped}
-use Rattle.optimise.specs.Optimised.{CanOptimise, source_count}
+use Rattle.optimise.specs.Optimised.{source_count}
 use Rattle.plan_laws.specs.Operations.{SamePlan}
 use Rattle.script_plans.proofs.Planned.{can_optimise}
 use Rattle.script_plans.proofs.Sourced.{sources_counted}
@@ -12,10 +11,8 @@ use Rattle.script_plans.proofs.plans.plan_of.Goals as goal
 
 pub optimise-requires : goal.optimise-requires
 optimise-requires c =
-    subst CanOptimise (sym c.requires.built) (can_optimise c.args.program.now.script
-    c.requires.well_formed (subst IsGraphOk c.requires.built c.requires.ok)
-    (c.one_step_law.ensures.unfused c.args.program.now.script)
-    (c.one_step_law.ensures.narrow c.args.program.now.script c.requires.well_formed))
+    can_optimise c.args.program.now.script c.args.graph c.requires.well_formed c.requires.built
+    c.requires.ok c.one_step_law.ensures.unfused c.one_step_law.ensures.narrow
 
 pub returns-clause-same : goal.returns-clause-same
 returns-clause-same c = λ w.

@@ -53,19 +53,18 @@ execute-requires-clause-most g c κs within =
 pub returns-in_err-done-clause-fault : goal.returns-in_err-done-clause-fault
 returns-in_err-done-clause-fault g c =
     let script = c.args.program.now.script in
-    let plan = c.args.plan.now in
-    let w = script_world script c.args.inputs in
     let m =
     c.meaning_law.ensures.well_formed script c.args.inputs c.requires.well_formed
     c.requires.inputs in
-    let is =
-    c.means_law.ensures.well_formed script c.args.inputs m.0 c.requires.well_formed
-    c.requires.short m.1 in
     let end = c.from_residual-in_err-done in
     let p = err_from_is_err_and end.result end.ensures.1 in
     rw (p.1, p.2)
-    (faulted script c.args.inputs c.args.settings.now plan _ _ m.0 m.1
-    (λ trap h. c.plan_law.ensures.among w script plan m.0 trap is (c.requires.plan.same w) h)
+    (faulted script c.args.inputs c.args.settings.now c.args.plan.now _ _ m.0 m.1
+    (λ trap h. c.plan_law.ensures.among (script_world script c.args.inputs) script
+    c.args.plan.now m.0 trap
+    (c.means_law.ensures.well_formed script c.args.inputs m.0 c.requires.well_formed
+    c.requires.short m.1)
+    (c.requires.plan.same (script_world script c.args.inputs)) h)
     c.in_err-done.field-0.0
     (rw (c.new-functions.ensures, c.into_vec-lists.ensures) at c.in_err-done.ensures.fault))
 

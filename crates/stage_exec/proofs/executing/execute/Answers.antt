@@ -68,17 +68,11 @@ returns-in_err-results-clause-asked g c =
 
 pub returns-in_err-outputs-clause-asked : goal.returns-in_err-outputs-clause-asked
 returns-in_err-outputs-clause-asked g c =
-    let s = c.args.settings.now in
-    let w = run_world (g.F.Functions.called c.args.functions.now) c.args.sources.items in
-    let ran = rw c.as_slice-stages.ensures at c.in_ok-results.ensures.ended in
-    asked_all s.tries s.drill (with_tasks (phases w (split_of s) c.args.plan.now)) _ _ _ ran.asked
+    asked_all _ _ _ _ _ _ (rw c.as_slice-stages.ensures at c.in_ok-results.ensures.ended).asked
 
 pub returns-clause-asked : goal.returns-clause-asked
 returns-clause-asked g c =
-    let s = c.args.settings.now in
-    let w = run_world (g.F.Functions.called c.args.functions.now) c.args.sources.items in
-    let ran = rw c.as_slice-stages.ensures at c.in_ok-results.ensures.ended in
-    asked_all s.tries s.drill (with_tasks (phases w (split_of s) c.args.plan.now)) _ _ _ ran.asked
+    asked_all _ _ _ _ _ _ (rw c.as_slice-stages.ensures at c.in_ok-results.ensures.ended).asked
 
 pub returns-clause-done : goal.returns-clause-done
 returns-clause-done g c =

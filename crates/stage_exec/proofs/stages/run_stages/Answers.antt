@@ -119,18 +119,10 @@ loop-k-preserved g c =
 
 pub returns-clause-lists : goal.returns-clause-lists
 returns-clause-lists g c =
-    let inputs = c.args.inputs.now in
-    end_lists inputs.settings.now (g.F.Functions.called inputs.functions.now)
-    (g.F.Functions.can_call inputs.functions.now) c.args.sources.now.items c.args.stages.now
-    c.args.outputs.now c.loop-k.sources.items c.loop-k.k
-    c.loop-k.results.items c.args.sizes.now c.loop-k.sizes _ _ c.args.winners.now.items
-    c.loop-k.winners.items c.loop-k.invariant c.loop-k-test.false
+    end_lists _ (g.F.Functions.called c.args.inputs.now.functions.now) _ c.args.sources.now.items
+    _ _ _ _ _ _ _ _ _ _ _ c.loop-k.invariant c.loop-k-test.false
 
 pub returns-clause-ended : goal.returns-clause-ended
 returns-clause-ended g c =
-    let inputs = c.args.inputs.now in
-    end_run inputs.settings.now (g.F.Functions.called inputs.functions.now)
-    (g.F.Functions.can_call inputs.functions.now) c.args.sources.now.items c.args.stages.now
-    c.args.outputs.now c.loop-k.sources.items c.loop-k.k
-    c.loop-k.results.items c.args.sizes.now c.loop-k.sizes _ _ c.args.winners.now.items
-    c.loop-k.winners.items c.loop-k.invariant c.loop-k-test.false
+    end_run _ (g.F.Functions.called c.args.inputs.now.functions.now) _ c.args.sources.now.items
+    _ _ _ _ _ _ _ _ _ _ _ c.loop-k.invariant c.loop-k-test.false

@@ -45,31 +45,23 @@ outs_of-requires-sync-T g c κs within =
 
 pub returns-clause-outs : goal.returns-clause-outs
 returns-clause-outs g c w e t made =
-    let inputs = c.args.inputs.now in
-    let settings = inputs.settings.now in
-    let stage = c.args.stage.now in
-    let h = c.requires.ready in
-    let reducing = reducing_of inputs.functions.now stage c.args.maps.now settings in
-    let first = c.reducing_law.ensures.first h.ready.sources h.ready.before stage h.ready.ok in
+    let s = c.args.inputs.now.settings.now in
+    let reducing = reducing_of c.args.inputs.now.functions.now c.args.stage.now c.args.maps.now s in
     let values = rw c.reduce_tasks-tasks.ensures.tasks at c.outs_of.ensures.values in
     IfOk-weaker c.outs_of.result _ _
-    (λ outs v. are_reduce_outs reducing w _ e settings.shards t first h.cut.0 h.cut.1 made
-    outs.items v)
+    (λ outs v. are_reduce_outs reducing w _ e s.shards t _ _ c.requires.ready
+    c.reducing_law.ensures.first made outs.items v)
     values
 
 pub returns-clause-ended : goal.returns-clause-ended
 returns-clause-ended g c w e t made =
-    let inputs = c.args.inputs.now in
-    let settings = inputs.settings.now in
-    let stage = c.args.stage.now in
-    let h = c.requires.ready in
-    let reducing = reducing_of inputs.functions.now stage c.args.maps.now settings in
-    let first = c.reducing_law.ensures.first h.ready.sources h.ready.before stage h.ready.ok in
-    let some = some_groupings stage.outputs
+    let s = c.args.inputs.now.settings.now in
+    let reducing = reducing_of c.args.inputs.now.functions.now c.args.stage.now c.args.maps.now s in
+    let some = some_groupings c.args.stage.now.outputs
     (sym c.has_groupings.ensures ∙ c.if-not-has_groupings.false) in
     let ended = rw (c.reduce_tasks-tasks.ensures.tasks, c.phase-phase.ensures.settings)
     at c.outs_of.ensures.ended in
-    rw (one_phase w c.args.number (split_of settings) t stage _ some)
-    (ended w _ (is_reduce_phase reducing w _ e settings.shards t first h.cut.0 h.cut.1 made
-    c.args.number _ refl refl
+    rw (one_phase w c.args.number (split_of s) t c.args.stage.now _ some)
+    (ended w _ (is_reduce_phase reducing w _ e s.shards t _ _ c.requires.ready
+    c.reducing_law.ensures.first made c.args.number _ refl refl
     (λ lifted i p. c.reducing_law.ensures.count lifted c.args.maps.now i p)))

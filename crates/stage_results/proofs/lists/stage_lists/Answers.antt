@@ -64,20 +64,12 @@ loop-channel-preserved c = record {
 
 pub returns-clause-lists : goal.returns-clause-lists
 returns-clause-lists c w shards t some made =
-    let n = split shards c.args.partitions in
-    let s = c.args.stage.now in
-    let items = c.as_slice-channel-items.ensures in
-    let r = c.loop-channel.channel-index in
-    let end : length s.outputs ≤ r = omega (arith, ap length items, c.loop-channel-test.false) in
-    end_lists w n t s r _ _ _ _
-    (c.loop-channel.invariant.along w shards t some made.maps made.reduces) end
+    end_lists w _ t c.args.stage.now c.loop-channel.channel-index _ _ _ _
+    (c.loop-channel.invariant.along w shards t some made.maps made.reduces)
+    (omega (arith, ap length c.as_slice-channel-items.ensures, c.loop-channel-test.false))
 
 pub returns-clause-grown : goal.returns-clause-grown
 returns-clause-grown c w shards t some made =
-    let n = split shards c.args.partitions in
-    let s = c.args.stage.now in
-    let items = c.as_slice-channel-items.ensures in
-    let r = c.loop-channel.channel-index in
-    let end : length s.outputs ≤ r = omega (arith, ap length items, c.loop-channel-test.false) in
-    end_grown w n t s r _ _ _ _
-    (c.loop-channel.invariant.along w shards t some made.maps made.reduces) end
+    end_grown w _ t c.args.stage.now c.loop-channel.channel-index _ _ _ _
+    (c.loop-channel.invariant.along w shards t some made.maps made.reduces)
+    (omega (arith, ap length c.as_slice-channel-items.ensures, c.loop-channel-test.false))

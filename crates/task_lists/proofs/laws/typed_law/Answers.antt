@@ -1,7 +1,7 @@
 use Rattle.std.proofs.Common.{sym}
 use Rattle.flume_value.proofs.EachLemmas.{Each-at}
 use Rattle.exec_plan.specs.declared.plan.OutChannel.TheVariants.{Group}
-use Rattle.exec_plan.specs.Typing.{OutTyped}
+use Rattle.exec_plan.specs.Typing.{OutChannelTyped}
 use Rattle.task_lists.specs.Tasks.{given_to, map_task_of}
 use Rattle.task_lists.proofs.Typed.{map_typed, given_have, reduce_typed}
 use Rattle.task_lists.proofs.TypedResults.{begin_typed, sides_first, table_typed}
@@ -22,11 +22,12 @@ returns-clause-maps c g w n types t k m i s world lists fit =
 pub returns-clause-reduces : goal.returns-clause-reduces
 returns-clause-reduces c g w n types t k r p s channel world lists fit at there =
     reduce_typed g w world types n t lists s.inputs fit.outs fit.inputs k channel p
-    (Each-at (OutTyped g types fit.outs k) s.outputs r (Group channel) fit.outputs (sym at)) there
+    (Each-at (OutChannelTyped g types fit.outs k) s.outputs r (Group channel) fit.outputs (sym at))
+    there
 
 pub returns-clause-given : goal.returns-clause-given
 returns-clause-given c g w n types t k r m i s channel world lists fit at there lift =
-    let typed = Each-at (OutTyped g types fit.outs k) s.outputs r (Group channel) fit.outputs
+    let typed = Each-at (OutChannelTyped g types fit.outs k) s.outputs r (Group channel) fit.outputs
     (sym at) in
     groupable g types fit.outs k channel typed lift
     (given_to w (map_task_of n t s.inputs m i) m channel.takes)

@@ -13,16 +13,16 @@ loop-part-preserved c =
     let rest =
     cells_under prefix
     (map (field_at types) (drop (c.loop-part.part-index + 1) c.args.parts.now)) in
-    let one : columns_and (Some c.loop-part.columns.items)
+    let one : columns_and (Some c.loop-part.columns)
     (cell_column (prefix ++ part.name) (out-Ty (type_at types part.ty))) ≡ Some
-    c.add_cell_at.new.columns.items =
-    ap (λ name. columns_and (Some c.loop-part.columns.items)
+    c.add_cell_at.new.columns =
+    ap (λ name. columns_and (Some c.loop-part.columns)
     (cell_column name (out-Ty (type_at types part.ty)))) (sym c.in_ok-name.ensures)
     ∙ c.in_ok-add_cell_at.ensures.flat in
-    joined-more c.loop-part.columns.items c.add_cell_at.new.columns.items
+    joined-more c.loop-part.columns c.add_cell_at.new.columns
     (cell_column (prefix ++ part.name) (out-Ty (type_at types part.ty))) rest one
     ∙ sym
-    (ap (λ parts. columns_and (Some c.loop-part.columns.items)
+    (ap (λ parts. columns_and (Some c.loop-part.columns)
     (cells_under prefix (map (field_at types) parts)))
     (drop-item c.args.parts.now c.loop-part.part-index part c.loop-part-test.true
     c.part-item.is))

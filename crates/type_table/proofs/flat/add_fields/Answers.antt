@@ -12,11 +12,11 @@ loop-part-preserved c =
     let rest =
     record_columns (map (field_at types) (drop (c.loop-part.part-index + 1) c.args.parts.now))
     in
-    joined-more c.loop-part.columns.items c.add_field.new.columns.items
+    joined-more c.loop-part.columns c.add_field.new.columns
     (field_columns part.name (out-Ty (type_at types part.ty))) rest
     c.in_ok-add_field.ensures.flat
     ∙ sym
-    (ap (λ parts. columns_and (Some c.loop-part.columns.items)
+    (ap (λ parts. columns_and (Some c.loop-part.columns)
     (record_columns (map (field_at types) parts)))
     (drop-item c.args.parts.now c.loop-part.part-index part c.loop-part-test.true
     c.part-item.is))

@@ -5,6 +5,6 @@ use Rattle.type_table.proofs.flat.add_fields.Given as goal
 
 abbrev pub invariant-loop-part : goal.invariant-loop-part
 invariant-loop-part l =
-    columns_and (Some l.columns.items)
+    columns_and (Some l.columns)
     (record_columns (map (field_at l.types) (drop l.part-index l.parts))) ≡ columns_and
-    (Some l.initial.columns.items) (record_columns (map (field_at l.types) l.parts))
+    (Some l.initial.columns) (record_columns (map (field_at l.types) l.parts))

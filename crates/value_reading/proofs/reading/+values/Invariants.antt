@@ -21,6 +21,6 @@ decreases-held_of l = 5 * l.levels + 1
 -- what was read before, and what is still read, is what is read
 abbrev pub invariant-members_of-loop-turn : goal.invariant-members_of-loop-turn
 invariant-members_of-loop-turn l =
-    with_front (value_at l.levels) l.members.items
+    with_front (value_at l.levels) l.members
     (parts_at (value_at l.levels) (l.count - l._turn) l.left)
     ≡ parts_at (value_at l.levels) l.count l.fn.left

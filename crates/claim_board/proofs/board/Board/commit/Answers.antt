@@ -1,10 +1,11 @@
 use Rattle.std.proofs.Common.{sym, ap, ◌∙◌, subst, arith}
-use Rattle.claim_board.specs.Boards.{Board, Pass, Drawn, IsOpenDraw}
-use Rattle.claim_board.specs.inner.Seats.{board_of}
+use Rattle.claim_board.specs.Boards.{Board, Pass, Drawn, IsOpenDraw, KeepsOtherClaims}
+use Rattle.claim_board.specs.inner.Seats.{board_of, pass_in}
 use Rattle.claim_board.proofs.Claimable.{commit_keeps}
 use Rattle.claim_board.proofs.Moves.{commits_at}
 use Rattle.claim_board.proofs.Naming.{same_table, same_size}
 use Rattle.claim_board.proofs.board.Board.commit.Goals as goal
+use Rattle.claim_board.proofs.board.Board.commit.Goals.{After-compare_exchange-found}
 
 pub compare_exchange-found-requires : goal.compare_exchange-found-requires
 compare_exchange-found-requires c =
@@ -24,8 +25,10 @@ compare_exchange-found-requires c =
           size.tasks,
     )
 
-pub returns-then-found-eq0-clause-claims : goal.returns-then-found-eq0-clause-claims
-returns-then-found-eq0-clause-claims c =
+-- whatever stood there, the other draws may still claim their tasks
+kept : (c : After-compare_exchange-found) → KeepsOtherClaims c.args.self.now c.args.pass.now.state
+    (pass_in c.compare_exchange-found.new.seat.me.0) c.args.draw.number
+kept c =
     let size = ap (λ (p : Pass). p.board.tasks) c.pass.view_is
     ∙ ap (λ (x : Board). x.tasks) c.requires.board in
     let task = ap (λ (d : Drawn). d.task) c.draw.view_is ∙ c.requires.claimable.task in
@@ -35,13 +38,9 @@ returns-then-found-eq0-clause-claims c =
     (ap (λ (p : Pass). p.state) c.pass.view_is) size task attempt
     c.compare_exchange-found.ensures.2
 
+pub returns-then-found-eq0-clause-claims : goal.returns-then-found-eq0-clause-claims
+returns-then-found-eq0-clause-claims c =
+    kept (goal.at.returns-then-found-eq0-clause-claims c).After-compare_exchange-found
+
 pub returns-clause-claims : goal.returns-clause-claims
-returns-clause-claims c =
-    let size = ap (λ (p : Pass). p.board.tasks) c.pass.view_is
-    ∙ ap (λ (x : Board). x.tasks) c.requires.board in
-    let task = ap (λ (d : Drawn). d.task) c.draw.view_is ∙ c.requires.claimable.task in
-    let attempt = ap (λ (d : Drawn). d.attempt) c.draw.view_is ∙ c.requires.claimable.attempt in
-    commit_keeps c.args.self.now c.pass.inside.seat.me c.compare_exchange-found.new.seat.me _
-    c.compare_exchange-found.result c.draw.inside.task c.draw.inside.attempt _
-    (ap (λ (p : Pass). p.state) c.pass.view_is) size task attempt
-    c.compare_exchange-found.ensures.2
+returns-clause-claims c = kept (goal.at.returns-clause-claims c).After-compare_exchange-found

@@ -1,6 +1,6 @@
 use Rattle.std.proofs.Common.{arith, ◌≡◌, Some, None}
 use Rattle.std.proofs.lemmas.Grind.{common_steps}
-use Rattle.outside.specs.inner.Slots.{place_of}
+use Rattle.outside.specs.Slots.{place_of}
 use Rattle.outside.proofs.Places.{at_place, at_none}
 use Rattle.outside.proofs.memory.source.file_place.Goals as goal
 

@@ -1,6 +1,6 @@
 use Rattle.std.proofs.Common.{◌≡◌, ◌+◌, drop}
 use Rattle.std.specs.Option.{option_map}
-use Rattle.outside.specs.inner.Slots.{place_of}
+use Rattle.outside.specs.Slots.{place_of}
 use Rattle.outside.proofs.memory.source.file_place.Given as goal
 
 -- no file before this one has the name

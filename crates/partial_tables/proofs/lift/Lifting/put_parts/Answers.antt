@@ -9,13 +9,13 @@ use Rattle.partial_tables.proofs.lift.Lifting.put_parts.Goals as goal
 
 pub put-requires-clause-shape : goal.put-requires-clause-shape
 put-requires-clause-shape c =
-    subst (λ (d : Comb). HasShape d c.in_ok-acc.acc) (sym c.requires.comb)
-    (subst (HasShape c.args.comb) (sym c.in_ok-acc.ensures)
+    subst (λ (d : Comb). HasShape d c.in-Ok.acc) (sym c.requires.comb)
+    (subst (HasShape c.args.comb) (sym c.in-Ok.ensures)
     (accumulator-HasShape c.args.comb (c.args.value.now ∷ [])))
 
-pub returns : goal.returns
-returns c pairs was =
-    let put = c.in_ok-put.ensures in
+pub returns-in_ok-put-in-Ok : goal.returns-in_ok-put-in-Ok
+returns-in_ok-put-in-Ok c pairs was =
+    let put = c.in_ok-put-in-Ok.ensures in
     let self = c.args.self.now in
     let key = c.args.key in
     let value = c.args.value.now in (
@@ -23,7 +23,7 @@ returns c pairs was =
           self.table.partials c.put.new.others.items c.put.new.table.partials was.1
           (parts_of-pair key value)
           (λ ps tables. put.tables ps value
-          (c.in_ok-acc.ensures ∙ ap (λ (d : Comb). accumulator d (value ∷ [])) (sym was.1)) tables)
+          (c.in-Ok.ensures ∙ ap (λ (d : Comb). accumulator d (value ∷ [])) (sym was.1)) tables)
           was.0,
       put.comb ∙ was.1,
       put.room ∙ was.2,

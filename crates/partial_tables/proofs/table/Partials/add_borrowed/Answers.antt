@@ -21,28 +21,8 @@ invariant_of-self c =
 pub invariant_of-self-in-Err : goal.invariant_of-self-in-Err
 invariant_of-self-in-Err c = kept_none c.self.inside.comb c.clear.new.table.entries c.clear.ensures
 
-pub invariant_of-self-in-Err-copy-2 : goal.invariant_of-self-in-Err-copy-2
-invariant_of-self-in-Err-copy-2 c =
-    kept_none c.self.inside.comb c.clear-in-Err-copy.new.table.entries
-    c.clear-in-Err-copy.ensures
-
-pub invariant_of-self-in-Err-copy-6 : goal.invariant_of-self-in-Err-copy-6
-invariant_of-self-in-Err-copy-6 c =
-    kept_none c.self.inside.comb c.clear-in-Err-copy.new.table.entries
-    c.clear-in-Err-copy.ensures
-
-pub invariant_of-self-in-Err-copy-3 : goal.invariant_of-self-in-Err-copy-3
-invariant_of-self-in-Err-copy-3 c =
-    kept_none c.self.inside.comb c.clear-in-Err-copy.new.table.entries
-    c.clear-in-Err-copy.ensures
-
-pub invariant_of-self-in-Err-copy-4 : goal.invariant_of-self-in-Err-copy-4
-invariant_of-self-in-Err-copy-4 c =
-    kept_none c.self.inside.comb c.clear-in-Err-copy.new.table.entries
-    c.clear-in-Err-copy.ensures
-
-pub invariant_of-self-in-Err-copy-7 : goal.invariant_of-self-in-Err-copy-7
-invariant_of-self-in-Err-copy-7 c =
+pub invariant_of-self-in-Err-copy : goal.invariant_of-self-in-Err-copy
+invariant_of-self-in-Err-copy c =
     kept_none c.self.inside.comb c.clear-in-Err-copy.new.table.entries
     c.clear-in-Err-copy.ensures
 

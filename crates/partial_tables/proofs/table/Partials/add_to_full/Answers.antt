@@ -33,8 +33,8 @@ returns-in-Ok-clause-room c =
 pub invariant_of-self-in-Err : goal.invariant_of-self-in-Err
 invariant_of-self-in-Err c = kept_none c.self.inside.comb c.clear.new.table.entries c.clear.ensures
 
-pub returns-clause-refused : goal.returns-clause-refused
-returns-clause-refused c =
+pub returns-in-None-clause-refused : goal.returns-in-None-clause-refused
+returns-in-None-clause-refused c =
     rw (← c.self.view_is) (
       refl,
       refl,

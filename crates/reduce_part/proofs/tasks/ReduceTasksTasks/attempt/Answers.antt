@@ -1,6 +1,6 @@
 use Rattle.std.proofs.Common.{subst}
 use Rattle.crew.specs.Drills.{attempt_at}
-use Rattle.forest_run.specs.Asked.{Asked}
+use Rattle.forest_run.specs.Asked.{WasAsked}
 use Rattle.forest_run.proofs.Ending.{asked_early, asked_ran}
 use Rattle.reduce_part.specs.Reducing.{reducing_places}
 use Rattle.reduce_part.proofs.Channels.{channel_within, no_pass, places_are, task_ready, values_by}
@@ -39,7 +39,7 @@ returns g c =
     let a = g.H.Host.account c.args.host.now in
     let b = g.H.Host.account c.reduce_partition.new.host in
     let all = reducing_places c.args.self.now c.args.task in
-    let asked = subst (λ n. Asked e n a b c.reduce_partition.result) places
+    let asked = subst (λ n. WasAsked e n a b c.reduce_partition.result) places
     (c.reduce_partition.ensures.asked ready.pairs ready.gathered) in record {
       value = values_by c.self.invariant c.args.task below c.as_slice.result.now
           c.as_slice.ensures c.index-as_slice-channel.result c.index-as_slice-channel.is

@@ -9,7 +9,7 @@ use Rattle.body_check.specs.of_written_types.Named.{Named, find}
 use Rattle.script_program.specs.declared.made.Function.{Function as HeldFunction}
 use Rattle.script_program.specs.declared.made.Signature.{Signature as HeldSignature}
 use Rattle.script_program.specs.Script.{Function, function_from, with_function}
-use Rattle.script_program.specs.Program.{signature_in, HasTypes, function_in, Does}
+use Rattle.script_program.specs.Program.{signature_in, HasTypes, function_in, DoesAsWritten}
 use Rattle.script_program.specs.inner.Tables.{function_of, FunctionIn}
 use Rattle.script_state.specs.Held.{Checking}
 use Rattle.script_state.specs.declared.state.State.TheInside.{Inside}
@@ -52,14 +52,14 @@ invariant_of-self-2 c =
     let does =
     subst
     (λ (checking : Checking).
-    Does c.args.fun (function_from c.args.function
+    DoesAsWritten c.args.fun (function_from c.args.function
     (signature_in checking.types c.args.signature) checking.state))
     (sym c.self.view_is) c.requires.does in
     let in_ : FunctionIn known it = record {
       within = within;
       named = omega (arith, c.name_count-type_names.ensures);
       does =
-          subst (λ names. Does c.args.fun (under known it names))
+          subst (λ names. DoesAsWritten c.args.fun (under known it names))
           (sym (all-names known it c.name_count-type_names.ensures)) does;
     } in (
       within-put (function_in known) c.self.inside.functions c.insert.new.self

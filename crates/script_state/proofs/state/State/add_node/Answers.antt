@@ -38,12 +38,12 @@ returns-clause-state c =
     let new =
     subst (λ checking. is_some (find c.args.name checking.state.names) ≡ false)
     (sym c.self.view_is) c.requires.new in
-    let key = c.in_ok-key.ensures.made in
+    let key = c.in-Ok.ensures.made in
     let absent =
     subst (λ name. is_some (find name own.names.entries) ≡ false) (sym key) new in
     let put =
     c.in_ok-insert.ensures.entries
-    ∙ insert_entry-new bytes_eq own.names c.in_ok-key.key (Collection c.len-number.result)
+    ∙ insert_entry-new bytes_eq own.names c.in-Ok.key (Collection c.len-number.result)
     (none-is _ absent) in
     let nodes =
     nodes-push own.nodes c.push.new.self (c.args.name, held c.args.making own.statements)

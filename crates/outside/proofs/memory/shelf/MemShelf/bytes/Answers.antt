@@ -1,6 +1,6 @@
 use Rattle.std.proofs.Common.{◌≡◌, ◌<◌, Some, None, length, arith, ap, sym, ◌∙◌}
 use Rattle.outside.specs.Files.{bytes_of}
-use Rattle.outside.specs.inner.Slots.{files_of, place_of}
+use Rattle.outside.specs.Slots.{files_of, place_of}
 use Rattle.outside.proofs.Places.{at_place, at_none, within}
 use Rattle.outside.proofs.SlotLemmas.{slot_bytes}
 use Rattle.outside.proofs.memory.shelf.MemShelf.bytes.Goals as goal

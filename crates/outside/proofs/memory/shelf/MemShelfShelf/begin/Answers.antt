@@ -3,7 +3,7 @@ use Rattle.std.proofs.lemmas.Option.{same_Some}
 use Rattle.std.proofs.lemmas.List.{length-map}
 use Rattle.std.proofs.lemmas.List.Elements.{All-pop}
 use Rattle.outside.specs.Files.{with_file}
-use Rattle.outside.specs.inner.Slots.{file_of, files_of, place_of, slot_size, HasRoom, IsPlace}
+use Rattle.outside.specs.Slots.{file_of, files_of, place_of, slot_size, HasRoom, IsPlace}
 use Rattle.outside.proofs.Places.{Rewritten, rewritten, added_at, at_place, at_none, within}
 use Rattle.outside.proofs.RoomLemmas.{sizes}
 use Rattle.outside.proofs.memory.shelf.MemShelfShelf.begin.Goals as goal

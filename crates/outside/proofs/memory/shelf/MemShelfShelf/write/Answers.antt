@@ -1,6 +1,6 @@
 use Rattle.std.proofs.Common.{◌++◌, Some, arith, ap, ◌∙◌, length, take, unwrap_or, []}
 use Rattle.outside.specs.Files.{with_piece}
-use Rattle.outside.specs.inner.Slots.{name_at, bytes_at, files_of}
+use Rattle.outside.specs.Slots.{name_at, bytes_at, files_of}
 use Rattle.outside.proofs.Places.{Rewritten, rewritten, within, written_files, written_name, written_place}
 use Rattle.outside.proofs.memory.shelf.MemShelfShelf.write.Goals as goal
 use Rattle.outside.proofs.memory.shelf.MemShelfShelf.write.Goals.{After-add_piece}
