@@ -1,1 +1,0 @@
-date; grep "/work/g/" /work/h/cpu.tsv | awk -F'\t' '{s[$4]+=$5; n[$4]++} END {for (k in s) print k, n[k], s[k]/60 " min"}'; grep "/work/g/" /work/h/cpu.tsv | tail -12 | cut -f3-6 | paste -sd' '; grep -E "^rt: .*NOT PROVED" /work/g.log | head; for p in $(pgrep -x rattle); do c=$(readlink /proc/$p/cwd); echo $(ps -o ni=,time= -p $p) $c; done | sort -u -k3; uptime
