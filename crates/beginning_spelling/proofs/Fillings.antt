@@ -3,7 +3,7 @@ use Rattle.std.proofs.Common.{◌≡◌, ℕ, suc, length, length-append, List, 
 use Rattle.flume_tokens.specs.declared.token.Token.{Token}
 use Rattle.flume_tokens.specs.declared.token.TokenKind.{TokenKind}
 use Rattle.flume_tokens.specs.declared.token.TokenKind.TheVariants as kind
-use Rattle.flume_tokens.specs.Keywords.{spelling}
+use Rattle.flume_tokens.specs.Keywords.{keyword_spelling}
 use Rattle.flume_grammar.specs.declared.parts.Parts.{Parts}
 use Rattle.flume_grammar.specs.declared.tree.Binary.{Binary}
 use Rattle.flume_grammar.specs.Operators.{operator_of}
@@ -60,7 +60,7 @@ FilledList {A} R p ts us xs = (q : Plan) × (ys : List A) × (length ys ≡ leng
 pub word_filled : (k : TokenKind) (f : Filling) (x : List ℕ) → word_of k ≡ Some x
     → (y : List ℕ) × (word_of (kind_with k f) ≡ Some y)
 word_filled (kind.Name x) f y e = (f.word, refl)
-word_filled (kind.Keyword k) f y e = (spelling k, refl)
+word_filled (kind.Keyword k) f y e = (keyword_spelling k, refl)
 word_filled (kind.Number d) f y e = cc
 word_filled (kind.Text c) f y e = cc
 word_filled (kind.Sign s) f y e = cc

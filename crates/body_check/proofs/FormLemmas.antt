@@ -14,7 +14,7 @@ use Rattle.expression_check.specs.of_expression_types.Fields.{member_type, side_
 use Rattle.expression_check.specs.of_expression_types.Types.{is_bool}
 use Rattle.expression_check.specs.Types.{type_of}
 use Rattle.expression_check.specs.Given.{valued, given_in}
-use Rattle.body_check.specs.Bodies.{after_all, layer_after, after as sight_after}
+use Rattle.body_check.specs.Bodies.{after_all, layer_after, sight_after}
 use Rattle.body_check.specs.Call.{NameState, state, block, for_each, by_side, after}
 use Rattle.body_check.specs.Call.{layer_emitted, emitted_in}
 

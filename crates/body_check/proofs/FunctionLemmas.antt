@@ -8,7 +8,7 @@ use Rattle.flume_grammar.specs.declared.fault.ScriptFault.{ScriptFault}
 use Rattle.flume_grammar.specs.declared.fault.ScriptFault.TheVariants.{Refused, Memory}
 use Rattle.flume_grammar.specs.declared.tree.Body.{Body}
 use Rattle.dofn_eval.specs.declared.stmt.Stmt.{Stmt}
-use Rattle.dofn_eval.specs.Run.{means as slots_mean}
+use Rattle.dofn_eval.specs.Run.{slots_mean}
 use Rattle.dofn_eval.specs.Typed.{BlockTyped}
 use Rattle.dofn_eval.specs.Answer.{HasAnswer}
 use Rattle.dofn_eval.proofs.SoundCalls.{answered_call}
@@ -16,10 +16,10 @@ use Rattle.expression_check.specs.of_type_table.Table.{type_at}
 use Rattle.expression_check.specs.of_written_types.Answer.{Checked, ◌>>=◌, Gives}
 use Rattle.expression_check.specs.of_written_types.Named.{Named}
 use Rattle.expression_check.specs.of_expression_types.Sight.{Sight}
-use Rattle.body_check.specs.Bodies.{after_all, after, at_start, body_of}
+use Rattle.body_check.specs.Bodies.{after_all, sight_after, at_start, body_of}
 use Rattle.body_check.specs.Call.{block, emitted_in, means}
 use Rattle.body_check.specs.inner.Frames.{InBody}
-use Rattle.body_check.specs.inner.Slots.{placed_of, block as block_of}
+use Rattle.body_check.specs.inner.Slots.{placed_of, block_slots as block_of}
 use Rattle.body_check.proofs.BlockLemmas.{IsBlock}
 use Rattle.body_check.proofs.BodyLemmas.{right_block}
 
@@ -32,7 +32,7 @@ module _ (known : Named Ty) (argument : List ℕ) (takes : Ty) (gives : List Ty)
   slots = block_of (placed_of gives) body start
 
   abbrev IsWhole : Checked (List Stmt) → Type 0
-  IsWhole o = IsBlock gives start o (after_all (after gives) body start) (block
+  IsWhole o = IsBlock gives start o (after_all (sight_after gives) body start) (block
       (emitted_in known) body)
 
   -- what is known of a body's slots

@@ -55,8 +55,8 @@ module _ (gives : List Ty) where
     Ok s
 
   -- what is in sight after a statement, or its first fault
-  abbrev pub after : Body → Sight → Checked Sight
-  after = fold-Body (Sight → Checked Sight) (layer_after (λ m. m))
+  abbrev pub sight_after : Body → Sight → Checked Sight
+  sight_after = fold-Body (Sight → Checked Sight) (layer_after (λ m. m))
 
 -- what is in sight at a body's start: the argument, where these names stand for types
 abbrev pub at_start : Named Ty → List ℕ → Ty → Sight
@@ -66,5 +66,5 @@ at_start known argument takes = record { known = known; names = (argument, takes
 -- each output
 abbrev pub body_of : Named Ty → List ℕ → Ty → List Ty → List Body → Checked (Unit {0})
 body_of known argument takes gives body = do
-  end ← after_all (after gives) body (at_start known argument takes)
+  end ← after_all (sight_after gives) body (at_start known argument takes)
   Ok tt

@@ -1,7 +1,7 @@
 // The check of a whole body, which gives a function with slots in place of names.
 ghost use Rattle.std.specs.Prelude.{◌≡◌, ℕ, ◌≤◌, ◌<◌, [], ◌∷◌, length, map, IfOk};
 ghost use Rattle.flume_value.specs.declared.value.Value.{Value as Value_};
-ghost use Rattle.dofn_eval.specs.Run.{means as slots_mean};
+ghost use Rattle.dofn_eval.specs.Run.{slots_mean};
 ghost use Rattle.dofn_eval.specs.Function.{FunTyped};
 ghost use Rattle.expression_check.specs.of_type_table.Table.{type_at, Extends};
 ghost use Rattle.expression_check.specs.of_written_types.Answer.{Gives};
@@ -65,7 +65,8 @@ fn slots_of(
 ) -> Result<Block, ScriptFault>
     requires takes { takes < length frame.old.types }
     requires names { frame.old.sight.names ≡ [] }
-    ensures gives { Gives (λ k. k) result (spec.block (spec.placed_of frame.old.gives) body.now
+    ensures gives { Gives (λ k. k) result (
+        spec.block_slots (spec.placed_of frame.old.gives) body.now
         (at_start frame.old.sight.known argument.now (type_at frame.old.types takes))) }
     ensures extends { Extends frame.old.types frame.new.types }
     ensures known { frame.new.sight.known ≡ frame.old.sight.known }

@@ -7,7 +7,7 @@ ghost use Rattle.flume_grammar.specs.declared.tree.Body.{Body as Body_, out-Body
 ghost use Rattle.dofn_eval.specs.Answer.{HasAnswer};
 ghost use Rattle.expression_check.specs.of_written_types.Named.{Named};
 ghost use Rattle.expression_check.specs.of_expression_types.Sight.{Sight};
-ghost use Rattle.body_check.specs.Bodies.{layer_after, after, body_of};
+ghost use Rattle.body_check.specs.Bodies.{layer_after, sight_after, body_of};
 ghost use Rattle.body_check.specs.Call.{NameState, layer_emitted, emitted_in, means};
 
 /// A call of a function whose body keeps the rules, on a value of its argument's type, has an
@@ -22,7 +22,7 @@ pub fn call_law()
 /// The rules and the meaning of a statement: the equation of each form.
 pub fn statement_law()
     ensures rules { (gives : List Ty_) (b : Body_) (s : Sight) →
-        after gives b s ≡ layer_after gives (after gives) (out-Body b) s }
+        sight_after gives b s ≡ layer_after gives (sight_after gives) (out-Body b) s }
     ensures meaning { (known : Named Ty_) (b : Body_) (s : NameState) →
         emitted_in known b s ≡ layer_emitted known (emitted_in known) (out-Body b) s }
 {}

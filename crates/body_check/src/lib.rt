@@ -10,6 +10,7 @@
 #![tactic(auto)]
 
 mod checks;
+mod emitted;
 mod frame;
 mod laws;
 mod statements;

@@ -1,24 +1,23 @@
 // The check of statements, form by form, with slots in place of names.
-ghost use Rattle.std.specs.Prelude.{◌≡◌, ◌<◌, [], Some, None, length, slice_get, IfOk, OnOk};
-ghost use Rattle.flume_grammar.specs.declared.fault.ScriptKind.TheVariants.{BadNumber as Bad};
+ghost use Rattle.std.specs.Prelude.{◌≡◌, ◌<◌, [], None, length, IfOk, OnOk};
 ghost use Rattle.flume_types.specs.declared.types.Ty.{out-Ty};
 ghost use Rattle.expression_check.specs.of_type_table.Table.{type_at, Extends};
-ghost use Rattle.expression_check.specs.of_written_types.Answer.{Gives, or_fault};
+ghost use Rattle.expression_check.specs.of_written_types.Answer.{Gives};
 ghost use Rattle.expression_check.specs.of_written_types.Named.{find, fresh};
 ghost use Rattle.expression_check.specs.of_expression_types.Sight.{with_name};
 ghost use Rattle.expression_check.specs.Slots.{typed};
 ghost use Rattle.expression_check.specs.of_expression_types.Types.{is_bool as is_bool_type};
-ghost use Rattle.body_check.specs.Outputs.{output_of as output_meant};
 ghost use Rattle.body_check.specs.inner.Frames.{IsBehind};
 ghost use Rattle.body_check.specs.inner.Slots as spec;
 ghost use Rattle.body_check.specs.inner.Slots.{placed_of};
 
+use crate::emitted::{output_of, wanted};
 use crate::frame::Frame;
 use dofn_eval::{Block, Expr as Slots, Stmt};
+use expression_check::Typed;
 use expression_check::expression_types::{Sides, is_bool, member_of, sides_of};
 use expression_check::type_table::TypeId;
 use expression_check::written_types::refused;
-use expression_check::{Typed, number_within};
 use flume_grammar::{Body, Expr, ScriptFault, ScriptKind};
 use flume_value::{Pile, Str};
 use std::alloc::Global;
@@ -147,40 +146,6 @@ fn place_emit(
     }
 }
 
-// The number, from 0, of the output to which an `emit` emits.
-fn output_of(line: u32, to: &Option<Str>, frame: &Frame<'_>) -> Result<usize, ScriptFault>
-    ensures { Gives (λ output. output) result
-        (or_fault line Bad (output_meant (length frame.now.gives) to.now)) }
-{
-    match to {
-        None => Ok(0),
-        Some(digits) => numbered(line, digits, frame.outputs()),
-    }
-}
-
-// The output with the number that digits write, counted from 1.
-fn numbered(line: u32, digits: &Str, outputs: u32) -> Result<usize, ScriptFault>
-    ensures { Gives (λ output. output) result
-        (or_fault line Bad (output_meant outputs (Some digits.now))) }
-{
-    match number_within(1, outputs, digits) {
-        Some(number) => Ok(number.saturating_sub(1) as usize),
-        None => Err(refused(line, ScriptKind::BadNumber)),
-    }
-}
-
-// The type of what is emitted to the output of this number.
-fn wanted(line: u32, output: usize, frame: &Frame<'_>) -> Result<TypeId, ScriptFault>
-    ensures gives { Gives (type_at frame.now.types) result
-        (or_fault line Bad (slice_get frame.now.gives output)) }
-    ensures within { IfOk result (λ id. id < length frame.now.types) }
-{
-    match frame.output(output) {
-        Some(id) => Ok(id),
-        None => Err(refused(line, ScriptKind::BadNumber)),
-    }
-}
-
 #[cycle(block)]
 fn place_if(
     alloc: Global,
@@ -190,8 +155,8 @@ fn place_if(
     frame: &mut Frame<'_>,
 ) -> Result<Stmt, ScriptFault>
     ensures gives { Gives (λ k. (k, frame.new.sight)) result (spec.if_slots line e.now
-        (spec.block (placed_of frame.old.gives) blocks.entry.first.now)
-        (spec.block (placed_of frame.old.gives) blocks.entry.second.now) frame.old.sight) }
+        (spec.block_slots (placed_of frame.old.gives) blocks.entry.first.now)
+        (spec.block_slots (placed_of frame.old.gives) blocks.entry.second.now) frame.old.sight) }
     ensures extends { Extends frame.old.types frame.new.types }
     ensures known { frame.new.sight.known ≡ frame.old.sight.known }
     ensures sight { OnOk result (frame.new.sight ≡ frame.old.sight) }
@@ -224,7 +189,7 @@ fn place_for(
     frame: &mut Frame<'_>,
 ) -> Result<Stmt, ScriptFault>
     ensures gives { Gives (λ k. (k, frame.new.sight)) result (spec.for_slots line name.now e.now
-        (spec.block (placed_of frame.old.gives) body.now) frame.old.sight) }
+        (spec.block_slots (placed_of frame.old.gives) body.now) frame.old.sight) }
     ensures extends { Extends frame.old.types frame.new.types }
     ensures known { frame.new.sight.known ≡ frame.old.sight.known }
     ensures sight { OnOk result (frame.new.sight ≡ frame.old.sight) }
@@ -256,8 +221,8 @@ fn place_case(
     frame: &mut Frame<'_>,
 ) -> Result<Stmt, ScriptFault>
     ensures gives { Gives (λ k. (k, frame.new.sight)) result (spec.case_slots line e.now
-        names.entry.left.now (spec.block (placed_of frame.old.gives) blocks.entry.first.now)
-        names.entry.right.now (spec.block (placed_of frame.old.gives) blocks.entry.second.now)
+        names.entry.left.now (spec.block_slots (placed_of frame.old.gives) blocks.entry.first.now)
+        names.entry.right.now (spec.block_slots (placed_of frame.old.gives) blocks.entry.second.now)
         frame.old.sight) }
     ensures extends { Extends frame.old.types frame.new.types }
     ensures known { frame.new.sight.known ≡ frame.old.sight.known }
@@ -294,8 +259,8 @@ fn both_sides(
     requires right { sides.right < length frame.old.types }
     ensures gives { Gives (λ both. (both.first, both.second)) result (spec.both_slots line
         (type_at frame.old.types sides.left, type_at frame.old.types sides.right)
-        names.entry.left.now (spec.block (placed_of frame.old.gives) blocks.entry.first.now)
-        names.entry.right.now (spec.block (placed_of frame.old.gives) blocks.entry.second.now)
+        names.entry.left.now (spec.block_slots (placed_of frame.old.gives) blocks.entry.first.now)
+        names.entry.right.now (spec.block_slots (placed_of frame.old.gives) blocks.entry.second.now)
         frame.old.sight) }
     ensures extends { Extends frame.old.types frame.new.types }
     ensures known { frame.new.sight.known ≡ frame.old.sight.known }
@@ -319,7 +284,7 @@ fn of_side(
 ) -> Result<Block, ScriptFault>
     requires { id < length frame.old.types }
     ensures gives { Gives (λ k. k) result (spec.side_slots line name.now
-        (type_at frame.old.types id) (spec.block (placed_of frame.old.gives) body.now)
+        (type_at frame.old.types id) (spec.block_slots (placed_of frame.old.gives) body.now)
         frame.old.sight) }
     ensures extends { Extends frame.old.types frame.new.types }
     ensures known { frame.new.sight.known ≡ frame.old.sight.known }
@@ -341,7 +306,7 @@ fn named(
 ) -> Result<Block, ScriptFault>
     requires new { find name.now frame.old.sight.names ≡ None }
     requires within { id < length frame.old.types }
-    ensures gives { Gives (λ k. k) result (spec.block (placed_of frame.old.gives) body.now
+    ensures gives { Gives (λ k. k) result (spec.block_slots (placed_of frame.old.gives) body.now
         (with_name name.now (type_at frame.old.types id) frame.old.sight)) }
     ensures extends { Extends frame.old.types frame.new.types }
     ensures known { frame.new.sight.known ≡ frame.old.sight.known }
@@ -359,7 +324,7 @@ fn named(
 #[cycle(block)]
 fn inner(alloc: Global, body: &Pile<Body>, frame: &mut Frame<'_>) -> Result<Block, ScriptFault>
     ensures gives { Gives (λ k. k) result
-        (spec.block (placed_of frame.old.gives) body.now frame.old.sight) }
+        (spec.block_slots (placed_of frame.old.gives) body.now frame.old.sight) }
     ensures extends { Extends frame.old.types frame.new.types }
     ensures known { frame.new.sight.known ≡ frame.old.sight.known }
     ensures sight { OnOk result (frame.new.sight ≡ frame.old.sight) }

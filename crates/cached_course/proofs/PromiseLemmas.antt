@@ -40,7 +40,7 @@ use Rattle.run_texts.specs.declared.status.Status.{Status}
 use Rattle.run_texts.specs.declared.status.Status.TheVariants.{Done, GaveUp, Usage, ScriptRefused, InputRefused, Trap, ReadFault, WriteFault, WantOfMemory, TooLong, NoFile, PlanRefused}
 use Rattle.script_program.specs.Script.{Script}
 use Rattle.cached_course.specs.Answers.{Answers, AsksHosts, HasLooked, IsGaveUp, IsKept, WasReused, found, lists_run, script_run}
-use Rattle.cached_course.specs.Promises.{CanRun, Ends, Promises}
+use Rattle.cached_course.specs.Promises.{CanRun, Ends, ReusePromises}
 use Rattle.cached_course.specs.Reused.{IsReused}
 use Rattle.cached_course.specs.Sound.{AreSound, TellsSoundEntries}
 use Rattle.cached_course.specs.inner.Course.{AsksHostsInCall, IsStop}
@@ -255,7 +255,7 @@ module _ (words : List (List ℕ)) (before after : World) (cache later : SeenCac
       → AsksFor words before.source after.source status
       → AsksHosts words told before.hosts after.hosts cache later status
       → is_some later.entries ≡ is_some cache.entries → cache.faults ≤ later.faults
-      → Promises words before after cache later status
+      → ReusePromises words before after cache later status
   promises meant_law sound_law status answers kept asked hosts tells rises = record {
     answers = answers;
     asked = asked;
@@ -284,7 +284,7 @@ module _ (words : List (List ℕ)) (before after : World) (cache later : SeenCac
 pub of_memory : MeantLaw → SoundLaw → (words : List (List ℕ)) (before after : World)
     (cache : SeenCache) → IsRefused WantOfMemory before after → Keeps before after
     → after.source ≡ before.source → after.hosts ≡ before.hosts
-    → Promises words before after cache cache WantOfMemory
+    → ReusePromises words before after cache cache WantOfMemory
 of_memory meant_law sound_law words before after cache refused kept same hosts =
     promises words before after cache cache meant_law sound_law WantOfMemory
     (record { cause = tt; refused = refused; entries = refl }) kept
@@ -301,7 +301,7 @@ pub stop_promises : (T : Type 0) → MeantLaw → SoundLaw → (words : List (Li
     → Keeps before after → AsksInCall words before.source after.source {T = T} (Err why)
     → AsksHostsInCall {T = T} words before.source.files before.hosts after.hosts cache later
     (Err why)
-    → Promises words before after cache later status
+    → ReusePromises words before after cache later status
 stop_promises T meant_law sound_law words before after cache later why status same rises is
     tells shelf kept asked hosts =
     promises words before after cache later meant_law sound_law status

@@ -76,7 +76,7 @@ pub record Ends (words : List (List ℕ)) (before : World) (cache later : SeenCa
 
 -- What is so after a run with these words, which found the one world and cache and left the other,
 -- and answered so.
-pub record Promises (words : List (List ℕ)) (before after : World) (cache later : SeenCache)
+pub record ReusePromises (words : List (List ℕ)) (before after : World) (cache later : SeenCache)
     (status : Status) : Type 0 where
   -- what each answer says: what was written and kept, or why not
   pub answers : Answers words before after cache later status

@@ -7,7 +7,7 @@ ghost use Rattle.outside.specs.Saves.{output_file};
 ghost use Rattle.run_course.specs.Asked.{AskFor};
 ghost use Rattle.run_course.specs.World.{world};
 ghost use Rattle.cached_course.specs.Kept.{HasKept};
-ghost use Rattle.cached_course.specs.Promises.{Promises};
+ghost use Rattle.cached_course.specs.Promises.{ReusePromises};
 ghost use Rattle.cached_course.specs.inner.Course.{DeliversKept};
 
 use crate::laws::reuse_law;
@@ -37,7 +37,7 @@ pub fn run_cached<X: Threads + Sync, R: Source, H: Host + Send, K: Shelf, P: Scr
 ) -> Status
     requires { length hosts.old ≡ 16 }
     ensures promises { (words : List (List ℕ)) → AskFor words (Run settings.now None) name.now →
-        Promises words
+        ReusePromises words
         (world (R.seen source.old) (K.seen shelf.old) (P.seen screen.old) (map H.account hosts.old))
         (world (R.seen source.new) (K.seen shelf.new) (P.seen screen.new) (map H.account hosts.new))
         (C.seen cache.old) (C.seen cache.new) result }

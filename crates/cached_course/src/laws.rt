@@ -4,7 +4,7 @@ ghost use Rattle.cache_store.specs.Seen.{SeenCache};
 ghost use Rattle.run_course.specs.Answers.{IsRefused};
 ghost use Rattle.run_course.specs.World.{Keeps, World};
 ghost use Rattle.run_texts.specs.declared.status.Status.TheVariants.{WantOfMemory};
-ghost use Rattle.cached_course.specs.Promises.{Promises};
+ghost use Rattle.cached_course.specs.Promises.{ReusePromises};
 ghost use Rattle.cached_course.specs.inner.Laws.{MeantLaw, SoundLaw};
 
 use kept_results::given_law;
@@ -30,7 +30,7 @@ pub(crate) fn reuse_law()
 pub fn memory_law()
     ensures { (words : List (List ℕ)) (before after : World) (cache : SeenCache) →
         IsRefused WantOfMemory before after → Keeps before after → after.source ≡ before.source →
-        after.hosts ≡ before.hosts → Promises words before after cache cache WantOfMemory }
+        after.hosts ≡ before.hosts → ReusePromises words before after cache cache WantOfMemory }
 {
     reuse_law();
 }

@@ -13,7 +13,7 @@ use Rattle.flume_types.specs.declared.types.Ty.{Ty}
 use Rattle.dofn_eval.specs.Answer.{HaveOutputTypes, HasAnswer}
 use Rattle.dofn_eval.specs.Function.{CanBeCalledOn, Function as Fun}
 use Rattle.dofn_eval.specs.Outcome.{Outcome, Gives, Traps, Stuck}
-use Rattle.dofn_eval.specs.Run.{means as slots_mean}
+use Rattle.dofn_eval.specs.Run.{slots_mean}
 use Rattle.body_check.proofs.FunctionLemmas.{answered as has_answer}
 use Rattle.body_check.specs.Call.{means}
 use Rattle.flume_collection.specs.Calls.{Called, emissions, or_none, trap_of}

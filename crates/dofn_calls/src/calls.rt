@@ -3,7 +3,7 @@ ghost use Rattle.std.specs.Prelude.{◌≡◌, List, IfOk, IfErr};
 ghost use Rattle.flume_types.specs.declared.types.Ty.{Ty as Ty_};
 ghost use Rattle.flume_types.specs.Typing.{Has};
 ghost use Rattle.dofn_eval.specs.Outcome.{Gives, IsFaultIn};
-ghost use Rattle.dofn_eval.specs.Run.{means};
+ghost use Rattle.dofn_eval.specs.Run.{slots_mean};
 ghost use Rattle.dofn_eval.specs.Answer.{OutputsHave};
 ghost use Rattle.dofn_eval.specs.Function.{FunTyped, CanBeCalledOn};
 
@@ -18,8 +18,9 @@ use std::alloc::Global;
 /// emits nothing.
 pub fn call(alloc: Global, f: &Fun, x: &Value) -> Result<Lists, CallFault>
     requires { CanBeCalledOn f.now x.now }
-    ensures ok { IfOk result (λ lists. means f.now.outputs f.now.body x.now ≡ Gives lists) }
-    ensures trap { IfErr result (λ fault. IsFaultIn (means f.now.outputs f.now.body x.now) fault) }
+    ensures ok { IfOk result (λ lists. slots_mean f.now.outputs f.now.body x.now ≡ Gives lists) }
+    ensures trap { IfErr result (λ fault.
+        IsFaultIn (slots_mean f.now.outputs f.now.body x.now) fault) }
     // At whatever types the function is well typed.
     ensures typed { (takes : Ty_) (gives : List Ty_) → FunTyped takes gives f.now →
         Has takes x.now → IfOk result (λ lists. OutputsHave gives lists) }

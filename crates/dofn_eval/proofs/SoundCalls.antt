@@ -7,7 +7,7 @@ use Rattle.flume_types.specs.Typing.{Has}
 use Rattle.dofn_eval.specs.declared.stmt.Stmt.{Stmt}
 use Rattle.dofn_eval.specs.Outcome.{Outcome, Gives, Traps, Stuck, IsSafe}
 use Rattle.dofn_eval.specs.Answer.{OutputsHave, HasAnswer}
-use Rattle.dofn_eval.specs.Run.{Emissions, means}
+use Rattle.dofn_eval.specs.Run.{Emissions, slots_mean}
 use Rattle.dofn_eval.specs.Function.{Function, FunTyped, CanBeCalledOn}
 use Rattle.dofn_eval.specs.Typed.{BlockTyped}
 use Rattle.dofn_eval.proofs.SoundOutcomes.{Sound, safe_from_sound}
@@ -15,21 +15,22 @@ use Rattle.dofn_eval.proofs.SoundBlocks.{none_yet, sound_block}
 
 sound_call : (takes : Ty) (gives : List Ty) (body : List Stmt) (x : Value)
     → BlockTyped (takes ∷ []) body gives → Has takes x
-    → Sound (OutputsHave gives) (means (length gives) body x)
+    → Sound (OutputsHave gives) (slots_mean (length gives) body x)
 sound_call takes gives body x d k =
     sound_block (takes ∷ []) body gives (x ∷ []) _ d (k, tt) (none_yet gives)
 
 sound_fun : (takes : Ty) (gives : List Ty) (f : Function) (x : Value) → FunTyped takes gives f
-    → Has takes x → Sound (OutputsHave gives) (means f.outputs f.body x)
+    → Has takes x → Sound (OutputsHave gives) (slots_mean f.outputs f.body x)
 sound_fun takes gives f x d k =
-    subst (λ n. Sound (OutputsHave gives) (means n f.body x)) d.1
+    subst (λ n. Sound (OutputsHave gives) (slots_mean n f.body x)) d.1
     (sound_call takes gives f.body x d.0 k)
 
-pub safe_call : (f : Function) (x : Value) → CanBeCalledOn f x → IsSafe (means f.outputs f.body x)
+pub safe_call : (f : Function) (x : Value) → CanBeCalledOn f x
+    → IsSafe (slots_mean f.outputs f.body x)
 safe_call f x a = safe_from_sound (OutputsHave a.1) _ (sound_fun a.0 a.1 f x a.2 a.3)
 
 pub typed_call : (takes : Ty) (gives : List Ty) (f : Function) (x : Value) (lists : Emissions)
-    → FunTyped takes gives f → Has takes x → means f.outputs f.body x ≡ Gives lists
+    → FunTyped takes gives f → Has takes x → slots_mean f.outputs f.body x ≡ Gives lists
     → OutputsHave gives lists
 typed_call takes gives f x lists d k e =
     subst (Sound (OutputsHave gives)) e (sound_fun takes gives f x d k)
@@ -42,6 +43,6 @@ answer_from types Stuck h = absurd h
 
 pub answered_call : (takes : Ty) (gives : List Ty) (body : List Stmt) (x : Value)
     → BlockTyped (takes ∷ []) body gives → Has takes x
-    → HasAnswer gives (means (length gives) body x)
+    → HasAnswer gives (slots_mean (length gives) body x)
 answered_call takes gives body x d k =
-    answer_from gives (means (length gives) body x) (sound_call takes gives body x d k)
+    answer_from gives (slots_mean (length gives) body x) (sound_call takes gives body x d k)

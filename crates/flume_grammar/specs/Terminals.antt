@@ -5,7 +5,7 @@ use Rattle.flume_tokens.specs.declared.sign.Sign.{Sign}
 use Rattle.flume_tokens.specs.declared.token.Token.{Token}
 use Rattle.flume_tokens.specs.declared.token.TokenKind.{TokenKind}
 use Rattle.flume_tokens.specs.declared.token.TokenKind.TheVariants as kind
-use Rattle.flume_tokens.specs.Keywords.{spelling}
+use Rattle.flume_tokens.specs.Keywords.{keyword_spelling}
 
 -- a token of a kind, on some line
 abbrev pub key : Keyword → ℕ → Token
@@ -26,5 +26,5 @@ text content n = record { kind = kind.Text content; line = n }
 -- the name of a field, which may be any word, reserved or not
 abbrev pub word_of : TokenKind → Option (List ℕ)
 word_of (kind.Name x) = Some x
-word_of (kind.Keyword k) = Some (spelling k)
+word_of (kind.Keyword k) = Some (keyword_spelling k)
 word_of _ = None

@@ -2,7 +2,7 @@
 use Rattle.std.proofs.Common.{◌≡◌, ◌∙◌, ℕ, List, [], Option, Some, None, refl, sym, ap, subst, inl}
 use Rattle.std.specs.Option.{option_map_or}
 use Rattle.cache_store.specs.Seen.{SeenCache}
-use Rattle.cached_course.specs.Promises.{Promises as ReusePromises}
+use Rattle.cached_course.specs.Promises.{ReusePromises}
 use Rattle.command_words.specs.Cached.{CachedRun, cached_for}
 use Rattle.command_words.specs.Words.{workload_for}
 use Rattle.command_words.specs.declared.workload.Workload.{Workload}
@@ -14,7 +14,7 @@ use Rattle.outside.specs.Seen.{SeenSource}
 use Rattle.made_course.proofs.of_run_course.PromiseLemmas.{promises}
 use Rattle.made_course.specs.of_run_course.Answers.{IsRefused}
 use Rattle.made_course.specs.of_run_course.Lent.{lent_to}
-use Rattle.made_course.specs.of_run_course.Promises.{Promises as ScriptPromises}
+use Rattle.made_course.specs.of_run_course.Promises.{ScriptPromises}
 use Rattle.made_course.specs.of_run_course.World.{Keeps, World}
 use Rattle.run_settings.specs.Settings.{standard}
 use Rattle.run_texts.specs.declared.status.Status.{Status}

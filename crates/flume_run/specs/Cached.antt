@@ -2,7 +2,7 @@
 use Rattle.std.specs.Prelude.{◌≡◌, ℕ, List, [], Some, None}
 use Rattle.std.specs.Option.{option_map_or}
 use Rattle.cache_store.specs.Seen.{SeenCache}
-use Rattle.cached_course.specs.Promises.{Promises as ReusePromises}
+use Rattle.cached_course.specs.Promises.{ReusePromises}
 use Rattle.command_words.specs.Cached.{CachedRun, cached_for}
 use Rattle.command_words.specs.declared.words.Command.TheVariants.{Run}
 use Rattle.made_course.specs.of_run_course.Asked.{AskFor}

@@ -3,7 +3,7 @@ use Rattle.std.specs.Prelude.{◌≡◌, ℕ, List, Some, None}
 use Rattle.command_words.specs.Words.{workload_for}
 use Rattle.command_words.specs.declared.workload.Workload.{Workload}
 use Rattle.made_course.specs.Makes.{Makes}
-use Rattle.made_course.specs.of_run_course.Promises.{Promises as ScriptPromises}
+use Rattle.made_course.specs.of_run_course.Promises.{ScriptPromises}
 use Rattle.made_course.specs.of_run_course.World.{World}
 use Rattle.run_texts.specs.declared.status.Status.{Status}
 

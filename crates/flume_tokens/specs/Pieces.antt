@@ -12,7 +12,7 @@ use Rattle.flume_tokens.specs.declared.piece.Class.TheVariants as class
 use Rattle.flume_tokens.specs.declared.piece.Piece.{Piece}
 use Rattle.flume_tokens.specs.declared.piece.Piece.TheVariants as piece
 use Rattle.flume_tokens.specs.Keywords.{keyword_of}
-use Rattle.flume_tokens.specs.Signs.{sign_of, spelling}
+use Rattle.flume_tokens.specs.Signs.{sign_of, sign_spelling}
 use Rattle.flume_tokens.specs.Texts.{Closed, closed_text}
 
 -- space, tab and CR
@@ -27,15 +27,15 @@ is_in class.Comment b = not (b == 10)
 
 -- a reserved word is a keyword, any other a name
 abbrev pub word_kind : List ℕ → Option Keyword → TokenKind
-word_kind spelling (Some keyword) = kind.Keyword keyword
-word_kind spelling None = kind.Name spelling
+word_kind sign_spelling (Some keyword) = kind.Keyword keyword
+word_kind sign_spelling None = kind.Name sign_spelling
 
 -- the longest word, of at most 32 bytes
 abbrev pub word : List ℕ → Piece
 word bs =
-    let spelling = take_while (is_in class.Word) bs in
-    if nat_lt 32 (length spelling) then piece.Fault refusal.TooLong else piece.Token
-    (word_kind spelling (keyword_of spelling)) (length spelling)
+    let sign_spelling = take_while (is_in class.Word) bs in
+    if nat_lt 32 (length sign_spelling) then piece.Fault refusal.TooLong else piece.Token
+    (word_kind sign_spelling (keyword_of sign_spelling)) (length sign_spelling)
 
 -- all digits that follow
 abbrev pub number : List ℕ → Piece
@@ -51,7 +51,7 @@ abbrev pub text : List ℕ → Piece
 text bs = text_piece (closed_text false (drop 1 bs))
 
 abbrev pub sign_piece : Option Sign → Piece
-sign_piece (Some s) = piece.Token (kind.Sign s) (length (spelling s))
+sign_piece (Some s) = piece.Token (kind.Sign s) (length (sign_spelling s))
 sign_piece None = piece.Fault refusal.Token
 
 -- the longest sign

@@ -5,29 +5,29 @@ use Rattle.flume_tokens.specs.declared.sign.Sign.{Sign}
 use Rattle.flume_tokens.specs.declared.sign.Sign.TheVariants as sign
 
 -- how a sign is spelled
-abbrev pub spelling : Sign → List ℕ
-spelling sign.Equal = codes "=="
-spelling sign.NotEqual = codes "!="
-spelling sign.AtMost = codes "<="
-spelling sign.AtLeast = codes ">="
-spelling sign.Arrow = codes "->"
-spelling sign.OpenBrace = codes "{"
-spelling sign.CloseBrace = codes "}"
-spelling sign.Open = codes "("
-spelling sign.Close = codes ")"
-spelling sign.OpenBracket = codes "["
-spelling sign.CloseBracket = codes "]"
-spelling sign.Less = codes "<"
-spelling sign.Greater = codes ">"
-spelling sign.Comma = codes ","
-spelling sign.Colon = codes ":"
-spelling sign.Dot = codes "."
-spelling sign.Assign = codes "="
-spelling sign.Plus = codes "+"
-spelling sign.Minus = codes "-"
-spelling sign.Times = codes "*"
-spelling sign.Divide = codes "/"
-spelling sign.Remainder = codes "%"
+abbrev pub sign_spelling : Sign → List ℕ
+sign_spelling sign.Equal = codes "=="
+sign_spelling sign.NotEqual = codes "!="
+sign_spelling sign.AtMost = codes "<="
+sign_spelling sign.AtLeast = codes ">="
+sign_spelling sign.Arrow = codes "->"
+sign_spelling sign.OpenBrace = codes "{"
+sign_spelling sign.CloseBrace = codes "}"
+sign_spelling sign.Open = codes "("
+sign_spelling sign.Close = codes ")"
+sign_spelling sign.OpenBracket = codes "["
+sign_spelling sign.CloseBracket = codes "]"
+sign_spelling sign.Less = codes "<"
+sign_spelling sign.Greater = codes ">"
+sign_spelling sign.Comma = codes ","
+sign_spelling sign.Colon = codes ":"
+sign_spelling sign.Dot = codes "."
+sign_spelling sign.Assign = codes "="
+sign_spelling sign.Plus = codes "+"
+sign_spelling sign.Minus = codes "-"
+sign_spelling sign.Times = codes "*"
+sign_spelling sign.Divide = codes "/"
+sign_spelling sign.Remainder = codes "%"
 
 -- all signs, those of two bytes before those of one
 abbrev pub signs : List Sign
@@ -38,4 +38,4 @@ signs = sign.Equal ∷ sign.NotEqual ∷ sign.AtMost ∷ sign.AtLeast ∷ sign.A
 
 -- the longest sign that the bytes begin with
 unfoldable pub sign_of : List ℕ → Option Sign
-sign_of bytes = find (λ s. starts_with nat_eq bytes (spelling s)) signs
+sign_of bytes = find (λ s. starts_with nat_eq bytes (sign_spelling s)) signs

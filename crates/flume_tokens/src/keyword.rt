@@ -122,7 +122,7 @@ const KEYWORDS: [Keyword; 54] = [
 impl Keyword {
     /// The word itself.
     pub fn spelling(self) -> &'static [u8]
-        ensures { result.now ≡ spec.spelling self }
+        ensures { result.now ≡ spec.keyword_spelling self }
     {
         match self {
             Keyword::Type => b"type",
@@ -196,5 +196,5 @@ pub fn keyword_of(word: &[u8]) -> Option<Keyword>
 
 /// Each keyword reads back as itself.
 pub fn keyword_law()
-    ensures { (k : Keyword) → spec.keyword_of (spec.spelling k) ≡ Some k }
+    ensures { (k : Keyword) → spec.keyword_of (spec.keyword_spelling k) ≡ Some k }
 {}

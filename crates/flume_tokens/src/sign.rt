@@ -79,7 +79,7 @@ const SIGNS: [Sign; 22] = [
 impl Sign {
     /// The bytes of the sign.
     pub fn spelling(self) -> &'static [u8]
-        ensures { result.now ≡ spec.spelling self }
+        ensures { result.now ≡ spec.sign_spelling self }
     {
         match self {
             Sign::Equal => b"==",
@@ -112,7 +112,7 @@ impl Sign {
 #[tactic(auto, unfolding(crate::specs::Signs::sign_of))]
 pub fn sign_of(bytes: &[u8]) -> Option<Sign>
     ensures value { result ≡ spec.sign_of bytes.now }
-    ensures within { IfSome result (λ s. length (spec.spelling s) ≤ length bytes.now) }
+    ensures within { IfSome result (λ s. length (spec.sign_spelling s) ≤ length bytes.now) }
 {
     SIGNS
         .iter()

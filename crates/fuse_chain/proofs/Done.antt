@@ -26,7 +26,7 @@ use Rattle.pardo_fuse.proofs.Parting.{all_parts, number_mod, parts_mod, small_mo
 use Rattle.pardo_fuse.proofs.Places.{same_is, same_self}
 use Rattle.pardo_fuse.proofs.Sites.{parts_readers, sites}
 use Rattle.pardo_fuse.proofs.Unparting.{each_part, low}
-use Rattle.fuse_chain.specs.Rewrites.{InOrder, LeadsTo, Rewrite, is_sibling, other_of}
+use Rattle.fuse_chain.specs.Rewrites.{InOrder, FusesTo, Fusion, is_sibling, other_of}
 use Rattle.fuse_chain.proofs.SideBySide.{rooted}
 use Rattle.fuse_chain.proofs.Partly.{in_last, in_other, not_in}
 use Rattle.fuse_chain.proofs.Plans.{Plan, drawn}
@@ -60,10 +60,10 @@ pub record IsDone (b : Blocked) (done : List Entry) : Type 0 where
       ≡ is_read (parted b).graph v
 
 pub record StepsFrom (b : Blocked) (done rest : List Entry) : Type 0 where
-  pub rewrites : List Rewrite
+  pub rewrites : List Fusion
   pub all : Each (λ r. is_sibling r ≡ true) rewrites
   pub order : InOrder rewrites
-  pub leads : LeadsTo rewrites (done_graph b done) (done_graph b b.graph.nodes)
+  pub leads : FusesTo rewrites (done_graph b done) (done_graph b b.graph.nodes)
   pub above : (low : ℕ) → Each (λ d. low < d.number) rest
       → Each (λ r. low < other_of r) rewrites
 

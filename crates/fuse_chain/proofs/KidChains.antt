@@ -28,7 +28,7 @@ use Rattle.pardo_fuse.proofs.Places.{and_left, pdo_is, place_is, same_is, same_s
 use Rattle.pardo_fuse.proofs.Seeing.{any_at}
 use Rattle.fuse_chain.specs.Cuts.{IsNextKid, siblings_of}
 use Rattle.fuse_chain.specs.Numbers.{ReadsInner, after_kid, after_kids}
-use Rattle.fuse_chain.specs.Rewrites.{ByKids, InOrder, IsKid, Kid, LeadsTo, Rewrite, is_sibling, other_of}
+use Rattle.fuse_chain.specs.Rewrites.{ByKids, InOrder, IsKid, Kid, FusesTo, Fusion, is_sibling, other_of}
 use Rattle.fuse_chain.proofs.CutStates.{any_two}
 use Rattle.fuse_chain.proofs.KidSteps.{keeper_is, kid_of_cut}
 use Rattle.fuse_chain.proofs.LeastSteps.{IsNumbering, next_numbering}
@@ -113,10 +113,10 @@ grows b done e d f is z u =
 
 -- ---- the chain
 pub record KidsFrom (b : Blocked) (done rest : List Entry) : Type 0 where
-  pub rewrites : List Rewrite
+  pub rewrites : List Fusion
   pub all : Each (λ r. is_sibling r ≡ false) rewrites
   pub order : InOrder rewrites
-  pub leads : LeadsTo rewrites (cut_graph (later b done)) (cut_graph (later b b.graph.nodes))
+  pub leads : FusesTo rewrites (cut_graph (later b done)) (cut_graph (later b b.graph.nodes))
   pub above : (low : ℕ) → Each (λ (d : Entry). d.number < b.graph.next → low < d.number) rest
       → Each (λ r. low < other_of r) rewrites
   pub inner : Each (λ r. ReadsInner b (other_of r)) rewrites
@@ -187,7 +187,7 @@ module _ (b : Blocked) (chain : CanChain b) where
     rewrites = i.rewrites;
     all = i.all;
     order = i.order;
-    leads = subst (λ (k : Cut). LeadsTo i.rewrites (cut_graph k) (cut_graph (later b es)))
+    leads = subst (λ (k : Cut). FusesTo i.rewrites (cut_graph k) (cut_graph (later b es)))
         (stays b done e h) i.leads;
     above = λ low a. i.above low a.1;
     inner = i.inner;
@@ -298,7 +298,7 @@ module _ (b : Blocked) (chain : CanChain b) where
         rewrites = i.rewrites;
         all = i.all;
         order = i.order;
-        leads = subst (λ (k : Cut). LeadsTo i.rewrites (cut_graph (siblings_of b)) (cut_graph k))
+        leads = subst (λ (k : Cut). FusesTo i.rewrites (cut_graph (siblings_of b)) (cut_graph k))
             last_cut i.leads;
       }
 

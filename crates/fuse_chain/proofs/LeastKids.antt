@@ -33,7 +33,7 @@ use Rattle.pardo_fuse.proofs.SiteKids.{leads_part}
 use Rattle.pardo_fuse.proofs.Unparting.{CanPart, other_found}
 use Rattle.fuse_chain.specs.Cuts.{siblings_of}
 use Rattle.fuse_chain.specs.Numbers.{KidsToLeast, after_kids}
-use Rattle.fuse_chain.specs.Rewrites.{ByKids, LeadsTo}
+use Rattle.fuse_chain.specs.Rewrites.{ByKids, FusesTo}
 use Rattle.fuse_chain.proofs.KidChains.{can_later, cut_graph, kids_inner, kids_last, kids_numbered, later}
 use Rattle.fuse_chain.proofs.LeastParts.{class_counts}
 use Rattle.fuse_chain.proofs.LeastSteps.{IsNumbering}
@@ -207,7 +207,7 @@ kids_to_least a fu =
         rewrites = k.rewrites;
         all = k.all;
         order = k.order;
-        leads = subst (λ (d : Blocked). LeadsTo k.rewrites (cut_graph (siblings_of P)) d.graph)
+        leads = subst (λ (d : Blocked). FusesTo k.rewrites (cut_graph (siblings_of P)) d.graph)
             (sym (joined_is a fu)) k.leads;
       };
       numbers = last_numbers a fu (after_kids k.rewrites (λ n. n))

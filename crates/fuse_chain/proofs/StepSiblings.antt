@@ -28,7 +28,7 @@ use Rattle.pardo_fuse.proofs.Places.{same_self}
 use Rattle.pardo_fuse.proofs.Seeing.{any_at}
 use Rattle.pardo_fuse.proofs.Unparting.{low}
 use Rattle.fuse_chain.specs.Cuts.{siblings_of}
-use Rattle.fuse_chain.specs.Rewrites.{BySiblings, LeadsTo}
+use Rattle.fuse_chain.specs.Rewrites.{BySiblings, FusesTo}
 use Rattle.fuse_chain.proofs.Begun.{own_drawn, whole_graph, whole_reads, whole_state}
 use Rattle.fuse_chain.proofs.CutStates.{joined_drawn, plan_of}
 use Rattle.fuse_chain.proofs.KidChains.{can_later, cut_graph}
@@ -63,7 +63,7 @@ module _ (b : Blocked) (fu : IsFusible b) where
         rewrites = i.rewrites;
         all = i.all;
         order = i.order;
-        leads = subst (λ l. LeadsTo i.rewrites (graph_of l outs k) (done_graph b es)) is i.leads;
+        leads = subst (λ l. FusesTo i.rewrites (graph_of l outs k) (done_graph b es)) is i.leads;
         above = λ low a. i.above low a.1;
       }
 
@@ -177,10 +177,10 @@ module _ (b : Blocked) (fu : IsFusible b) where
         rewrites = i.rewrites;
         all = i.all;
         order = i.order;
-        leads = subst (λ (x : Graph). LeadsTo i.rewrites x (cut_graph cut)) (whole_graph b fu)
-            (subst (λ l. LeadsTo i.rewrites (graph_of (map (whole b) es) outs k)
+        leads = subst (λ (x : Graph). FusesTo i.rewrites x (cut_graph cut)) (whole_graph b fu)
+            (subst (λ l. FusesTo i.rewrites (graph_of (map (whole b) es) outs k)
             (graph_of l outs k)) nodes_last
-            (subst (λ l. LeadsTo i.rewrites (graph_of l outs k) (done_graph b es)) begun i.leads));
+            (subst (λ l. FusesTo i.rewrites (graph_of l outs k) (done_graph b es)) begun i.leads));
       }
 
   pub steps_lead : BySiblings b.graph (fused_by (siblings_of (parted b))).graph

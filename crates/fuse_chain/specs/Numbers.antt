@@ -12,7 +12,7 @@ use Rattle.pardo_fuse.specs.Parting.{parted}
 use Rattle.pardo_fuse.specs.Readers.{cut_of, is_unmarked}
 use Rattle.pardo_fuse.specs.SingleFusing.{fused_by}
 use Rattle.fuse_chain.specs.Cuts.{siblings_of}
-use Rattle.fuse_chain.specs.Rewrites.{ByKids, Kid, Rewrite, Sibling, other_of}
+use Rattle.fuse_chain.specs.Rewrites.{ByKids, Kid, Fusion, Sibling, other_of}
 
 -- a in place of b, and b in place of a
 abbrev pub other_of_two : ℕ → ℕ → ℕ → ℕ
@@ -23,7 +23,7 @@ abbrev pub after_kid : (ℕ → ℕ) → ℕ → ℕ → ℕ → ℕ
 after_kid l p q n = cond (ltb (l q) (l p)) (other_of_two (l p) (l q) (l n)) (l n)
 
 -- after kids one after another; a sibling is of greater number as it is
-abbrev pub after_kids : List Rewrite → (ℕ → ℕ) → ℕ → ℕ
+abbrev pub after_kids : List Fusion → (ℕ → ℕ) → ℕ → ℕ
 after_kids [] l = l
 after_kids (Kid p k q ∷ rs) l = after_kids rs (after_kid l p q)
 after_kids (Sibling p q ∷ rs) l = after_kids rs l

@@ -10,7 +10,7 @@ use Rattle.exec_graph.specs.declared.graph.Node.TheVariants.{Pdo}
 use Rattle.exec_graph.specs.declared.graph.Place.{Place}
 use Rattle.exec_graph.proofs.Soundness.{IsSound-ok, differ_ascends}
 use Rattle.pass_rewrites.specs.of_fuse_chain.Numbers.{after_kid, after_kids, other_of_two}
-use Rattle.pass_rewrites.specs.of_fuse_chain.Rewrites.{IsKid, Kid, Sibling, LeadsTo, Rewrite as Fusion, is_sibling, other_of}
+use Rattle.pass_rewrites.specs.of_fuse_chain.Rewrites.{IsKid, Kid, Sibling, FusesTo, Fusion, is_sibling, other_of}
 use Rattle.fusion_blocks.specs.Blocks.{unmarked}
 use Rattle.graph_laws.specs.Kids.{with_kid}
 use Rattle.graph_laws.proofs.Kids.{kid_formed}
@@ -79,7 +79,7 @@ kid_is g p k q h m =
 -- ---- a Pdo that goes is not there at the end
 
 -- and one that stays is
-there_after : (rs : List Fusion) (g m : Graph) (n : ℕ) (c : Place) → LeadsTo rs g m
+there_after : (rs : List Fusion) (g m : Graph) (n : ℕ) (c : Place) → FusesTo rs g m
     → IsSound g → Calls g n c → Each (λ r. other_of r ≡ n → ⊥) rs
     → node_at m.nodes n ≡ None → ⊥
 there_after rs g m n c l low x i gone =
@@ -96,7 +96,7 @@ module _ (t new : Trace) (m : Graph) (p k n : ℕ) (ns : List ℕ) (whole : List
   calls_n : Calls g n (place p k)
   calls_n = (forest_at g n, can.other)
 
-  taken_by : (rs : List Fusion) → Each (λ r. is_sibling r ≡ false) rs → LeadsTo rs g m
+  taken_by : (rs : List Fusion) → Each (λ r. is_sibling r ≡ false) rs → FusesTo rs g m
       → GoFrom rs (n ∷ ns) → Rise (n ∷ ns) → IsSound g
       → t.rewrites ++ map as_rewrite (present l rs) ≡ whole
       → ((i : ℕ) → after_kids rs l i ≡ total i) → new.graph ≡ kid_under g p k n
@@ -150,7 +150,7 @@ module _ (t new : Trace) (m : Graph) (p k n : ℕ) (ns : List ℕ) (whole : List
 
 left_by : (l total : ℕ → ℕ) (t : Trace) (m : Graph) (n : ℕ) (ns : List ℕ) (whole : List Rewrite)
     (rs : List Fusion)
-    → Each (λ r. is_sibling r ≡ false) rs → LeadsTo rs t.graph m
+    → Each (λ r. is_sibling r ≡ false) rs → FusesTo rs t.graph m
     → GoFrom rs (n ∷ ns) → Rise (n ∷ ns) → IsSound t.graph
     → t.rewrites ++ map as_rewrite (present l rs) ≡ whole
     → ((i : ℕ) → after_kids rs l i ≡ total i)

@@ -8,7 +8,7 @@ use Rattle.exec_graph.specs.declared.graph.Graph.{Graph}
 use Rattle.exec_graph.specs.declared.graph.Node.TheVariants.{Pdo}
 use Rattle.exec_graph.specs.declared.graph.Place.{Place}
 use Rattle.pass_rewrites.specs.of_fuse_chain.Numbers.{after_kids}
-use Rattle.pass_rewrites.specs.of_fuse_chain.Rewrites.{IsSibling, Kid, Sibling, LeadsTo, Rewrite as Fusion, is_sibling, other_of}
+use Rattle.pass_rewrites.specs.of_fuse_chain.Rewrites.{IsSibling, Kid, Sibling, FusesTo, Fusion, is_sibling, other_of}
 use Rattle.graph_laws.specs.Kids.{with_sibling}
 use Rattle.graph_rewrites.specs.Rewrites.{CanBeSibling, after_sibling, forest_at, input_at, input_of}
 use Rattle.graph_rewrites.specs.declared.rewrite.Rewrite.{Rewrite}
@@ -40,7 +40,7 @@ sibling_is g p q h m =
     ∙ m.is
 
 -- two that read one collection before do so at the end, where they stay
-stay_apart : (rs : List Fusion) (g m : Graph) (a b : ℕ) (c : Place) → LeadsTo rs g m
+stay_apart : (rs : List Fusion) (g m : Graph) (a b : ℕ) (c : Place) → FusesTo rs g m
     → IsSound g → AreApart m → Calls g a c → Calls g b c
     → Each (λ r. other_of r ≡ a → ⊥) rs → Each (λ r. other_of r ≡ b → ⊥) rs → a ≡ b
 stay_apart rs g m a b c l low apart x y i j =
@@ -66,14 +66,14 @@ module _ (t new : Trace) (m : Graph) (p n : ℕ) (ns : List ℕ) (whole : List R
   calls_n = (forest_at g n, can.other)
 
   -- it would not go otherwise
-  must_go : (rs : List Fusion) → LeadsTo rs g m → IsSound g
+  must_go : (rs : List Fusion) → FusesTo rs g m → IsSound g
       → Each (λ r. other_of r ≡ p → ⊥) rs → Each (λ r. other_of r ≡ n → ⊥) rs → ⊥
   must_go rs l low i j =
       let same : p ≡ n = stay_apart rs g m p n c l low apart calls_p calls_n i j in omega arith
 
   -- and it goes to the Pdo that was found
   its_keeper : (k q : ℕ) (rs : List Fusion) (h : Graph) → q ≡ n → IsSibling g k q h
-      → LeadsTo (Sibling k q ∷ rs) g m → IsSound g
+      → FusesTo (Sibling k q ∷ rs) g m → IsSound g
       → Each (λ r. other_of r ≡ p → ⊥) rs → Each (λ r. other_of r ≡ k → ⊥) rs → p ≡ k
   its_keeper k q rs h e s l low i j =
       let both : Some (Pdo s.source s.far) ≡ Some (Pdo c (forest_at g n)) =
@@ -84,7 +84,7 @@ module _ (t new : Trace) (m : Graph) (p n : ℕ) (ns : List ℕ) (whole : List R
       (s.near, s.can.keeper ∙ ap (λ (x : Place). Some (Pdo x s.near)) same)
       (λ z. omega arith, i) (λ z. omega arith, j)
 
-  taken_by : (rs : List Fusion) → Each (λ r. is_sibling r ≡ true) rs → LeadsTo rs g m
+  taken_by : (rs : List Fusion) → Each (λ r. is_sibling r ≡ true) rs → FusesTo rs g m
       → GoFrom rs (n ∷ ns) → Rise (n ∷ ns) → IsSound g
       → t.rewrites ++ map as_rewrite (present as_is rs) ≡ whole
       → ((i : ℕ) → after_kids rs as_is i ≡ total i) → new.graph ≡ after_sibling g p n
@@ -130,7 +130,7 @@ module _ (t new : Trace) (m : Graph) (p n : ℕ) (ns : List ℕ) (whole : List R
 
 left_by : (total : ℕ → ℕ) (t : Trace) (m : Graph) (n : ℕ) (ns : List ℕ) (whole : List Rewrite)
     (rs : List Fusion)
-    → Each (λ r. is_sibling r ≡ true) rs → LeadsTo rs t.graph m → GoFrom rs (n ∷ ns)
+    → Each (λ r. is_sibling r ≡ true) rs → FusesTo rs t.graph m → GoFrom rs (n ∷ ns)
     → Rise (n ∷ ns) → IsSound t.graph → t.rewrites ++ map as_rewrite (present as_is rs) ≡ whole
     → ((i : ℕ) → after_kids rs as_is i ≡ total i)
     → ((p : ℕ) → p < n → CanBeSibling t.graph p n → ⊥) → IsUnderway true as_is total t m ns whole

@@ -14,7 +14,7 @@ use Rattle.exec_graph.specs.declared.graph.Node.{Node}
 use Rattle.exec_graph.specs.declared.graph.Node.TheVariants.{Pdo}
 use Rattle.exec_graph.specs.declared.graph.Place.{Place}
 use Rattle.pass_rewrites.specs.of_fuse_chain.Numbers.{after_kids}
-use Rattle.pass_rewrites.specs.of_fuse_chain.Rewrites.{InOrder, IsKid, IsSibling, Kid, Sibling, LeadsTo, MakesByRewrite, Rewrite as Fusion, is_sibling, other_of}
+use Rattle.pass_rewrites.specs.of_fuse_chain.Rewrites.{InOrder, IsKid, IsSibling, Kid, Sibling, FusesTo, MakesByRewrite, Fusion, is_sibling, other_of}
 use Rattle.graph_laws.specs.Joining.{beside, grafted, joined_into}
 use Rattle.graph_laws.specs.Kids.{apart, even, named_by, odd, renewed}
 use Rattle.graph_rewrites.specs.declared.rewrite.Rewrite.{Rewrite}
@@ -102,7 +102,7 @@ effect (Sibling p q) g h m low =
 -- ---- all of them
 
 -- Two Pdos that stay read one collection where they did so before.
-pub calls_kept : (rs : List Fusion) (g m : Graph) → LeadsTo rs g m → IsSound g
+pub calls_kept : (rs : List Fusion) (g m : Graph) → FusesTo rs g m → IsSound g
     → (a b : ℕ) (c : Place) → Calls g a c → Calls g b c
     → Each (λ r. other_of r ≡ a → ⊥) rs → Each (λ r. other_of r ≡ b → ⊥) rs
     → (d : Place) × Calls m a d × Calls m b d
@@ -113,7 +113,7 @@ calls_kept (r ∷ rs) g m l low a b c x y i j =
     calls_kept rs l.0 m l.2 (made_sound r g l.0 l.1 low) a b (e.shift c)
     (e.calls a c x (λ z. i.0 (sym z))) (e.calls b c y (λ z. j.0 (sym z))) i.1 j.1
 
-pub absent_kept : (rs : List Fusion) (g m : Graph) → LeadsTo rs g m → IsSound g → (n : ℕ)
+pub absent_kept : (rs : List Fusion) (g m : Graph) → FusesTo rs g m → IsSound g → (n : ℕ)
     → node_at g.nodes n ≡ None → node_at m.nodes n ≡ None
 absent_kept [] g m l low n h = subst (λ (z : Graph). node_at z.nodes n ≡ None) l h
 absent_kept (r ∷ rs) g m l low n h =
@@ -122,12 +122,12 @@ absent_kept (r ∷ rs) g m l low n h =
 
 -- what is still to be made behind the first of them, where a graph is what that makes
 pub await_rest : (siblings : Bool) (r : Fusion) (rs : List Fusion) (g h now m : Graph)
-    (ns : List ℕ) → now ≡ h → MakesByRewrite r g h → IsSound g → LeadsTo rs h m
+    (ns : List ℕ) → now ≡ h → MakesByRewrite r g h → IsSound g → FusesTo rs h m
     → Each (λ s. is_sibling s ≡ siblings) rs → GoFrom rs ns → Rise ns
     → Await siblings now m ns rs
 await_rest siblings r rs g h now m ns at made ok to all go rise = record {
   all = all;
-  leads = subst (λ (x : Graph). LeadsTo rs x m) (sym at) to;
+  leads = subst (λ (x : Graph). FusesTo rs x m) (sym at) to;
   some = go;
   rise = rise;
   sound = subst IsSound (sym at) (made_sound r g h made ok);
@@ -172,7 +172,7 @@ held_back g h q e n at = by (node_at g.nodes n) refl
         let bad : ⊥ = cc in absurd bad
     by (Some x) i = (x, i)
 
-pub others_held : (rs : List Fusion) (g m : Graph) → LeadsTo rs g m → IsSound g
+pub others_held : (rs : List Fusion) (g m : Graph) → FusesTo rs g m → IsSound g
     → Each (λ r. IsHeld g.nodes (other_of r)) rs
 others_held [] g m l low = tt
 others_held (r ∷ rs) g m l low =
@@ -184,7 +184,7 @@ others_held (r ∷ rs) g m l low =
           (others_held rs l.0 m l.2 (made_sound r g l.0 l.1 low)),
     )
 
-pub still_held : (rs : List Fusion) (g m : Graph) → LeadsTo rs g m → IsSound g → (n : ℕ)
+pub still_held : (rs : List Fusion) (g m : Graph) → FusesTo rs g m → IsSound g → (n : ℕ)
     → IsHeld m.nodes n → IsHeld g.nodes n
 still_held [] g m l low n h = subst (λ (z : Graph). IsHeld z.nodes n) (sym l) h
 still_held (r ∷ rs) g m l low n h =
@@ -342,7 +342,7 @@ pub all_made : (siblings : Bool) (t : Trace) (m : Graph) (whole : List Rewrite)
 all_made siblings t m whole l total u =
     by u.rest u.await.leads u.await.some u.written u.last
   where
-    by : (rs : List Fusion) → LeadsTo rs t.graph m → GoFrom rs []
+    by : (rs : List Fusion) → FusesTo rs t.graph m → GoFrom rs []
         → t.rewrites ++ map as_rewrite (present l rs) ≡ whole
         → ((n : ℕ) → after_kids rs l n ≡ total n)
         → (t.graph ≡ m) × (t.rewrites ≡ whole) × ((n : ℕ) → l n ≡ total n)

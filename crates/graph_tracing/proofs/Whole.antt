@@ -15,7 +15,7 @@ use Rattle.exec_graph.proofs.Entries.{all_found}
 use Rattle.exec_graph.proofs.Solving.{each_found}
 use Rattle.exec_graph.proofs.Soundness.{IsSound-ok}
 use Rattle.pass_rewrites.specs.of_fuse_chain.Numbers.{KidsToLeast, ReadsInner, after_kid, after_kids, other_of_two}
-use Rattle.pass_rewrites.specs.of_fuse_chain.Rewrites.{ByKids, BySiblings, InOrder, Kid, Sibling, LeadsTo, Rewrite as Fusion, is_sibling, other_of}
+use Rattle.pass_rewrites.specs.of_fuse_chain.Rewrites.{ByKids, BySiblings, InOrder, Kid, Sibling, FusesTo, Fusion, is_sibling, other_of}
 use Rattle.pass_rewrites.proofs.of_fuse_chain.Keeping.{lead_good}
 use Rattle.pass_rewrites.proofs.of_fuse_chain.LeastKids.{Stood, kids_to_least, stood_by_parents}
 use Rattle.pass_rewrites.proofs.of_fuse_chain.LeastSteps.{two_twice}
@@ -137,7 +137,7 @@ both_order (Sibling p q ∷ rs) ks o all i kids = (
 
 -- ---- both parts
 
-sound_kept : (rs : List Fusion) (g m : Graph) → LeadsTo rs g m → IsSound g → IsSound m
+sound_kept : (rs : List Fusion) (g m : Graph) → FusesTo rs g m → IsSound g → IsSound m
 sound_kept [] g m l ok = subst IsSound l ok
 sound_kept (r ∷ rs) g m l ok = sound_kept rs l.0 m l.2 (made_sound r g l.0 l.1 ok)
 
@@ -192,7 +192,7 @@ module _ (b : Blocked) (fu : IsFusible b) where
     rest = siblings.rewrites;
     await = record {
       all = siblings.all;
-      leads = subst (λ (x : Graph). LeadsTo siblings.rewrites x (middle b)) (sym at) siblings.leads;
+      leads = subst (λ (x : Graph). FusesTo siblings.rewrites x (middle b)) (sym at) siblings.leads;
       some = go_from siblings.rewrites es siblings.order fu.ok.ok.founded.ascends
           (others_held siblings.rewrites b.graph (middle b) siblings.leads sound);
       rise = rise_numbers es fu.ok.ok.founded.ascends;
@@ -245,7 +245,7 @@ module _ (b : Blocked) (fu : IsFusible b) where
     rest = kids.rewrites;
     await = record {
       all = kids.all;
-      leads = subst (λ (x : Graph). LeadsTo kids.rewrites x last) (sym at) kids.leads;
+      leads = subst (λ (x : Graph). FusesTo kids.rewrites x last) (sym at) kids.leads;
       some = go_passing (goes_in b) kids.rewrites es kids.order fu.ok.ok.founded.ascends all_pass;
       rise = rise_those (goes_in b) es fu.ok.ok.founded.ascends;
       sound = subst IsSound (sym at) sound_middle;

@@ -25,7 +25,7 @@ use Rattle.flume_types.specs.declared.types.Ty.{Ty, Ty-F, out-Ty}
 use Rattle.flume_types.specs.declared.types.Ty.TheVariants as ty
 use Rattle.combine_table.specs.declared.comb.Comb.TheVariants as comb
 use Rattle.body_check.proofs.FormLemmas.{after-step}
-use Rattle.body_check.specs.Bodies.{after as sight_after, at_start, body_of, layer_after}
+use Rattle.body_check.specs.Bodies.{sight_after, at_start, body_of, layer_after}
 use Rattle.expression_check.proofs.FormLemmas.{type_of-step}
 use Rattle.expression_check.specs.Types.{layer_type, type_of}
 use Rattle.expression_types.specs.Fields.{named_field, fields_layer}

@@ -14,6 +14,7 @@
 //! accumulators come to depends neither on the cut nor on the order of merging (`cuts_law`).
 #![tactic(auto)]
 
+mod entries;
 mod laws;
 mod lift;
 mod merge;

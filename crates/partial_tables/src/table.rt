@@ -9,11 +9,11 @@ ghost use Rattle.combine_table.specs.Contents.{wide_or_zero};
 ghost use Rattle.partial_tables.specs.declared.table.AddFault.TheVariants.{Memory};
 ghost use Rattle.partial_tables.specs.Tables.{has_key, added, holding, HaveShape, HaveDistinctKeys, IsRefusedAdd};
 
+use crate::entries::{append_entries, listed, sort_by_keys};
 use combine_table::{Comb, merge};
-use flume_value::{Value, compare};
+use flume_value::Value;
 use indexmap::IndexMap;
 use std::alloc::{AllocError, Global};
-use std::cmp::Ordering;
 use std::marker::Model;
 use std::mem::replace;
 
@@ -367,51 +367,5 @@ fn wide(value: &Value) -> i128
     match value {
         Value::Wide(n) => *n,
         _ => unreachable!(),
-    }
-}
-
-fn append_entries(
-    table: IndexMap<Value, Value>,
-    others: &mut Vec<Partial>,
-) -> Result<(), AllocError>
-    ensures { OnOk result (others.new.items ≡ others.old.items ++ table.entries) }
-{
-    for entry in table {
-        others.push(entry)?;
-    }
-    Ok(())
-}
-
-fn listed(alloc: Global, table: IndexMap<Value, Value>) -> Result<Vec<Partial>, AllocError>
-    ensures { IfOk result (λ partials. partials.items ≡ table.entries) }
-{
-    let mut partials = Vec::with_capacity(alloc, table.len())?;
-    append_entries(table, &mut partials)?;
-    Ok(partials)
-}
-
-// Sorts accumulators by their keys, once they are out of the table, whose index none needs then.
-fn sort_by_keys(partials: &mut Vec<Partial>)
-    ensures same { IsPermutation partials.old.items partials.new.items }
-    ensures ascending { IsSorted value_cmp (map (λ p. p.0) partials.new.items) }
-{
-    partials.sort_unstable_by(
-        |a: &Partial, b: &Partial| -> Ordering
-            ensures { result ≡ value_cmp a.now.0 b.now.0 }
-        { compare_keys(&a.0, &b.0) },
-    );
-}
-
-// How a key stands to another. Most keys are ints, which are compared where they stand.
-#[tactic(auto, using(flume_value::proofs::OrderLemmas::the_order))]
-fn compare_keys(a: &Value, b: &Value) -> Ordering
-    ensures { result ≡ value_cmp a.now b.now }
-{
-    match a {
-        Value::Int(m) => match b {
-            Value::Int(n) => m.cmp(n),
-            _ => compare(a, b),
-        },
-        _ => compare(a, b),
     }
 }

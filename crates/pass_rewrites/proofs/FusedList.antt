@@ -9,7 +9,7 @@ use Rattle.exec_graph.specs.declared.graph.Graph.{Graph}
 use Rattle.exec_graph.proofs.Soundness.{IsSound-ok}
 use Rattle.fuse_chain.specs.Cuts.{siblings_of}
 use Rattle.fuse_chain.specs.Numbers.{KidsToLeast, after_kids}
-use Rattle.fuse_chain.specs.Rewrites.{BySiblings, LeadsTo as Fuses, Rewrite as Fusion, is_sibling, other_of}
+use Rattle.fuse_chain.specs.Rewrites.{BySiblings, FusesTo as Fuses, Fusion, is_sibling, other_of}
 use Rattle.fuse_chain.specs.Rewrites as fusion
 use Rattle.fuse_chain.proofs.Keeping.{lead_good}
 use Rattle.fuse_chain.proofs.LeastKids.{kids_to_least}

@@ -6,7 +6,7 @@ use Rattle.exec_graph.specs.Meaning.{node_at, place}
 use Rattle.exec_graph.specs.declared.graph.Graph.{Graph}
 use Rattle.exec_graph.specs.declared.graph.Place.{Place}
 use Rattle.exec_graph.specs.declared.graph.Node.TheVariants.{Pdo}
-use Rattle.fuse_chain.specs.Rewrites.{IsKid, IsSibling, Rewrite as Fusion}
+use Rattle.fuse_chain.specs.Rewrites.{IsKid, IsSibling, Fusion}
 use Rattle.fuse_chain.specs.Rewrites as fusion
 use Rattle.graph_laws.specs.Kids.{CanKid, CanPair, with_kid, with_sibling}
 use Rattle.sink_laws.specs.Chain.{forest_of}

@@ -15,7 +15,7 @@ use Rattle.exec_graph.proofs.Entries.{entry}
 use Rattle.exec_graph.proofs.Solving.{each_found, gives_found}
 use Rattle.exec_graph.proofs.Soundness.{IsSound-ok}
 use Rattle.fuse_chain.specs.Numbers.{after_kid, after_kids, other_of_two}
-use Rattle.fuse_chain.specs.Rewrites.{IsKid, LeadsTo as Fuses, Rewrite as Fusion, is_sibling}
+use Rattle.fuse_chain.specs.Rewrites.{IsKid, FusesTo as Fuses, Fusion, is_sibling}
 use Rattle.fuse_chain.specs.Rewrites as fusion
 use Rattle.fuse_chain.proofs.Keeping.{lead_good}
 use Rattle.fuse_chain.proofs.LeastSteps.{two_twice}

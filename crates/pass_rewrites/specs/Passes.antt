@@ -4,7 +4,7 @@ use Rattle.std.specs.List.{AllByRecursion}
 use Rattle.exec_graph.specs.declared.graph.Blocked.{Blocked}
 use Rattle.exec_graph.specs.declared.graph.Graph.{Graph}
 use Rattle.fuse_chain.specs.Numbers.{after_kid}
-use Rattle.fuse_chain.specs.Rewrites.{InOrder, Rewrite as Fusion, is_sibling, other_of}
+use Rattle.fuse_chain.specs.Rewrites.{InOrder, Fusion, is_sibling, other_of}
 use Rattle.fuse_chain.specs.Rewrites as fusion
 use Rattle.fusion_blocks.specs.Blocks.{unmarked}
 use Rattle.graph_rewrites.specs.Replays.{Leads, group_of}

@@ -9,7 +9,7 @@ use Rattle.run_texts.specs.declared.status.Status.TheVariants.{Done, GaveUp, Usa
 use Rattle.run_course.specs.Answers.{Answers}
 use Rattle.run_course.specs.Asks.{AsksFor}
 use Rattle.run_course.specs.Hosts.{AsksHosts}
-use Rattle.run_course.specs.Promises.{Promises}
+use Rattle.run_course.specs.Promises.{ScriptPromises}
 use Rattle.run_course.specs.World.{Keeps, World}
 use Rattle.run_course.specs.declared.stop.Stop.{Stop}
 use Rattle.run_course.specs.inner.Course.{AsksHostsInCall, AsksInCall, IsStopped, TellsStop}
@@ -39,7 +39,7 @@ pub promises : (words : Words) (before after : World) (status : Status)
     → Answers words before after status → Keeps before after
     → AsksFor words before.source after.source status
     → AsksHosts words before.source.files before.hosts after.hosts status
-    → Promises words before after status
+    → ScriptPromises words before after status
 promises words before after status answers kept asked hosts =
     let when : (other : Status) → status ≡ other → Answers words before after other
     = λ other is. subst (λ (s : Status). Answers words before after s) is answers in
@@ -88,7 +88,7 @@ pub stop_promises : (T : Type 0) (words : Words) (before after : World) (why : S
     → before.screen.faults ≤ after.screen.faults → AllZip Grew before.hosts after.hosts
     → AsksInCall words before.source after.source {T = T} (Err why)
     → AsksHostsInCall {T = T} words before.source.files before.hosts after.hosts (Err why)
-    → Promises words before after status
+    → ScriptPromises words before after status
 stop_promises T words before after why status is tells same told later screen grew asked
     hosts =
     promises words before after status (stopped words before after why status is tells same)

@@ -121,7 +121,8 @@ IsEnd command script rows status = (status ≡ WantOfMemory) ⊎ EndsAs command 
 
 -- What is so after a call with these words, which found the one world and left the other, and
 -- answered so.
-pub record Promises (words : List (List ℕ)) (before after : World) (status : Status) : Type 0 where
+pub record ScriptPromises (words : List (List ℕ)) (before after : World)
+    (status : Status) : Type 0 where
   -- the headline: every output file is whole, ended and right, and so is the screen's text
   pub done : status ≡ Done → IsDone words before after
   -- one of the script's traps is named, for `direct` the least and for `run` the first of its

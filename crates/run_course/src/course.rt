@@ -5,7 +5,7 @@ ghost use Rattle.std.specs.Option.{option_map};
 ghost use Rattle.crew.specs.Hosts.{Grew};
 ghost use Rattle.outside.specs.Saves.{output_file};
 ghost use Rattle.run_course.specs.Lent.{lent_to};
-ghost use Rattle.run_course.specs.Promises.{Promises};
+ghost use Rattle.run_course.specs.Promises.{ScriptPromises};
 ghost use Rattle.run_course.specs.World.{world};
 ghost use Rattle.run_course.specs.Written.{IsWritten};
 ghost use Rattle.run_course.specs.inner.Course.{AsksHostsInCall, AsksInCall, Delivers, IsStopped, TellsStop};
@@ -33,7 +33,7 @@ pub fn run<X: Threads + Sync, R: Source, H: Host + Send, K: Shelf, P: Screen>(
     screen: &mut P,
 ) -> Status
     requires { length hosts.old ≡ 16 }
-    ensures promises { Promises (map string_bytes words.now)
+    ensures promises { ScriptPromises (map string_bytes words.now)
         (world (R.seen source.old) (K.seen shelf.old) (P.seen screen.old) (map H.account hosts.old))
         (world (R.seen source.new) (K.seen shelf.new) (P.seen screen.new) (map H.account hosts.new))
         result }

@@ -11,7 +11,7 @@ use Rattle.flume_collection.specs.Calls.{Called}
 use Rattle.written_types.specs.Named.{Named}
 use Rattle.dofn_eval.specs.Function.{Function as Fun}
 use Rattle.dofn_eval.specs.Outcome.{Gives, IsFaultIn}
-use Rattle.dofn_eval.specs.Run.{means}
+use Rattle.dofn_eval.specs.Run.{slots_mean}
 use Rattle.forest_steps.specs.Functions.{IsCallFault}
 use Rattle.build_law.specs.of_script_program.Program.{DoesAsWritten}
 use Rattle.build_law.specs.of_script_program.Script.{Function}
@@ -27,13 +27,13 @@ module _ (found : Option Function) (function : Function) (at : found ≡ Some fu
       → answered_by found x ≡ called
   answered called is = ap (λ (o : Option Function). answered_by o x) at ∙ is
 
-  emitted : (lists : List (List Value)) → means fun.outputs fun.body x ≡ Gives lists
+  emitted : (lists : List (List Value)) → slots_mean fun.outputs fun.body x ≡ Gives lists
       → answered_by found x ≡ Ok lists
   emitted lists is =
       answered (Ok lists)
       (ap or_silent (same_answer fun function does x ∙ gives_answer fun x lists is))
 
-  trapped : (fault : CallFault) → IsFaultIn (means fun.outputs fun.body x) fault
+  trapped : (fault : CallFault) → IsFaultIn (slots_mean fun.outputs fun.body x) fault
       → IsCallFault (answered_by found x) x fault
   trapped (call.Trap kind) is =
       answered (Err (kind, x))
@@ -41,17 +41,17 @@ module _ (found : Option Function) (function : Function) (at : found ≡ Some fu
   trapped call.Memory is = tt
 
   pub emits : {T : Type 0} (items : T → List (List Value)) (result : Result T CallFault)
-      → IfOk result (λ lists. means fun.outputs fun.body x ≡ Gives (items lists))
+      → IfOk result (λ lists. slots_mean fun.outputs fun.body x ≡ Gives (items lists))
       → IfOk result (λ lists. answered_by found x ≡ Ok (items lists))
   emits items result is =
-      IfOk-weaker result (λ lists. means fun.outputs fun.body x ≡ Gives (items lists))
+      IfOk-weaker result (λ lists. slots_mean fun.outputs fun.body x ≡ Gives (items lists))
       (λ lists. answered_by found x ≡ Ok (items lists)) (λ lists e. emitted (items lists) e) is
 
   pub traps : {T : Type 0} (result : Result T CallFault)
-      → IfErr result (IsFaultIn (means fun.outputs fun.body x))
+      → IfErr result (IsFaultIn (slots_mean fun.outputs fun.body x))
       → IfErr result (IsCallFault (answered_by found x) x)
   traps result is =
-      IfErr-weaker result (IsFaultIn (means fun.outputs fun.body x))
+      IfErr-weaker result (IsFaultIn (slots_mean fun.outputs fun.body x))
       (IsCallFault (answered_by found x) x) trapped is
 
 -- ---- another number

@@ -8,7 +8,7 @@ ghost use Rattle.bag_groups.specs.Pairs.{pair as pair_of};
 ghost use Rattle.dofn_eval.specs.Meaning.{value_of, values_of};
 ghost use Rattle.dofn_eval.specs.Operations.{field_in};
 ghost use Rattle.dofn_eval.specs.Outcome.{Gives};
-ghost use Rattle.dofn_eval.specs.Run.{means};
+ghost use Rattle.dofn_eval.specs.Run.{slots_mean};
 ghost use Rattle.forest_steps.specs.Answers.{lists_of};
 ghost use Rattle.dofn_eval.specs.declared.stmt.Stmt.TheVariants as stmts;
 
@@ -26,7 +26,7 @@ pub(crate) fn one_emission(
     element: &Value,
 ) -> Result<Option<Answer>, AllocError>
     ensures { IfOk result (λ emission. IfSome emission (λ answer.
-        means fun.now.outputs fun.now.body element.now ≡ Gives (lists_of answer))) }
+        slots_mean fun.now.outputs fun.now.body element.now ≡ Gives (lists_of answer))) }
 {
     if fun.outputs() != 1 {
         return Ok(None);

@@ -2,7 +2,7 @@
 ghost use Rattle.std.specs.Prelude.{◌≡◌, ◌∷◌, [], IfErr, IfOk, length};
 ghost use Rattle.dofn_eval.specs.Function.{CanBeCalledOn};
 ghost use Rattle.dofn_eval.specs.Outcome.{Gives, IsFaultIn};
-ghost use Rattle.dofn_eval.specs.Run.{means};
+ghost use Rattle.dofn_eval.specs.Run.{slots_mean};
 ghost use Rattle.forest_steps.specs.Answers.{lists_of};
 
 use crate::emission::one_emission;
@@ -74,8 +74,8 @@ impl<'a> Functions for ScriptFunctions<'a> {
 fn call_function(alloc: Global, fun: &Fun, element: &Value) -> Result<Answer, CallFault>
     requires { CanBeCalledOn fun.now element.now }
     ensures emissions { IfOk result (λ answer.
-        means fun.now.outputs fun.now.body element.now ≡ Gives (lists_of answer)) }
-    ensures trap { IfErr result (IsFaultIn (means fun.now.outputs fun.now.body element.now)) }
+        slots_mean fun.now.outputs fun.now.body element.now ≡ Gives (lists_of answer)) }
+    ensures trap { IfErr result (IsFaultIn (slots_mean fun.now.outputs fun.now.body element.now)) }
 {
     match one_emission(alloc, fun, element)? {
         Some(answer) => Ok(answer),
@@ -87,8 +87,8 @@ fn call_function(alloc: Global, fun: &Fun, element: &Value) -> Result<Answer, Ca
 fn run_body(alloc: Global, fun: &Fun, element: &Value) -> Result<Answer, CallFault>
     requires { CanBeCalledOn fun.now element.now }
     ensures emissions { IfOk result (λ answer.
-        means fun.now.outputs fun.now.body element.now ≡ Gives (lists_of answer)) }
-    ensures trap { IfErr result (IsFaultIn (means fun.now.outputs fun.now.body element.now)) }
+        slots_mean fun.now.outputs fun.now.body element.now ≡ Gives (lists_of answer)) }
+    ensures trap { IfErr result (IsFaultIn (slots_mean fun.now.outputs fun.now.body element.now)) }
 {
     let (first, others) = call(alloc, fun, element)?.into_parts();
     Ok(in_order(first, others)?)

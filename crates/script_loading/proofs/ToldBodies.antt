@@ -22,7 +22,7 @@ use Rattle.expression_types.specs.Types.{is_bool, is_same, either_of, place_unde
 use Rattle.expression_types.specs.Types.{list_type, unary_type, binary_type, index_type}
 use Rattle.expression_types.specs.Types.{pick_type}
 use Rattle.expression_check.specs.Types.{all_types, layer_type, type_of}
-use Rattle.script_program.specs.of_body_check.Bodies.{after_all, layer_after, after, at_start, body_of}
+use Rattle.script_program.specs.of_body_check.Bodies.{after_all, layer_after, sight_after, at_start, body_of}
 use Rattle.script_program.specs.of_body_check.Outputs.{output_of}
 use Rattle.script_loading.proofs.ToldLemmas.{IsTold, told-then, told-test, told-option}
 use Rattle.script_loading.proofs.ToldLemmas.{told-found, told-kept}
@@ -132,7 +132,7 @@ told-fresh line name names = told-test line Twice (not (is_some (find name names
 
 module _ (gives : List Ty) where
   abbrev ToldBody : Body → Type 0
-  ToldBody b = (s : Sight) → IsTold (after gives b s)
+  ToldBody b = (s : Sight) → IsTold (sight_after gives b s)
 
   abbrev bare : (b : Body) × ToldBody b → Body
   bare p = p.0
@@ -141,16 +141,16 @@ module _ (gives : List Ty) where
   Seen = Sight → Checked Sight
 
   abbrev run : List ((b : Body) × ToldBody b) → Sight → Checked Sight
-  run bs s = after_all (λ m. m) (map (after gives) (map bare bs)) s
+  run bs s = after_all (λ m. m) (map (sight_after gives) (map bare bs)) s
 
   told-block : (bs : List ((b : Body) × ToldBody b)) (s : Sight) → IsTold (run bs s)
   told-block [] s = tt
   told-block (p ∷ bs) s =
-      told-then (after gives p.0 s) _ (p.1 s) (λ next. told-block bs next)
+      told-then (sight_after gives p.0 s) _ (p.1 s) (λ next. told-block bs next)
 
   abbrev AtBody : Sight → Body-F Body → Type 0
   AtBody s z =
-      IsTold (layer_after gives (λ m. m) (map-Body Body Seen (after gives) z) s)
+      IsTold (layer_after gives (λ m. m) (map-Body Body Seen (sight_after gives) z) s)
 
   by_body : (y : Body-F ((b : Body) × ToldBody b)) (s : Sight)
       → AtBody s (map-Body ((b : Body) × ToldBody b) Body bare y)
@@ -183,7 +183,7 @@ module _ (gives : List Ty) where
       (λ also. told-then (run b (with_name right_ sides.1 s)) _
       (told-block b (with_name right_ sides.1 s)) (λ on_right. tt))))))
 
-  from_body : (b : Body) (s : Sight) → AtBody s (out-Body b) → IsTold (after gives b s)
+  from_body : (b : Body) (s : Sight) → AtBody s (out-Body b) → IsTold (sight_after gives b s)
   from_body b s told =
       subst (λ (f : Seen). IsTold (f s))
       (sym (fold_out-Body Seen (layer_after gives (λ m. m)) b)) told
@@ -194,13 +194,13 @@ module _ (gives : List Ty) where
       (λ x y same s. from_body (roll-Body x) s
       (subst (AtBody s) (same ∙ sym (out-roll-Body x)) (by_body y s)))
 
-  told-all : (bs : List Body) (s : Sight) → IsTold (after_all (after gives) bs s)
+  told-all : (bs : List Body) (s : Sight) → IsTold (after_all (sight_after gives) bs s)
   told-all [] s = tt
   told-all (b ∷ bs) s =
-      told-then (after gives b s) _ (told-statement b s) (λ next. told-all bs next)
+      told-then (sight_after gives b s) _ (told-statement b s) (λ next. told-all bs next)
 
 pub told-body : (known : Named Ty) (argument : List ℕ) (takes : Ty) (gives : List Ty)
     (body : List Body) → IsTold (body_of known argument takes gives body)
 told-body known argument takes gives body =
-    told-then (after_all (after gives) body (at_start known argument takes)) _
+    told-then (after_all (sight_after gives) body (at_start known argument takes)) _
     (told-all gives body (at_start known argument takes)) (λ end. tt)

@@ -12,8 +12,8 @@ use Rattle.flume_tokens.specs.declared.piece.Piece.TheVariants as piece
 use Rattle.flume_tokens.specs.declared.token.Token.{Token}
 use Rattle.flume_tokens.specs.declared.token.TokenKind.{TokenKind}
 use Rattle.flume_tokens.specs.declared.token.TokenKind.TheVariants as kind
-use Rattle.flume_tokens.specs.Keywords.{keyword_of, spelling}
-use Rattle.flume_tokens.specs.Signs.{spelling as sign_spelling}
+use Rattle.flume_tokens.specs.Keywords.{keyword_of, keyword_spelling}
+use Rattle.flume_tokens.specs.Signs.{sign_spelling}
 use Rattle.flume_tokens.specs.Pieces.{piece_of}
 use Rattle.flume_tokens.specs.Tokens.{ahead, tokens_from}
 use Rattle.flume_tokens.proofs.NextPieces.{next_LineEnd, next_Gap, next_Token}
@@ -51,14 +51,14 @@ some_bytes (kind.Name (c ∷ cs)) h = omega arith
 some_bytes (kind.Number []) h = let e = h.digit in cc
 some_bytes (kind.Number (c ∷ cs)) h = omega arith
 some_bytes (kind.Text x) h = omega arith
-some_bytes (kind.Keyword k) h = by (spelling k) (keyword_word k)
+some_bytes (kind.Keyword k) h = by (keyword_spelling k) (keyword_word k)
   where
     by : (w : List ℕ) → IsWord w → 1 ≤ length w
     by [] h = let e = h.letter in cc
     by (c ∷ cs) h = omega arith
 some_bytes (kind.Sign s) h = sign_bytes s
 
-module _ (read : (k : Keyword) → keyword_of (spelling k) ≡ Some k) where
+module _ (read : (k : Keyword) → keyword_of (keyword_spelling k) ≡ Some k) where
   over_token : (k : TokenKind) (line : ℕ) (bs : List ℕ) → IsSpellable k
       → tokens_from 0 line (written k ++ 32 ∷ bs)
       ≡ ahead (record { kind = k; line = line } ∷ []) (tokens_from 0 line bs)
@@ -105,7 +105,7 @@ blank_utf8 = one_plain 32 (lit≤ tt) refl
 written_utf8 : (k : TokenKind) → IsSpellable k → IsUtf8 (written k)
 written_utf8 (kind.Name x) h = plain_utf8 x (word_plains x h.word.rest)
 written_utf8 (kind.Keyword k) h =
-    plain_utf8 (spelling k) (word_plains (spelling k) (keyword_word k).rest)
+    plain_utf8 (keyword_spelling k) (word_plains (keyword_spelling k) (keyword_word k).rest)
 written_utf8 (kind.Number d) h = plain_utf8 d (digit_plains d h.rest)
 written_utf8 (kind.Text x) h =
     IsUtf8-append (34 ∷ []) (escaped x ++ 34 ∷ []) quote_utf8

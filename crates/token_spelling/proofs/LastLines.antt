@@ -9,8 +9,8 @@ use Rattle.flume_tokens.specs.declared.keyword.Keyword.{Keyword}
 use Rattle.flume_tokens.specs.declared.token.Token.{Token}
 use Rattle.flume_tokens.specs.declared.token.TokenKind.{TokenKind}
 use Rattle.flume_tokens.specs.declared.token.TokenKind.TheVariants as kind
-use Rattle.flume_tokens.specs.Keywords.{keyword_of, spelling}
-use Rattle.flume_tokens.specs.Signs.{spelling as sign_spelling}
+use Rattle.flume_tokens.specs.Keywords.{keyword_of, keyword_spelling}
+use Rattle.flume_tokens.specs.Signs.{sign_spelling}
 use Rattle.flume_tokens.specs.Tokens.{line_at, list_of, tokens_of}
 use Rattle.flume_tokens.proofs.Whole.{cut}
 use Rattle.token_spelling.specs.Spelled.{escaped, written, line_ends, spelled_from, spelled, line_from, last_line}
@@ -39,7 +39,7 @@ text_feeds content =
 written_feeds : (k : TokenKind) → IsSpellable k → feeds (written k) ≡ 0
 written_feeds (kind.Name x) h = plain_feeds x (word_plains x h.word.rest)
 written_feeds (kind.Keyword k) h =
-    plain_feeds (spelling k) (word_plains (spelling k) (keyword_word k).rest)
+    plain_feeds (keyword_spelling k) (word_plains (keyword_spelling k) (keyword_word k).rest)
 written_feeds (kind.Number d) h = plain_feeds d (digit_plains d h.rest)
 written_feeds (kind.Text x) h = text_feeds x
 written_feeds (kind.Sign s) h = plain_feeds (sign_spelling s) (sign_plain s)
@@ -65,7 +65,7 @@ spelled_feeds line (t ∷ ts) each lines =
     added line next whole ends token after blank bs last a b c d e f g = omega arith
 
 -- what is written within the limit is a script of these tokens
-pub script : ((k : Keyword) → keyword_of (spelling k) ≡ Some k) → (ts : List Token)
+pub script : ((k : Keyword) → keyword_of (keyword_spelling k) ≡ Some k) → (ts : List Token)
     → AreSpellable ts → length (spelled ts) ≤ 65536
     → tokens_of (spelled ts) ≡ Ok (record { items = ts; last_line = last_line ts })
 script read ts h small =

@@ -9,8 +9,8 @@ use Rattle.flume_tokens.specs.declared.sign.Sign.{Sign}
 use Rattle.flume_tokens.specs.declared.sign.Sign.TheVariants as sign
 use Rattle.flume_tokens.specs.declared.token.TokenKind.{TokenKind}
 use Rattle.flume_tokens.specs.declared.token.TokenKind.TheVariants as kind
-use Rattle.flume_tokens.specs.Keywords.{keyword_of, spelling}
-use Rattle.flume_tokens.specs.Signs.{sign_of, spelling as sign_spelling}
+use Rattle.flume_tokens.specs.Keywords.{keyword_of, keyword_spelling}
+use Rattle.flume_tokens.specs.Signs.{sign_of, sign_spelling}
 use Rattle.flume_tokens.specs.Texts.{closed_text}
 use Rattle.flume_tokens.specs.Pieces.{piece_of, is_blank, word_kind, word, number, text, text_piece, sign as sign_read}
 use Rattle.token_spelling.specs.Spelled.{escaped, written}
@@ -106,15 +106,16 @@ sign_piece_of sign.Times bs = refl
 sign_piece_of sign.Divide bs = refl
 sign_piece_of sign.Remainder bs = refl
 
-module _ (read : (k : Keyword) → keyword_of (spelling k) ≡ Some k) where
+module _ (read : (k : Keyword) → keyword_of (keyword_spelling k) ≡ Some k) where
   pub written_piece : (k : TokenKind) (bs : List ℕ) → IsSpellable k
       → piece_of (written k ++ 32 ∷ bs) ≡ piece.Token k (length (written k))
   written_piece (kind.Name x) bs h =
       word_piece x bs h.word
       ∙ ap (λ o. piece.Token (word_kind x o) (length x)) h.free
   written_piece (kind.Keyword k) bs h =
-      word_piece (spelling k) bs (keyword_word k)
-      ∙ ap (λ o. piece.Token (word_kind (spelling k) o) (length (spelling k))) (read k)
+      word_piece (keyword_spelling k) bs (keyword_word k)
+      ∙ ap (λ o. piece.Token (word_kind (keyword_spelling k) o)
+          (length (keyword_spelling k))) (read k)
   written_piece (kind.Number d) bs h = number_piece d bs h
   written_piece (kind.Text x) bs h = text_piece_of x bs
   written_piece (kind.Sign s) bs h = sign_piece_of s bs

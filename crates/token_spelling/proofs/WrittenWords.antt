@@ -10,8 +10,8 @@ use Rattle.flume_tokens.specs.declared.keyword.Keyword.{Keyword}
 use Rattle.flume_tokens.specs.declared.keyword.Keyword.TheVariants as keyword
 use Rattle.flume_tokens.specs.declared.sign.Sign.{Sign}
 use Rattle.flume_tokens.specs.declared.sign.Sign.TheVariants as sign
-use Rattle.flume_tokens.specs.Keywords.{spelling}
-use Rattle.flume_tokens.specs.Signs.{spelling as sign_spelling}
+use Rattle.flume_tokens.specs.Keywords.{keyword_spelling}
+use Rattle.flume_tokens.specs.Signs.{sign_spelling}
 use Rattle.token_spelling.specs.Spellable.{IsWord}
 use Rattle.token_spelling.proofs.Bytes.{is_word, IsPlain}
 
@@ -19,7 +19,7 @@ use Rattle.token_spelling.proofs.Bytes.{is_word, IsPlain}
 abbrev passes : List ℕ → Bool
 passes w = is_ascii_alphabetic (slice_index w 0) && (list_all is_word w && nat_le (length w) 32)
 
-keyword_passes : (k : Keyword) → passes (spelling k) ≡ true
+keyword_passes : (k : Keyword) → passes (keyword_spelling k) ≡ true
 keyword_passes keyword.Type = refl
 keyword_passes _ = refl
 
@@ -34,8 +34,8 @@ word_from w e =
     }
 
 -- a keyword is a word
-pub keyword_word : (k : Keyword) → IsWord (spelling k)
-keyword_word k = word_from (spelling k) (keyword_passes k)
+pub keyword_word : (k : Keyword) → IsWord (keyword_spelling k)
+keyword_word k = word_from (keyword_spelling k) (keyword_passes k)
 
 -- the test of a byte of a sign
 abbrev is_plain : ℕ → Bool

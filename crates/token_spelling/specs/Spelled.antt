@@ -3,8 +3,8 @@ use Rattle.std.specs.Prelude.{ℕ, zero, suc, ◌-◌, List, [], ◌∷◌, ◌+
 use Rattle.flume_tokens.specs.declared.token.Token.{Token}
 use Rattle.flume_tokens.specs.declared.token.TokenKind.{TokenKind}
 use Rattle.flume_tokens.specs.declared.token.TokenKind.TheVariants as kind
-use Rattle.flume_tokens.specs.Keywords.{spelling as keyword_spelling}
-use Rattle.flume_tokens.specs.Signs.{spelling as sign_spelling}
+use Rattle.flume_tokens.specs.Keywords.{keyword_spelling}
+use Rattle.flume_tokens.specs.Signs.{sign_spelling}
 
 -- a byte of a text as it is written: `"`, `\` and LF behind a backslash, any other as itself
 abbrev pub escape : ℕ → List ℕ

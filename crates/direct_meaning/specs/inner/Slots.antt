@@ -4,7 +4,7 @@ use Rattle.std.specs.List.{flat_map}
 use Rattle.flume_value.specs.Bag.{bag_of}
 use Rattle.flume_value.specs.declared.value.Value.{Value}
 use Rattle.dofn_eval.specs.Function.{Function as Fun}
-use Rattle.dofn_eval.specs.Run.{means}
+use Rattle.dofn_eval.specs.Run.{slots_mean}
 use Rattle.flume_collection.specs.Calls.{Called, emissions, trap_of}
 use Rattle.flume_collection.specs.declared.trap.Trap.{Trap}
 use Rattle.script_program.specs.Script.{Function}
@@ -14,7 +14,7 @@ use Rattle.direct_meaning.specs.inner.Kept.{has_traps}
 
 -- what a call of a function with slots on an element answers
 unfoldable pub slots_answer : Fun → Value → Option Called
-slots_answer fun element = answered element (means fun.outputs fun.body element)
+slots_answer fun element = answered element (slots_mean fun.outputs fun.body element)
 
 -- what is emitted to the output of that place, where there is an answer
 abbrev pub emitted_by : ℕ → Option Called → List Value

@@ -7,7 +7,7 @@ use Rattle.exec_graph.specs.declared.graph.Graph.{Graph}
 use Rattle.exec_graph.specs.declared.graph.Node.TheVariants.{Pdo}
 use Rattle.exec_graph.specs.declared.graph.Place.{Place}
 use Rattle.pass_rewrites.specs.of_fuse_chain.Numbers.{after_kids}
-use Rattle.pass_rewrites.specs.of_fuse_chain.Rewrites.{LeadsTo, Rewrite as Fusion, is_sibling, other_of}
+use Rattle.pass_rewrites.specs.of_fuse_chain.Rewrites.{FusesTo, Fusion, is_sibling, other_of}
 use Rattle.graph_rewrites.specs.declared.rewrite.Rewrite.{Rewrite}
 use Rattle.pass_rewrites.specs.Passes.{as_rewrite, present}
 use Rattle.graph_tracing.specs.declared.trace.Trace.{Trace}
@@ -32,7 +32,7 @@ GoFrom (r ∷ rs) (n ∷ ns) = ((other_of r ≡ n) × GoFrom rs ns) ⊎ GoFrom (
 -- they lead from g to m, and the Pdos that go are some of these: all are siblings, or all are kids
 pub record Await (siblings : Bool) (g m : Graph) (ns : List ℕ) (rs : List Fusion) : Type 0 where
   pub all : AllByRecursion (λ r. is_sibling r ≡ siblings) rs
-  pub leads : LeadsTo rs g m
+  pub leads : FusesTo rs g m
   pub some : GoFrom rs ns
   pub rise : Rise ns
   pub sound : IsSound g

@@ -1,10 +1,10 @@
 use Rattle.std.proofs.Common.{◌≡◌, Some, refl}
 use Rattle.flume_tokens.specs.declared.keyword.Keyword.{Keyword}
 use Rattle.flume_tokens.specs.declared.keyword.Keyword.TheVariants as keyword
-use Rattle.flume_tokens.specs.Keywords.{spelling, keyword_of}
+use Rattle.flume_tokens.specs.Keywords.{keyword_spelling, keyword_of}
 use Rattle.flume_tokens.proofs.keyword.keyword_law.Goals as goal
 
-reads : (k : Keyword) → keyword_of (spelling k) ≡ Some k
+reads : (k : Keyword) → keyword_of (keyword_spelling k) ≡ Some k
 unfolding keyword_of
 reads keyword.Type = refl
 reads keyword.Input = refl

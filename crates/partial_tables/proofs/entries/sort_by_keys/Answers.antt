@@ -5,7 +5,7 @@ use Rattle.std.specs.Ordering.{is_lt}
 use Rattle.indexmap.proofs.MapLemmas.{sorted_keys}
 use Rattle.flume_value.specs.Order.{value_cmp}
 use Rattle.flume_value.proofs.OrderLemmas.{value_cmp-total}
-use Rattle.partial_tables.proofs.table.sort_by_keys.Goals as goal
+use Rattle.partial_tables.proofs.entries.sort_by_keys.Goals as goal
 
 pub returns-clause-ascending : goal.returns-clause-ascending
 returns-clause-ascending c =
