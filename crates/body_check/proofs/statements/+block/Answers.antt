@@ -87,7 +87,8 @@ place_case-returns-in-Err-both_sides-clause-gives t c =
     let has = subst (λ ts. or_fault line Mistyped (side_types (type_at ts x.ty))
     ≡ Ok (type_at ts sides.left, type_at ts sides.right)) c.types.ensures
     c.in-Ok.ensures.gives in
-    let fails = subst (λ g. Fails e (both_slots line types_of left (block_slots (placed_of g) a) right_
+    let fails = subst (λ g. Fails e (both_slots line types_of left
+    (block_slots (placed_of g) a) right_
     (block_slots (placed_of g) b) s)) c.resolve.ensures.emits
     (subst (λ t. Fails e (both_slots line types_of left (block_slots (placed_of mid.gives) a)
     right_ (block_slots (placed_of mid.gives) b) t)) c.resolve.ensures.sight
