@@ -4,9 +4,9 @@
 //! The form of cases, and of what is printed, stands in docs/CASES.md.
 #![tactic(auto)]
 
-use cache_store::MemCache;
 use case_calls::{Caller, World, print_cases};
 use flume_run::flume_cached;
+use memory_outside::MemCache;
 use std::alloc::Global;
 use std::io;
 use std::io::Read;

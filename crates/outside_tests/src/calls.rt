@@ -1,6 +1,7 @@
 // Calls of a cache in memory, one after another, and what each of them answers.
-use cache_store::{Cache, FindFault, MemCache, NoCache};
+use cache_store::{Cache, FindFault, NoCache};
 use flume_value::Pile;
+use memory_outside::MemCache;
 use std::alloc::{AllocError, Global};
 use std::test::Fail;
 

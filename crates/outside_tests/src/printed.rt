@@ -1,6 +1,6 @@
 // Values on screens in memory. The printed texts are written by hand.
 use flume_value::{Held, Items, Pile, Str, Value};
-use outside::MemScreen;
+use memory_outside::MemScreen;
 use printing::{joined, push_quoted, say_named, say_value};
 use std::alloc::{AllocError, Global};
 use std::test::Fail as TestFail;

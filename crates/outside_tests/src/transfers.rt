@@ -1,8 +1,9 @@
 // Files and texts that pass between memory and a call, as tables.
 use flume_value::{Pile, Str};
+use memory_outside::{Fail, MemHost, MemScreen, MemShelf, MemSource};
 use outside::{
-    At, CalmHost, Fail, File, FileName, Host, LoadFault, MemHost, MemScreen, MemShelf, MemSource,
-    Output, Phase, Pieces, load_tried, save_all, say_all,
+    At, CalmHost, File, FileName, Host, LoadFault, Output, Phase, Pieces, load_tried, save_all,
+    say_all,
 };
 use std::alloc::{AllocError, Global};
 use std::test::Fail as TestFail;
