@@ -40,9 +40,6 @@ module _ (old new : List Ty) (more : Extends old new) (from : List HeldOperand) 
       })
       from within
 
-  pub operands-within : All (IsIn old) from → All (IsIn new) from
-  operands-within within = λ k source in_. omega (arith, within k source in_, more.longer)
-
 -- ---- how many collections there are
 
 pub nodes-more : (names : List (List ℕ)) (makings : List Making) (s : State)

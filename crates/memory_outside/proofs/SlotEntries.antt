@@ -1,13 +1,12 @@
 -- What is written to files in slots, and found there, as entries.
-use Rattle.std.proofs.Common.{◌≡◌, ◌≤◌, ◌↔◌, ℕ, suc, zero, ◌+◌, ◌<◌, List, [], ◌∷◌, ◌++◌, Bool, true, false, cond, Some, None, refl, ap, sym, ◌∙◌, subst, map, length, set, sum_by, arith}
+use Rattle.std.proofs.Common.{◌≡◌, ◌≤◌, ◌↔◌, ℕ, suc, zero, ◌+◌, ◌<◌, List, [], ◌∷◌, ◌++◌, true, false, cond, Some, refl, ap, sym, ◌∙◌, subst, map, length, set, sum_by, arith}
 use Rattle.std.specs.Str.{bytes_eq}
 use Rattle.std.proofs.lemmas.List.{length-map}
 use Rattle.std.proofs.lemmas.List.Sums.{sum_by-cons}
 use Rattle.outside.specs.declared.file.File.{File}
 use Rattle.memory_outside.specs.declared.slots.Slot.{Slot}
 use Rattle.outside.specs.Files.{bytes_of, file_size, with_file}
-use Rattle.memory_outside.specs.Slots.{bytes_at, file_of, files_of, name_at, slot_size}
-use Rattle.memory_outside.proofs.RoomLemmas.{sizes}
+use Rattle.memory_outside.specs.Slots.{bytes_at, file_of, files_of, name_at}
 use Rattle.cache_store.specs.declared.entry.CacheEntry.{CacheEntry}
 use Rattle.cache_store.specs.Entries.{entry_size, found_in, with_entry}
 use Rattle.memory_outside.specs.Caches.{FitsIn}
@@ -61,11 +60,6 @@ module _ (slots : List Slot) (files : List File) (entries : List CacheEntry)
 
   pub made_entries : files_of slots ≡ files → entries_of slots ≡ entries
   made_entries stand = slot_entries slots ∙ ap (map as_entry) stand ∙ are
-
-  pub made_size : files_of slots ≡ files
-      → sum_by slot_size slots ≡ sum_by entry_size entries
-  made_size stand = sym (sizes slots) ∙ ap (sum_by file_size) stand ∙ sym (sizes_as files)
-      ∙ ap (sum_by entry_size) are
 
 -- the files are no more than that, and their bytes, names included
 abbrev pub FilesFit : ℕ → ℕ → List File → Type 0

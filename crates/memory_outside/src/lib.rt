@@ -1,8 +1,8 @@
-//! The outside in memory: a source, a shelf, a screen, hosts and a cache, for tests and worked cases.
+//! The outside in memory: a source, a shelf, a screen, hosts and a cache, for tests.
 //!
-//! Each of them tells all that it holds, and fails exactly where a list says so or its room ends:
-//! `MemSource`, `MemShelf`, `MemScreen` and `MemHost` are forms of the traits of outside, `MemCache`
-//! of that of cache_store. The program has nothing of them.
+//! Each of them tells all that it holds, and fails exactly where a list says so or its room ends.
+//! `MemSource`, `MemShelf`, `MemScreen` and `MemHost` are forms of the traits of outside, and
+//! `MemCache` is one of that of cache_store. The program has nothing of them.
 #![tactic(auto)]
 
 mod cache;
