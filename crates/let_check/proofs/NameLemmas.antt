@@ -64,11 +64,6 @@ are-free line (name ∷ names) s u e =
           new.then),
     )
 
--- ---- one name after another, of names that are taken
-
-module _ (s after : State) (name : List ℕ) (names all-names : List (List ℕ))
-    (first : all-names ≡ name ∷ names) (put : after ≡ with_name name Hidden s) where
-
 -- ---- one name after another, of names and what is made in memory
 
 pub none-added : (types : List Ty) (names : List (List ℕ)) (makings : List HeldMaking) (s : State)
