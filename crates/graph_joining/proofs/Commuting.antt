@@ -1,13 +1,11 @@
 -- Nodes that read elsewhere, are others or are gone, in one order or another.
-use Rattle.std.proofs.Common.{◌≡◌, ◌⊎◌, ℕ, Bool, true, false, cond, eqb, List, [], ◌∷◌, map, Option, Some, inl, inr, refl, sym, ap, ap₂, subst, ◌∙◌}
-use Rattle.std.proofs.lemmas.Bool.{eqb-true, eq-eqb, ne_eqb}
+use Rattle.std.proofs.Common.{◌≡◌, ◌⊎◌, ℕ, Bool, true, false, cond, eqb, List, [], ◌∷◌, map, inl, inr, refl, sym, ap, ap₂, subst, ◌∙◌}
+use Rattle.std.proofs.lemmas.Bool.{eq-eqb, ne_eqb}
 use Rattle.exec_graph.specs.Forests.{Forest}
-use Rattle.exec_graph.specs.Meaning.{node_at}
 use Rattle.exec_graph.specs.declared.graph.Entry.{Entry}
 use Rattle.exec_graph.specs.declared.graph.Node.{Node}
 use Rattle.exec_graph.specs.declared.graph.Node.TheVariants.{Source, Flatten, Pdo, Gbk, Barrier}
 use Rattle.exec_graph.specs.declared.graph.Place.{Place}
-use Rattle.exec_graph.proofs.Bools.{not_true}
 use Rattle.exec_graph.proofs.Entries.{entry}
 use Rattle.graph_laws.specs.Joining.{reread, reread_entry, set_node, without}
 use Rattle.graph_laws.proofs.Setting.{set_set, without_set, without_set_other}
@@ -93,20 +91,3 @@ without_one es p q n x apart (inr e) =
     subst (λ (m : ℕ). without (set_node (set_node es p x) q x) (cond (eqb m p) q p)
     ≡ set_node (without es (cond (eqb m p) q p)) m x) (sym e)
     (rw (ne_eqb q p (λ i. apart (sym i))) (without_first es p q x x (λ i. apart (sym i))))
-
--- another node stays as it is
-pub node_set : (es : List Entry) (q m : ℕ) (x : Node) → (m ≡ q → ⊥)
-    → node_at (set_node es q x) m ≡ node_at es m
-node_set [] q m x far = refl
-node_set (d ∷ es) q m x far = by (eqb d.number q) refl (node_set es q m x far)
-  where
-    by : (b : Bool) → eqb d.number q ≡ b → node_at (set_node es q x) m ≡ node_at es m
-        → node_at (cond b (entry q x ∷ es) (d ∷ set_node es q x)) m
-        ≡ cond (eqb d.number m) (Some d.node) (node_at es m)
-    by true e i =
-        let n : d.number ≡ q = eqb-true d.number q e in
-        ap (λ (b : Bool). cond b (Some x) (node_at es m))
-        (not_true (eqb q m) (λ j. far (sym (eqb-true q m j))))
-        ∙ sym (ap (λ (b : Bool). cond b (Some d.node) (node_at es m))
-        (not_true (eqb d.number m) (λ j. far (sym (eqb-true d.number m j) ∙ n))))
-    by false e i = ap (λ (o : Option Node). cond (eqb d.number m) (Some d.node) o) i
