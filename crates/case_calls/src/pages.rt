@@ -12,15 +12,20 @@ use std::io;
 use std::thread::Threads;
 use worked_cases::{Case, Command, Entry, Misread, When, read_cases};
 
+/// What a call is made with: a runtime, which its workers share, memory, and words.
+#[derive(Drop)]
+pub struct Invocation<'a, X> {
+    pub rt: &'a X,
+    pub alloc: Global,
+    pub words: &'a [String],
+}
+
 /// Who makes the calls of cases.
 pub trait Caller {
-    /// Makes a call of `flume_cached` with these words, and answers its exit status. Its workers
-    /// share the runtime.
+    /// Makes a call of `flume_cached`, and answers its exit status.
     fn call<X: Threads + Sync>(
         &self,
-        rt: &X,
-        alloc: Global,
-        words: &[String],
+        with: &Invocation<'_, X>,
         world: &mut World,
         cache: &mut MemCache,
     ) -> u8
