@@ -46,6 +46,6 @@ pub count_is : (w : World) (n : ℕ) (c : Collection) → trap_set c.traps ≡ c
 count_is w n c h =
     through_combined w n true by.Sum (by_key (through w (only_label n false does.Pair) c))
     ∙ ap (λ d. combined_by n by.Sum (by_key d))
-    (through_given w n false does.Pair with_one (called_is w does.Pair) c
+    (through_given w n false does.Pair with_one (called_is does.Pair w) c
     ∙ same_collection _ _ _ _ refl h)
     ∙ counts_are n c.traps c.bag h

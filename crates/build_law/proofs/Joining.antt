@@ -119,9 +119,9 @@ pub join_is : (w : World) (n : ℕ) (a b : Collection)
 join_is w n a b h k =
     ap (λ c. through w (only_label n true does.Split) (by_key c))
     (λ i. together
-    (through_given w n false does.TagLeft left_tagged (called_is w does.TagLeft) a i
-    ∷ through_given w n false does.TagRight right_tagged (called_is w does.TagRight) b i ∷ []))
-    ∙ through_given w n true does.Split split (called_is w does.Split) (by_key (sides_together a b))
+    (through_given w n false does.TagLeft left_tagged (called_is does.TagLeft w) a i
+    ∷ through_given w n false does.TagRight right_tagged (called_is does.TagRight w) b i ∷ []))
+    ∙ through_given w n true does.Split split (called_is does.Split w) (by_key (sides_together a b))
     ∙ same_collection _ _ _ _
     (ap (λ c. bag_of (flat_map split c))
     (ap (λ ts. unless_trapped ts (grouped (both_tagged a.bag b.bag)))

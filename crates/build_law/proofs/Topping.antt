@@ -72,13 +72,13 @@ pub top_is : (w : World) (n many : ℕ) (c : Collection) → trap_set c.traps �
     (by_key (through w (only_label n false does.Solo) c)))
     ≡ top_by many c
 top_is w n many c h g =
-    through_given w n true does.Spread spread (called_is w does.Spread)
+    through_given w n true does.Spread spread (called_is does.Spread w)
     (through w (only_label n false (does.Combine (by.Top many)))
     (by_key (through w (only_label n false does.Solo) c)))
     ∙ ap spread_of
     (through_combined w n false (by.Top many)
     (by_key (through w (only_label n false does.Solo) c))
     ∙ ap (λ d. combined_by n (by.Top many) (by_key d))
-    (through_given w n false does.Solo under_zero (called_is w does.Solo) c
+    (through_given w n false does.Solo under_zero (called_is does.Solo w) c
     ∙ same_collection _ _ _ _ refl h))
     ∙ top_are n many c.traps c.bag h g

@@ -89,6 +89,6 @@ whole_is w n k c h g =
     ∙ ap (singleton_value n k)
     (through_combined w n false k (by_key (through w (only_label n false does.Solo) c))
     ∙ ap (λ d. combined_by n k (by_key d))
-    (through_given w n false does.Solo under_zero (called_is w does.Solo) c
+    (through_given w n false does.Solo under_zero (called_is does.Solo w) c
     ∙ same_collection _ _ _ _ refl h))
     ∙ value_is n k c.traps c.bag h g

@@ -110,7 +110,7 @@ pub side_is : (w : World) (o : ℕ) (l : Bool) (f : ℕ) (c d : Collection)
     (value_on c (Some d)) ≡ side_input w o f c d
 side_is w o l f c d =
     let u : World = world_in w (Some d) in
-    let same : called u (does.Call f) ≡ u.called f = λ i x. called_is u (does.Call f) x i in
+    let same : called u (does.Call f) ≡ u.called f = λ i x. called_is (does.Call f) u x i in
     ap (λ (g : Value → Called). passed o 0 g (value_on c (Some d))) same
 
 side_through : (w : World) (o : ℕ) (l : Bool) (f : ℕ) (c d : Collection)

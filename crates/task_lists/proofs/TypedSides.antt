@@ -84,7 +84,7 @@ module _ (s : Signatures) (w : World) (world : IsWorldTyped s w) (outs : Place �
       let pair : Value = value.Rec (x ∷ (v ∷ [])) in
       let same : emitted b typed.label x ≡ emissions 0 (b.called typed.function x) =
       (λ i. emissions (typed.first i) (called b (typed.calls i) x))
-      ∙ ap (emissions 0) (called_is b (does.Call typed.function) x) in
+      ∙ ap (emissions 0) (called_is (does.Call typed.function) b x) in
       let answers : EmitsTyped (u ∷ []) (w.called typed.function pair) =
       subst (λ (us : List Ty). EmitsTyped us (w.called typed.function pair)) typed.typed.1
       (world.called typed.function pair (side_takes x h)) in
