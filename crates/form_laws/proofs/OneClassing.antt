@@ -16,7 +16,8 @@ use Rattle.plan_roles.specs.Mappers.{is_mapper, is_reducer, is_stage}
 use Rattle.form_laws.specs.declared.ranked.Ranked.{Ranked}
 use Rattle.form_laws.specs.Classes.{AreClasses, IsGbk, IsGbkAt, IsShared, Rises, members}
 use Rattle.form_laws.specs.Operations.{all_alone, alone, alone_of, class_ranked, least_of, operations, trivial}
-use Rattle.form_laws.proofs.Basics.{all_at, counted, counts_head, in_either, in_left, in_right, none_counted, times_append}
+use Rattle.plan_rules.proofs.Members.{in_left, in_right}
+use Rattle.form_laws.proofs.Basics.{all_at, counted, counts_head, in_either, none_counted, times_append}
 use Rattle.form_laws.proofs.Classing.{each_class, member_gbk}
 use Rattle.form_laws.proofs.Progress.{all_alone_so}
 use Rattle.form_laws.proofs.Turns.{Apart, AreSame, Other}

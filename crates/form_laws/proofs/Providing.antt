@@ -25,7 +25,8 @@ use Rattle.form_laws.specs.declared.ranked.Ranked.{Ranked}
 use Rattle.plan_rules.specs.Fitting.{same_key}
 use Rattle.form_laws.specs.Classes.{IsGbkAt, keys_of, members}
 use Rattle.form_laws.specs.Operations.{all_alone, alone_of, class_keys, class_level, class_operation, class_ranked, first_uses, grouped, key_passes, passes_at}
-use Rattle.form_laws.proofs.Basics.{any_at, counted, in_either, in_left, in_right, none_counted}
+use Rattle.plan_rules.proofs.Members.{in_left, in_right}
+use Rattle.form_laws.proofs.Basics.{any_at, counted, in_either, none_counted}
 use Rattle.form_laws.proofs.Classing.{AreParts, HasLevel, key_same, node_gbk}
 use Rattle.form_laws.proofs.Reading.{is_gbk, maps_so}
 use Rattle.form_laws.proofs.Standing.{all_mapped, inputs_from, keys_are}

@@ -23,7 +23,8 @@ use Rattle.plan_roles.specs.Reading.{goes_on}
 use Rattle.plan_roles.specs.Mappers.{is_mapper, is_reducer, is_stage, outputs_of, passes, reducer_of, reduces}
 use Rattle.form_laws.specs.declared.ranked.Ranked.{Ranked}
 use Rattle.form_laws.specs.Operations.{all_alone, alone, class_keys, class_level, class_operation, class_ranked, grouped, key_passes, barrier_ranked, operations, passes_at, trivial}
-use Rattle.form_laws.proofs.Basics.{any_at, in_filter, in_left, in_right}
+use Rattle.plan_rules.proofs.Members.{in_left, in_right}
+use Rattle.form_laws.proofs.Basics.{any_at, in_filter}
 use Rattle.form_laws.proofs.Classing.{AreParts}
 use Rattle.form_laws.proofs.Leveling.{levels_at}
 use Rattle.form_laws.proofs.Meeting.{IsMet, is_some_of}

@@ -26,8 +26,8 @@ pub(crate) fn read_source(number: u32, is_object: bool) -> Node
     Node::Source(Input { number, is_object })
 }
 
-/// Which of the steps of a collection a step is: it goes ahead of the last, or it is the last, which
-/// gives the collection.
+/// Which of the steps of a collection a step is: one ahead of the last, or the last, which gives
+/// the collection.
 #[derive(Clone, Copy)]
 pub(crate) enum Turn {
     Ahead,

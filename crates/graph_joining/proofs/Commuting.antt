@@ -8,7 +8,7 @@ use Rattle.exec_graph.specs.declared.graph.Node.TheVariants.{Source, Flatten, Pd
 use Rattle.exec_graph.specs.declared.graph.Place.{Place}
 use Rattle.exec_graph.proofs.Entries.{entry}
 use Rattle.graph_laws.specs.Joining.{reread, reread_entry, set_node, without}
-use Rattle.graph_laws.proofs.Setting.{set_set, without_set, without_set_other}
+use Rattle.graph_laws.proofs.Setting.{set_on, set_set, without_on, without_set, without_set_other}
 
 -- ---- read by one rule, and then by another
 
@@ -38,16 +38,7 @@ nodes_both r s (e ∷ es) =
 
 pub set_map : (r : Place → Place) (es : List Entry) (n : ℕ) (x : Node)
     → set_node (map (reread_entry r) es) n (reread r x) ≡ map (reread_entry r) (set_node es n x)
-set_map r [] n x = refl
-set_map r (e ∷ es) n x = by (eqb e.number n) (set_map r es n x)
-  where
-    by : (b : Bool) → set_node (map (reread_entry r) es) n (reread r x)
-        ≡ map (reread_entry r) (set_node es n x)
-        → cond b (entry n (reread r x) ∷ map (reread_entry r) es)
-        (reread_entry r e ∷ set_node (map (reread_entry r) es) n (reread r x))
-        ≡ map (reread_entry r) (cond b (entry n x ∷ es) (e ∷ set_node es n x))
-    by true h = refl
-    by false h = ap (λ (l : List Entry). reread_entry r e ∷ l) h
+set_map r es n x = set_on (reread r) es n x
 
 -- a Pdo of what is read where it was
 pub set_over : (r : Place → Place) (es : List Entry) (n : ℕ) (y : Node) (c : Place) (f : Forest)
@@ -62,15 +53,7 @@ set_over r es n y c f stays =
 
 pub without_map : (r : Place → Place) (es : List Entry) (n : ℕ)
     → without (map (reread_entry r) es) n ≡ map (reread_entry r) (without es n)
-without_map r [] n = refl
-without_map r (e ∷ es) n = by (eqb e.number n) (without_map r es n)
-  where
-    by : (b : Bool) → without (map (reread_entry r) es) n ≡ map (reread_entry r) (without es n)
-        → cond b (map (reread_entry r) es)
-        (reread_entry r e ∷ without (map (reread_entry r) es) n)
-        ≡ map (reread_entry r) (cond b es (e ∷ without es n))
-    by true h = refl
-    by false h = ap (λ (l : List Entry). reread_entry r e ∷ l) h
+without_map r es n = without_on (reread r) es n
 
 -- two nodes are others, and the first is gone
 pub without_first : (es : List Entry) (p q : ℕ) (x y : Node) → (q ≡ p → ⊥)
