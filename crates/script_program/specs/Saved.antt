@@ -16,8 +16,7 @@ saved_as how = made.Saved (gives_object how) (emitted_as how)
 abbrev pub saved_node : Node → Node
 saved_node node = record node { made = saved_as node.made }
 
--- the collection of that number, which is kept where the number is among those found; `kept` is what
--- it is then
+-- the collection of that number, which is a kept one where the number is among those found
 abbrev pub kept_at : {N : Type 0} → (N → N) → List ℕ → ℕ → List ℕ × N → List ℕ × N
 kept_at kept found number entry =
     if has found number then (entry.0, kept entry.1) else entry
