@@ -260,15 +260,17 @@ module _ (words : List (List ℕ)) (before after : World) (cache later : SeenCac
     answers = answers;
     asked = asked;
     asked_hosts = hosts;
-    always_too_long = λ some name limit cause.
-        always status (TooLong name limit) some
-        (too_long_stops words before.source name limit cause) answers;
-    always_script_refused = λ some line kind cause.
-        always status (ScriptRefused line kind) some
-        (script_stops words before.source line kind cause) answers;
-    always_input_refused = λ some name row column kind cause.
-        always status (InputRefused name row column kind) some
-        (input_stops words before.source name row column kind cause) answers;
+    always_refused = λ some. record {
+      too_long = λ name limit cause.
+          always status (TooLong name limit) some
+          (too_long_stops words before.source name limit cause) answers;
+      script_refused = λ line kind cause.
+          always status (ScriptRefused line kind) some
+          (script_stops words before.source line kind cause) answers;
+      input_refused = λ name row column kind cause.
+          always status (InputRefused name row column kind) some
+          (input_stops words before.source name row column kind cause) answers;
+    };
     complete = λ s script rows can. complete s script rows can status answers;
     as_meant = λ some is it rows table reused.
         meant_law words told cache later it rows table some is reused;

@@ -2,28 +2,25 @@
 use Rattle.std.specs.Prelude.{◌≡◌, ◌≤◌, ◌⊎◌, ℕ, false, List, Option, None, [], IsSome, is_some}
 use Rattle.std.specs.List.{Contains}
 use Rattle.cache_store.specs.Seen.{SeenCache}
-use Rattle.csv_rows.specs.declared.fault.RowKind.{RowKind}
 use Rattle.command_words.specs.declared.words.Command.TheVariants.{Run}
 use Rattle.kept_results.specs.of_direct_meaning.Direct.{sizes_of, traps_of}
 use Rattle.kept_results.specs.of_direct_meaning.Inputs.{inputs_of}
 use Rattle.exec_plan.specs.declared.plan.Plan.{Plan}
 use Rattle.flume_collection.specs.declared.trap.Trap.{Trap}
-use Rattle.flume_grammar.specs.declared.fault.ScriptKind.{ScriptKind}
 use Rattle.flume_value.specs.declared.value.Value.{Value}
 use Rattle.outside.specs.Cause.{Rose, RoseBy}
 use Rattle.outside.specs.declared.file.File.{File}
 use Rattle.plan_phases.specs.Phases.{with_tasks}
 use Rattle.plan_phases.specs.Told.{CanFinishAll}
-use Rattle.run_course.specs.Answers.{IsInputRefused, IsScriptRefused, IsTooLong}
 use Rattle.run_course.specs.Asked.{AskOn}
 use Rattle.run_course.specs.Asks.{AsksFor}
 use Rattle.run_course.specs.Lent.{lent}
-use Rattle.run_course.specs.Promises.{EndsWith, IsEnded, IsUnlessFailed}
+use Rattle.run_course.specs.Promises.{EndsWith, IsAlwaysRefused, IsEnded}
 use Rattle.run_course.specs.World.{Keeps, World}
 use Rattle.run_course.specs.Written.{IsMeant, CollectionTable, files_of}
 use Rattle.run_settings.specs.Settings.{RunSettings}
 use Rattle.run_texts.specs.declared.status.Status.{Status}
-use Rattle.run_texts.specs.declared.status.Status.TheVariants.{InputRefused, ScriptRefused, TooLong, WantOfMemory}
+use Rattle.run_texts.specs.declared.status.Status.TheVariants.{WantOfMemory}
 use Rattle.run_course.specs.of_script_loading.Loads.{AllHaveRows}
 use Rattle.run_course.specs.of_script_plans.Plans.{IsScriptPlan}
 use Rattle.script_program.specs.Script.{Script}
@@ -85,15 +82,7 @@ pub record ReusePromises (words : List (List ℕ)) (before after : World) (cache
   pub asked_hosts : AsksHosts words before.source.files before.hosts after.hosts cache later
       status
   -- these come wherever their cause stands, where files are told
-  pub always_too_long : IsSome before.source.files → (name : List ℕ) (limit : ℕ) →
-      IsTooLong name limit words before.source → IsUnlessFailed (TooLong name limit) status
-  pub always_script_refused : IsSome before.source.files → (line : ℕ) (kind : ScriptKind) →
-      IsScriptRefused line kind words before.source →
-      IsUnlessFailed (ScriptRefused line kind) status
-  pub always_input_refused : IsSome before.source.files →
-      (name : List ℕ) (row column : ℕ) (kind : RowKind) →
-      IsInputRefused name row column kind words before.source →
-      IsUnlessFailed (InputRefused name row column kind) status
+  pub always_refused : IsSome before.source.files → IsAlwaysRefused words before.source status
   -- where all is there that a run needs, it is done, or trapped where what it ran has a trap
   pub complete : (s : RunSettings) (script : Script) (rows : List (List Value)) →
       CanRun words before after cache later s script rows →

@@ -1,14 +1,9 @@
 // A plan from outside, as one of a program.
-ghost use Rattle.std.specs.Prelude.{◌≡◌, IfOk, length};
-ghost use Rattle.exec_graph.specs.Typing.{IsTyped, Signatures};
+ghost use Rattle.std.specs.Prelude.{◌≡◌, IfOk};
 ghost use Rattle.exec_graph.specs.Wellformed.{IsGraphOk};
-ghost use Rattle.exec_graph.specs.World.{World};
-ghost use Rattle.exec_plan.specs.Typing.{IsPlanTyped};
-ghost use Rattle.exec_plan.specs.Wellformed.{IsPlanOk};
 ghost use Rattle.plan_texts.specs.of_graph_build.Graphs.{graph_of};
-ghost use Rattle.plan_laws.specs.Operations.{SamePlan};
 ghost use Rattle.script_plans.specs.of_script_laws.WellFormed.{IsWellFormed};
-ghost use Rattle.plan_texts.specs.of_script_program.Sources.{source_kinds};
+ghost use Rattle.script_plans.specs.Plans.{MeansGraph};
 ghost use Rattle.outer_plans.specs.Plans.{IsAnswer};
 
 use crate::checks::check_plan;
@@ -16,7 +11,7 @@ use exec_graph::Graph;
 use exec_plan::Plan;
 use plan_faults::PlanFault;
 use plan_texts::script_program::Program;
-use script_plans::build_law::one_step_law;
+use script_plans::passes_law;
 use std::alloc::Global;
 
 /// The plan that the bytes of a file tell, as one of a program, whose execution graph this is.
@@ -31,14 +26,8 @@ pub fn taken_plan(
     requires built { graph ≡ graph_of program.now.script }
     requires ok { IsGraphOk graph }
     ensures answer { IsAnswer program.now.script bytes.now result }
-    ensures same { IfOk result (λ plan. (w : World) →
-        SamePlan w (graph_of program.now.script) plan) }
-    ensures well_formed { IfOk result (λ plan. IsPlanOk plan) }
-    ensures types { IfOk result (λ plan. (s : Signatures) →
-        IsTyped s (graph_of program.now.script) → IsPlanTyped s plan) }
-    ensures sources { IfOk result (λ plan.
-        plan.sources ≡ length (source_kinds program.now.script)) }
+    ensures means { IfOk result (MeansGraph program.now.script) }
 {
-    one_step_law();
+    passes_law();
     check_plan(alloc, program, graph, bytes)
 }

@@ -11,8 +11,7 @@ ghost use Rattle.outer_plans.specs.Plans.{LeadTo};
 use exec_graph::Graph;
 use plan_texts::script_program::Program;
 use plan_tracing::{Traced, optimise_traced};
-use script_plans::build_law::one_step_law;
-use script_plans::scales_of;
+use script_plans::{passes_law, scales_of};
 use std::alloc::{AllocError, Global};
 
 /// The plan of a program, whose execution graph this is, with rewrites that lead from the graph to
@@ -25,7 +24,7 @@ pub fn traced_plan(alloc: Global, program: &Program, graph: Graph) -> Result<Tra
     ensures leads { IfOk result (λ it. LeadTo program.now.script it.rewrites it.plan) }
     ensures small { IfOk result (λ it. AllByRecursion HasSmallNumbers it.rewrites) }
 {
-    one_step_law();
+    passes_law();
     let scales = scales_of(alloc, program)?;
     optimise_traced(alloc, scales.as_slice(), graph)
 }

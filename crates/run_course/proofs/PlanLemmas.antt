@@ -2,9 +2,12 @@
 use Rattle.std.proofs.Common.{◌≡◌, ℕ, inl, inr, List, Option, Some, Err, ap, sym, ◌∙◌, refl, subst}
 use Rattle.std.specs.Prelude.{IsSome}
 use Rattle.command_words.specs.declared.words.Command.{Command}
+use Rattle.exec_graph.specs.Typing.{IsTyped}
 use Rattle.exec_graph.specs.Wellformed.{IsGraphOk}
 use Rattle.exec_plan.specs.declared.plan.Plan.{Plan}
 use Rattle.script_loading.specs.of_graph_build.Graphs.{graph_of}
+use Rattle.outer_plans.specs.of_script_plans.Plans.{MeansGraph}
+use Rattle.script_loading.specs.of_script_laws.WellFormed.{IsWellFormed}
 use Rattle.outer_plans.specs.Plans.{IsAnswer, IsNotTaken, IsTaken}
 use Rattle.outer_plans.proofs.Once.{refused_once, taken_alone}
 use Rattle.outside.specs.Seen.{SeenSource}
@@ -15,14 +18,33 @@ use Rattle.outer_plans.specs.of_plan_texts.Texts.{naming_of}
 use Rattle.run_texts.specs.declared.status.Status.{Status}
 use Rattle.run_texts.specs.declared.status.Status.TheVariants.{TooLong, NoFile, PlanRefused}
 use Rattle.script_loading.specs.Causes.{IsLoadCause}
+use Rattle.script_loading.specs.of_build_law.Signatures.{signatures_of}
+use Rattle.script_run.specs.Runs.{IsPlanOf}
 use Rattle.script_loading.specs.Limits.{plan_limit}
 use Rattle.script_loading.specs.Loads.{IsAbove, IsMissing, Loads}
+use Rattle.script_program.specs.Program.{Numbered}
 use Rattle.script_program.specs.Script.{Script}
 use Rattle.run_course.specs.Asked.{IsPlanTurn, AskOn, plan_read}
 use Rattle.run_course.specs.Plans.{HasPlan, IsFileCause, IsPlanFor}
 use Rattle.run_course.specs.inner.Course.{IsTakingStop, refusal_of}
 use Rattle.run_course.proofs.GraphLemmas.{accepted_graph}
 use Rattle.run_course.proofs.ReadLemmas.{Told, Words, not_above, not_gone_and_long, not_missing, same_bytes, same_command, same_script}
+
+-- the graph of a well-formed script is typed
+abbrev pub TypesLaw : Type 0
+TypesLaw = (script : Script) → IsWellFormed script → IsTyped (signatures_of script)
+    (graph_of script)
+
+-- a plan that means what the graph of a script means is one of the script
+pub is_plan_of : {held own : Numbered} {plan : Plan} → held ≡ own → TypesLaw
+    → IsWellFormed held.script → MeansGraph held.script plan → IsPlanOf own.script plan
+is_plan_of {held} {own} {plan} is law well means =
+    subst (λ (p : Numbered). IsPlanOf p.script plan) is (record {
+      well_formed = means.well_formed;
+      typed = means.types (signatures_of held.script) (law held.script well);
+      same = means.same;
+      sources = means.sources;
+    })
 
 -- ---- a file
 

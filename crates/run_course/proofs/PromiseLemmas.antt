@@ -57,15 +57,17 @@ promises words before after status answers kept asked hosts =
       plan_refused = λ step kind is. (when (PlanRefused step kind) is).0;
       gave_up = λ stage phase task is. (when (GaveUp stage phase task) is).0;
       always_usage = λ none. always_usage words before after status none answers;
-      always_too_long = λ tells name limit cause.
-          always words before after status (TooLong name limit) tells (too_long_stops words
-          before.source name limit cause) answers;
-      always_script_refused = λ tells line kind cause.
-          always words before after status (ScriptRefused line kind) tells (script_stops words
-          before.source line kind cause) answers;
-      always_input_refused = λ tells name row column kind cause.
-          always words before after status (InputRefused name row column kind) tells (input_stops
-          words before.source name row column kind cause) answers;
+      always_refused = λ tells. record {
+        too_long = λ name limit cause.
+            always words before after status (TooLong name limit) tells (too_long_stops words
+            before.source name limit cause) answers;
+        script_refused = λ line kind cause.
+            always words before after status (ScriptRefused line kind) tells (script_stops words
+            before.source line kind cause) answers;
+        input_refused = λ name row column kind cause.
+            always words before after status (InputRefused name row column kind) tells (input_stops
+            words before.source name row column kind cause) answers;
+      };
       always_plan_refused = λ tells step kind cause.
           always words before after status (PlanRefused step kind) tells (plan_stops words
           before.source step kind cause) answers;

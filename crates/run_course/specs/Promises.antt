@@ -8,7 +8,7 @@ use Rattle.flume_collection.specs.declared.trap.Trap.{Trap as TrapOf}
 use Rattle.flume_value.specs.declared.fault.Kind.{Kind}
 use Rattle.flume_value.specs.declared.value.Value.{Value}
 use Rattle.outside.specs.Cause.{Rose, RoseBy}
-use Rattle.outside.specs.Seen.{SeenShelf}
+use Rattle.outside.specs.Seen.{SeenShelf, SeenSource}
 use Rattle.outside.specs.declared.file.File.{File as NamedBytes}
 use Rattle.outside.specs.declared.host.Phase.{Phase}
 use Rattle.plan_faults.specs.declared.fault.PlanKind.{PlanKind}
@@ -119,6 +119,18 @@ EndsAs (Run s from) script rows status = EndsByMeaning script rows status
 abbrev pub IsEnd : Command → Script → List (List Value) → Status → Type 0
 IsEnd command script rows status = (status ≡ WantOfMemory) ⊎ EndsAs command script rows status
 
+-- A file that is too long, a script or an input that is refused: each of them is answered wherever
+-- its cause stands.
+pub record IsAlwaysRefused (words : List (List ℕ)) (source : SeenSource) (status : Status)
+    : Type 0 where
+  pub too_long : (name : List ℕ) (limit : ℕ) → IsTooLong name limit words source →
+      IsUnlessFailed (TooLong name limit) status
+  pub script_refused : (line : ℕ) (kind : ScriptKind) →
+      IsScriptRefused line kind words source → IsUnlessFailed (ScriptRefused line kind) status
+  pub input_refused : (name : List ℕ) (row column : ℕ) (kind : RowKind) →
+      IsInputRefused name row column kind words source →
+      IsUnlessFailed (InputRefused name row column kind) status
+
 -- What is so after a call with these words, which found the one world and left the other, and
 -- answered so.
 pub record ScriptPromises (words : List (List ℕ)) (before after : World)
@@ -154,15 +166,7 @@ pub record ScriptPromises (words : List (List ℕ)) (before after : World)
       IsGaveUp stage phase task words before.source.files before.hosts after.hosts
   -- these come wherever their cause stands, where files are told
   pub always_usage : IsUsage words → IsUnlessFailed Usage status
-  pub always_too_long : IsSome before.source.files → (name : List ℕ) (limit : ℕ) →
-      IsTooLong name limit words before.source → IsUnlessFailed (TooLong name limit) status
-  pub always_script_refused : IsSome before.source.files → (line : ℕ) (kind : ScriptKind) →
-      IsScriptRefused line kind words before.source →
-      IsUnlessFailed (ScriptRefused line kind) status
-  pub always_input_refused : IsSome before.source.files →
-      (name : List ℕ) (row column : ℕ) (kind : RowKind) →
-      IsInputRefused name row column kind words before.source →
-      IsUnlessFailed (InputRefused name row column kind) status
+  pub always_refused : IsSome before.source.files → IsAlwaysRefused words before.source status
   pub always_plan_refused : IsSome before.source.files → (step : ℕ) (kind : PlanKind) →
       IsPlanRefused step kind words before.source → IsUnlessFailed (PlanRefused step kind) status
   -- what stands after a refusal: the shelf is untouched, and the screen has its line

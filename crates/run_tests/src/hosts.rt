@@ -1,139 +1,59 @@
-// The hosts of all tests. They are of one type, since the whole program is made once for each type
-// of host.
+// The hosts of a run of two workers, which meet: in each phase both wait for one another.
 use outside::{At, Down, Host, Phase};
 use std::sync::atomic::AtomicU64;
 use std::sync::atomic::Ordering::SeqCst;
 use std::thread;
 
+// How often a host looks for the other before it gives up.
 const TURNS: u64 = 1 << 28;
 
-/// Which of the two hosts of a meeting.
-#[derive(Clone, Copy)]
-pub enum Side {
-    First,
-    Second,
-}
-
-/// What a host of a meeting tells in a phase: 1 once it is at work, and once it has seen the other
-/// at work.
+/// Where the two hosts meet in a phase: how many came, and how many saw that both had.
 #[derive(Drop)]
-pub struct Signs {
-    at_work: AtomicU64,
-    has_met: AtomicU64,
+pub struct Room {
+    came: AtomicU64,
+    met: AtomicU64,
 }
 
-/// The signs of both hosts in a phase.
-#[derive(Drop)]
-pub struct Flags {
-    first: Signs,
-    second: Signs,
+impl Room {
+    /// Nobody came.
+    pub fn new() -> Room {
+        Room {
+            came: AtomicU64::new(0),
+            met: AtomicU64::new(0),
+        }
+    }
+
+    /// Whether both came, and saw it.
+    pub fn has_met(&self) -> bool {
+        self.met.load(SeqCst) == 2
+    }
+
+    // A host comes, and waits for the other.
+    fn enter(&self) {
+        self.came.fetch_add(1, SeqCst);
+        for _ in 0..TURNS {
+            if self.came.load(SeqCst) == 2 {
+                self.met.fetch_add(1, SeqCst);
+                return;
+            }
+            thread::yield_now();
+        }
+    }
 }
 
-/// The flags of both phases.
-#[derive(Drop)]
-pub struct Meeting {
-    map: Flags,
-    reduce: Flags,
-}
-
-/// A host's part in a meeting.
-#[derive(Clone, Copy)]
-pub struct Seat<'a> {
-    meeting: &'a Meeting,
-    side: Side,
-}
-
-/// A host that is never down, and may have a seat in a meeting.
+/// A host that is never down. It has yet to enter these rooms, each at its first pass of a phase.
 #[derive(Clone, Copy)]
 pub struct TestHost<'a> {
-    pub seat: Option<Seat<'a>>,
-}
-
-/// A host that is in no meeting.
-pub const CALM_HOST: TestHost<'static> = TestHost { seat: None };
-
-impl Signs {
-    fn new() -> Signs {
-        Signs {
-            at_work: AtomicU64::new(0),
-            has_met: AtomicU64::new(0),
-        }
-    }
-}
-
-impl Flags {
-    fn new() -> Flags {
-        Flags {
-            first: Signs::new(),
-            second: Signs::new(),
-        }
-    }
-
-    fn all_met(&self) -> bool {
-        self.first.has_met.load(SeqCst) == 1 && self.second.has_met.load(SeqCst) == 1
-    }
-}
-
-impl Meeting {
-    /// Nobody is at work.
-    pub fn new() -> Meeting {
-        Meeting {
-            map: Flags::new(),
-            reduce: Flags::new(),
-        }
-    }
-
-    /// Whether each host saw the other at work, in both phases.
-    pub fn all_met(&self) -> bool {
-        self.map.all_met() && self.reduce.all_met()
-    }
-}
-
-impl<'a> Seat<'a> {
-    // At the first pass of a phase: tells that it is at work, looks for the other, and tells
-    // whether it saw it.
-    fn arrive(&self, phase: Phase) {
-        let flags = match phase {
-            Phase::Map => &self.meeting.map,
-            Phase::Reduce => &self.meeting.reduce,
-        };
-        let (mine, other) = match self.side {
-            Side::First => (&flags.first, &flags.second),
-            Side::Second => (&flags.second, &flags.first),
-        };
-        if mine.at_work.load(SeqCst) == 1 {
-            return;
-        }
-        mine.at_work.store(1, SeqCst);
-        if is_set_soon(&other.at_work) {
-            mine.has_met.store(1, SeqCst);
-        }
-    }
-}
-
-/// Hosts of which the first two have the seats of a meeting. A run of two workers uses no others.
-pub fn meeting_hosts<'a>(meeting: &'a Meeting) -> [TestHost<'a>; 16] {
-    let one = TestHost::seated(meeting, Side::First);
-    let two = TestHost::seated(meeting, Side::Second);
-    [
-        one, two, two, two, two, two, two, two, two, two, two, two, two, two, two, two,
-    ]
-}
-
-fn is_set_soon(flag: &AtomicU64) -> bool {
-    for _ in 0..TURNS {
-        if flag.load(SeqCst) == 1 {
-            return true;
-        }
-        thread::yield_now();
-    }
-    false
+    map: Option<&'a Room>,
+    reduce: Option<&'a Room>,
 }
 
 impl<'a> TestHost<'a> {
-    fn seated(meeting: &'a Meeting, side: Side) -> TestHost<'a> {
+    /// A host that meets another in these rooms.
+    pub fn new(map: &'a Room, reduce: &'a Room) -> TestHost<'a> {
         TestHost {
-            seat: Some(Seat { meeting, side }),
+            map: Some(map),
+            reduce: Some(reduce),
         }
     }
 }
@@ -144,8 +64,12 @@ impl<'a> Host for TestHost<'a> {
     ghost account = { λ _. calm };
 
     fn pass(&mut self, at: At) -> Result<(), Down> {
-        if let Some(seat) = self.seat {
-            seat.arrive(at.phase);
+        let room = match at.phase {
+            Phase::Map => self.map.take(),
+            Phase::Reduce => self.reduce.take(),
+        };
+        if let Some(room) = room {
+            room.enter();
         }
         Ok(())
     }

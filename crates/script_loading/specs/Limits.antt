@@ -1,14 +1,20 @@
 -- How large a file may be.
-use Rattle.std.specs.Prelude.{ℕ}
+use Rattle.std.specs.Prelude.{ℕ, ◌*◌}
 
--- the most bytes of a script: 64 KiB
+abbrev pub kibibyte : ℕ
+kibibyte = 1024
+
+abbrev pub mebibyte : ℕ
+mebibyte = 1024 * kibibyte
+
+-- the most bytes of a script
 abbrev pub script_limit : ℕ
-script_limit = 65536
+script_limit = 64 * kibibyte
 
--- the most bytes of an input: 64 MiB
+-- the most bytes of an input
 abbrev pub input_limit : ℕ
-input_limit = 67108864
+input_limit = 64 * mebibyte
 
--- the most bytes of the file of a plan: 64 MiB
+-- the most bytes of the file of a plan
 abbrev pub plan_limit : ℕ
-plan_limit = 67108864
+plan_limit = 64 * mebibyte

@@ -1,10 +1,9 @@
 use Rattle.std.proofs.Common.{subst, sym}
-use Rattle.script_loading.specs.of_build_law.Signatures.{signatures_of}
 use Rattle.outer_plans.specs.Plans.{IsTaken}
 use Rattle.run_texts.specs.declared.status.Status.{Status}
 use Rattle.script_program.specs.Program.{Numbered}
 use Rattle.run_course.specs.inner.Course.{IsTakingStop}
-use Rattle.run_course.proofs.PlanLemmas.{taking_stop}
+use Rattle.run_course.proofs.PlanLemmas.{is_plan_of, taking_stop}
 use Rattle.run_course.proofs.showing.plan_taken.Goals as goal
 
 pub returns-in-Ok-clause-taken : goal.returns-in-Ok-clause-taken
@@ -15,15 +14,8 @@ returns-in-Ok-clause-taken c =
 pub returns-in-Ok-clause-of_script : goal.returns-in-Ok-clause-of_script
 returns-in-Ok-clause-of_script c =
     let held = c.as_program-held in
-    let script = held.result.now.script in
-    rw (← held.ensures.is)
-    (record {
-      well_formed = c.in-Ok.ensures.well_formed;
-      typed = c.in-Ok.ensures.types (signatures_of script)
-          (c.types_law.ensures.well_formed script held.ensures.well_formed);
-      same = c.in-Ok.ensures.same;
-      sources = c.in-Ok.ensures.sources;
-    })
+    is_plan_of held.ensures.is c.types_law.ensures.well_formed held.ensures.well_formed
+    c.in-Ok.ensures.means
 
 pub returns-in-Err-clause-stop : goal.returns-in-Err-clause-stop
 returns-in-Err-clause-stop c =
