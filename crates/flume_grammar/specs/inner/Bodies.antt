@@ -14,13 +14,17 @@ use Rattle.flume_grammar.specs.declared.tree.Expr.{Expr}
 use Rattle.flume_grammar.specs.declared.tree.Body.{Body}
 use Rattle.flume_grammar.specs.declared.tree.Body.TheVariants as tree
 use Rattle.flume_grammar.specs.inner.Out.{Out, give, bind, no_deeper, at, one, next, all_of}
-use Rattle.flume_grammar.specs.inner.Reading.{sign_at, keyword_at, name_at, is_at_keyword, of_keyword, begins, numbered}
+use Rattle.flume_grammar.specs.inner.Reading.{sign_at, keyword_at, name_at, is_at_keyword, of_keyword, numbered}
 use Rattle.flume_grammar.specs.inner.Expressions.{expression_within}
 use Rattle.flume_grammar.specs.Limits.{Limits, the_limits}
 
 abbrev pub keyword_body : Keyword → Option BodyStart
-keyword_body = begins ((keyword.Let, start.Let) ∷ (keyword.Emit, start.Emit)
-    ∷ (keyword.If, start.If) ∷ (keyword.For, start.For) ∷ (keyword.Case, start.Case) ∷ [])
+keyword_body keyword.Let = Some start.Let
+keyword_body keyword.Emit = Some start.Emit
+keyword_body keyword.If = Some start.If
+keyword_body keyword.For = Some start.For
+keyword_body keyword.Case = Some start.Case
+keyword_body _ = None
 
 abbrev pub begins_body : Option TokenKind → Bool
 begins_body (Some k) = is_some (of_keyword keyword_body k)

@@ -1,5 +1,5 @@
 -- One token.
-use Rattle.std.specs.Prelude.{ℕ, nat_lt, List, [], ◌∷◌, Bool, false, if◌then◌else◌, Option, Some, None, Result, Ok, Err}
+use Rattle.std.specs.Prelude.{ℕ, nat_lt, List, Bool, false, if◌then◌else◌, Option, Some, None, Result, Ok, Err}
 use denote.Enum.Bare.{sameb}
 use Rattle.flume_tokens.specs.contracts.keyword.Keyword as keyword_type
 use Rattle.flume_tokens.specs.contracts.sign.Sign as sign_type
@@ -56,11 +56,6 @@ or_syntax t None = Err (at t Syntax)
 abbrev pub of_keyword : {A : Type 0} → (Keyword → Option A) → TokenKind → Option A
 of_keyword f (kind.Keyword k) = f k
 of_keyword f _ = None
-
--- what a keyword begins, by a table of those that begin something
-abbrev pub begins : {A : Type 0} → List (Keyword × A) → Keyword → Option A
-begins [] k = None
-begins (entry ∷ rest) k = if same_keyword entry.0 k then Some entry.1 else begins rest k
 
 abbrev pub name_at : Token → Result (List ℕ) Stop
 name_at t = or_syntax t (name_of t.kind)

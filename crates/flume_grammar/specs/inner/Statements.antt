@@ -24,7 +24,7 @@ use Rattle.flume_grammar.specs.declared.tree.Form.{Form}
 use Rattle.flume_grammar.specs.declared.tree.Form.TheVariants as form
 use Rattle.flume_grammar.specs.declared.tree.Statement.{Statement}
 use Rattle.flume_grammar.specs.inner.Out.{Out, give, bind, at, one, next, all_of}
-use Rattle.flume_grammar.specs.inner.Reading.{sign_at, keyword_at, is_keyword, is_at_keyword, name_at, number_at, text_at, comma_at, or_syntax, of_keyword, begins, numbered}
+use Rattle.flume_grammar.specs.inner.Reading.{sign_at, keyword_at, is_keyword, is_at_keyword, name_at, number_at, text_at, comma_at, or_syntax, of_keyword, numbered}
 use Rattle.flume_grammar.specs.Parts.{Tree}
 use Rattle.flume_grammar.specs.inner.Types.{at_comma, whole_type}
 use Rattle.flume_grammar.specs.inner.Bodies.{whole_block}
@@ -33,10 +33,16 @@ use Rattle.flume_grammar.specs.Limits.{Limits}
 -- ---- operations
 
 abbrev pub keyword_operation : Keyword → Option OperationStart
-keyword_operation = begins ((keyword.Do, begin.Do) ∷ (keyword.Group, begin.Group)
-    ∷ (keyword.Combine, begin.Combine) ∷ (keyword.Flatten, begin.Flatten)
-    ∷ (keyword.Count, begin.Count) ∷ (keyword.Join, begin.Join) ∷ (keyword.Top, begin.Top)
-    ∷ (keyword.Combineall, begin.CombineAll) ∷ (keyword.Operate, begin.Operate) ∷ [])
+keyword_operation keyword.Do = Some begin.Do
+keyword_operation keyword.Group = Some begin.Group
+keyword_operation keyword.Combine = Some begin.Combine
+keyword_operation keyword.Flatten = Some begin.Flatten
+keyword_operation keyword.Count = Some begin.Count
+keyword_operation keyword.Join = Some begin.Join
+keyword_operation keyword.Top = Some begin.Top
+keyword_operation keyword.Combineall = Some begin.CombineAll
+keyword_operation keyword.Operate = Some begin.Operate
+keyword_operation _ = None
 
 abbrev pub operation_start : Token → Result OperationStart Stop
 operation_start t = or_syntax t (of_keyword keyword_operation t.kind)
@@ -50,12 +56,16 @@ abbrev pub let_start : Token → Result LetStart Stop
 let_start t = or_syntax t (of_keyword keyword_let t.kind)
 
 abbrev pub keyword_combiner : Keyword → Option CombinerStart
-keyword_combiner = begins ((keyword.Sum, combining.Whole combiner.Sum)
-    ∷ (keyword.Count, combining.Whole combiner.Count)
-    ∷ (keyword.Min, combining.Whole combiner.Min) ∷ (keyword.Max, combining.Whole combiner.Max)
-    ∷ (keyword.All, combining.Whole combiner.All) ∷ (keyword.Any, combining.Whole combiner.Any)
-    ∷ (keyword.Top, combining.Top) ∷ (keyword.Mean, combining.Whole combiner.Mean)
-    ∷ (keyword.Distinct, combining.Whole combiner.Distinct) ∷ [])
+keyword_combiner keyword.Sum = Some (combining.Whole combiner.Sum)
+keyword_combiner keyword.Count = Some (combining.Whole combiner.Count)
+keyword_combiner keyword.Min = Some (combining.Whole combiner.Min)
+keyword_combiner keyword.Max = Some (combining.Whole combiner.Max)
+keyword_combiner keyword.All = Some (combining.Whole combiner.All)
+keyword_combiner keyword.Any = Some (combining.Whole combiner.Any)
+keyword_combiner keyword.Top = Some combining.Top
+keyword_combiner keyword.Mean = Some (combining.Whole combiner.Mean)
+keyword_combiner keyword.Distinct = Some (combining.Whole combiner.Distinct)
+keyword_combiner _ = None
 
 abbrev pub combiner_start : Token → Result CombinerStart Stop
 combiner_start t = or_syntax t (of_keyword keyword_combiner t.kind)
@@ -99,9 +109,12 @@ join ts =
 -- ---- statements
 
 abbrev pub keyword_statement : Keyword → Option StatementStart
-keyword_statement = begins ((keyword.Type, start.Type) ∷ (keyword.Input, start.Input)
-    ∷ (keyword.Fn, start.Function) ∷ (keyword.Let, start.Let) ∷ (keyword.Output, start.Output)
-    ∷ [])
+keyword_statement keyword.Type = Some start.Type
+keyword_statement keyword.Input = Some start.Input
+keyword_statement keyword.Fn = Some start.Function
+keyword_statement keyword.Let = Some start.Let
+keyword_statement keyword.Output = Some start.Output
+keyword_statement _ = None
 
 abbrev pub with_line : Token → Option StatementStart → Result (StatementStart × ℕ) Stop
 with_line t (Some s) = Ok (s, t.line)
