@@ -1,8 +1,6 @@
 use Rattle.std.proofs.Common.{◌≡◌, ℕ, List, [], ◌++◌, codes, append_assoc, subst}
-use Rattle.std.specs.Prelude.{Result}
 use Rattle.outside.proofs.SaidLemmas.{says_both, says_cut}
 use Rattle.outside.specs.Says.{Says}
-use Rattle.outside.specs.Seen.{SeenScreen}
 use Rattle.printing.specs.Printed.{printed}
 use Rattle.run_texts.specs.Lines.{reason_name}
 use Rattle.run_texts.specs.declared.lines.Reason.TheVariants.{Trap}
