@@ -18,7 +18,8 @@ module _ {F : Type 0} (work : Work F) (w : World) (called : ℕ → Value → Ca
   task_of k = map_task_at (work_split work) (lists_of work) work.stage k
 
   pub is_map_phase : (k : ℕ) (s : Settings) → s.stage ≡ k → s.phase ≡ Map
-      → IsPhaseOf w (map_phase_of k (work_split work) (lists_of work) work.stage) s (work_count work)
+      → IsPhaseOf w (map_phase_of k (work_split work) (lists_of work) work.stage) s
+      (work_count work)
       (IsWorkValue called work) (work_places work)
   is_map_phase k s stage phase = record {
     named = (sym stage, sym phase);
