@@ -26,7 +26,7 @@ use Rattle.expression_check.proofs.RightLemmas.{right}
 use Rattle.body_check.specs.Bodies.{after_all, layer_after, sight_after}
 use Rattle.body_check.specs.Outputs.{output_of}
 use Rattle.body_check.specs.Call.{run_all, block, emitted_by, after, layer_emitted, emitted_in}
-use Rattle.body_check.specs.inner.Slots.{Placed, slots_as, block_slots, block_slots as block_of}
+use Rattle.body_check.specs.inner.Slots.{Placed, slots_as, block_slots, slots_in as block_of}
 use Rattle.body_check.specs.inner.Slots.{layer_placed, placed_of}
 use Rattle.body_check.proofs.FormLemmas.{emitted_in-step, after-step}
 use Rattle.body_check.proofs.PlacedLemmas.{placed_at}

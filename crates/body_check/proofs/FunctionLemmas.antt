@@ -19,7 +19,7 @@ use Rattle.expression_check.specs.of_expression_types.Sight.{Sight}
 use Rattle.body_check.specs.Bodies.{after_all, sight_after, at_start, body_of}
 use Rattle.body_check.specs.Call.{block, emitted_in, means}
 use Rattle.body_check.specs.inner.Frames.{InBody}
-use Rattle.body_check.specs.inner.Slots.{placed_of, block_slots as block_of}
+use Rattle.body_check.specs.inner.Slots.{placed_of, slots_in as block_of}
 use Rattle.body_check.proofs.BlockLemmas.{IsBlock}
 use Rattle.body_check.proofs.BodyLemmas.{right_block}
 

@@ -8,7 +8,7 @@ use Rattle.dofn_eval.specs.declared.stmt.Stmt.{Stmt}
 use Rattle.expression_check.specs.of_written_types.Answer.{Checked, ◌>>=◌}
 use Rattle.expression_check.proofs.of_written_types.FailsLemmas.{bind-same}
 use Rattle.expression_check.specs.of_expression_types.Sight.{Sight}
-use Rattle.body_check.specs.inner.Slots.{Placed, block_slots, block_slots, let_slots, emit_slots}
+use Rattle.body_check.specs.inner.Slots.{Placed, block_slots, slots_in, let_slots, emit_slots}
 use Rattle.body_check.specs.inner.Slots.{if_slots, for_slots, case_slots, layer_placed, placed_of}
 
 slots_mapped : {X : Type 0} (f : X → Sight → Checked Placed) (xs : List X) (s : Sight)
@@ -18,7 +18,7 @@ slots_mapped f (x ∷ xs) s slots =
     bind-same (f x s) _ _ (λ y. slots_mapped f xs y.1 (slots ++ y.0 ∷ []))
 
 block_mapped : {X : Type 0} (f : X → Sight → Checked Placed) (xs : List X) (s : Sight)
-    → block_slots (λ m. m) (map f xs) s ≡ block_slots f xs s
+    → slots_in (λ m. m) (map f xs) s ≡ slots_in f xs s
 block_mapped f xs s = ap (λ o. o >>= λ all. Ok all.0) (slots_mapped f xs s [])
 
 module _ (gives : List Ty) where
@@ -51,19 +51,19 @@ module _ (gives : List Ty) where
 
   pub placed-If : (line : ℕ) (e : Expr) (a b : List Body) (s : Sight)
       → placed_of gives (body.If line e a b) s
-      ≡ if_slots line e (block_slots (placed_of gives) a) (block_slots (placed_of gives) b) s
+      ≡ if_slots line e (slots_in (placed_of gives) a) (slots_in (placed_of gives) b) s
   placed-If line e a b s = placed_at _ _ s (body.outs-If line e a b)
 
   pub placed-For : (line : ℕ) (name : List ℕ) (e : Expr) (inner : List Body) (s : Sight)
       → placed_of gives (body.For line name e inner) s
-      ≡ for_slots line name e (block_slots (placed_of gives) inner) s
+      ≡ for_slots line name e (slots_in (placed_of gives) inner) s
   placed-For line name e inner s = placed_at _ _ s (body.outs-For line name e inner)
 
   pub placed-Case : (line : ℕ) (e : Expr) (left : List ℕ) (a : List Body) (right : List ℕ)
       (b : List Body) (s : Sight)
       → placed_of gives (body.Case line e left a right b) s
-      ≡ case_slots line e left (block_slots (placed_of gives) a) right
-      (block_slots (placed_of gives) b) s
+      ≡ case_slots line e left (slots_in (placed_of gives) a) right
+      (slots_in (placed_of gives) b) s
   placed-Case line e left a right b s = placed_at _ _ s (body.outs-Case line e left a right b)
 
 pub ruleset placed_rules = (placed-Let, placed-Emit, placed-If, placed-For, placed-Case)

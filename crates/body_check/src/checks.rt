@@ -66,7 +66,7 @@ fn slots_of(
     requires takes { takes < length frame.old.types }
     requires names { frame.old.sight.names ≡ [] }
     ensures gives { Gives (λ k. k) result (
-        spec.block_slots (spec.placed_of frame.old.gives) body.now
+        spec.slots_in (spec.placed_of frame.old.gives) body.now
         (at_start frame.old.sight.known argument.now (type_at frame.old.types takes))) }
     ensures extends { Extends frame.old.types frame.new.types }
     ensures known { frame.new.sight.known ≡ frame.old.sight.known }

@@ -155,8 +155,8 @@ fn place_if(
     frame: &mut Frame<'_>,
 ) -> Result<Stmt, ScriptFault>
     ensures gives { Gives (λ k. (k, frame.new.sight)) result (spec.if_slots line e.now
-        (spec.block_slots (placed_of frame.old.gives) blocks.entry.first.now)
-        (spec.block_slots (placed_of frame.old.gives) blocks.entry.second.now) frame.old.sight) }
+        (spec.slots_in (placed_of frame.old.gives) blocks.entry.first.now)
+        (spec.slots_in (placed_of frame.old.gives) blocks.entry.second.now) frame.old.sight) }
     ensures extends { Extends frame.old.types frame.new.types }
     ensures known { frame.new.sight.known ≡ frame.old.sight.known }
     ensures sight { OnOk result (frame.new.sight ≡ frame.old.sight) }
@@ -189,7 +189,7 @@ fn place_for(
     frame: &mut Frame<'_>,
 ) -> Result<Stmt, ScriptFault>
     ensures gives { Gives (λ k. (k, frame.new.sight)) result (spec.for_slots line name.now e.now
-        (spec.block_slots (placed_of frame.old.gives) body.now) frame.old.sight) }
+        (spec.slots_in (placed_of frame.old.gives) body.now) frame.old.sight) }
     ensures extends { Extends frame.old.types frame.new.types }
     ensures known { frame.new.sight.known ≡ frame.old.sight.known }
     ensures sight { OnOk result (frame.new.sight ≡ frame.old.sight) }
@@ -221,8 +221,8 @@ fn place_case(
     frame: &mut Frame<'_>,
 ) -> Result<Stmt, ScriptFault>
     ensures gives { Gives (λ k. (k, frame.new.sight)) result (spec.case_slots line e.now
-        names.entry.left.now (spec.block_slots (placed_of frame.old.gives) blocks.entry.first.now)
-        names.entry.right.now (spec.block_slots (placed_of frame.old.gives) blocks.entry.second.now)
+        names.entry.left.now (spec.slots_in (placed_of frame.old.gives) blocks.entry.first.now)
+        names.entry.right.now (spec.slots_in (placed_of frame.old.gives) blocks.entry.second.now)
         frame.old.sight) }
     ensures extends { Extends frame.old.types frame.new.types }
     ensures known { frame.new.sight.known ≡ frame.old.sight.known }
@@ -259,8 +259,8 @@ fn both_sides(
     requires right { sides.right < length frame.old.types }
     ensures gives { Gives (λ both. (both.first, both.second)) result (spec.both_slots line
         (type_at frame.old.types sides.left, type_at frame.old.types sides.right)
-        names.entry.left.now (spec.block_slots (placed_of frame.old.gives) blocks.entry.first.now)
-        names.entry.right.now (spec.block_slots (placed_of frame.old.gives) blocks.entry.second.now)
+        names.entry.left.now (spec.slots_in (placed_of frame.old.gives) blocks.entry.first.now)
+        names.entry.right.now (spec.slots_in (placed_of frame.old.gives) blocks.entry.second.now)
         frame.old.sight) }
     ensures extends { Extends frame.old.types frame.new.types }
     ensures known { frame.new.sight.known ≡ frame.old.sight.known }
@@ -284,7 +284,7 @@ fn of_side(
 ) -> Result<Block, ScriptFault>
     requires { id < length frame.old.types }
     ensures gives { Gives (λ k. k) result (spec.side_slots line name.now
-        (type_at frame.old.types id) (spec.block_slots (placed_of frame.old.gives) body.now)
+        (type_at frame.old.types id) (spec.slots_in (placed_of frame.old.gives) body.now)
         frame.old.sight) }
     ensures extends { Extends frame.old.types frame.new.types }
     ensures known { frame.new.sight.known ≡ frame.old.sight.known }
@@ -306,7 +306,7 @@ fn named(
 ) -> Result<Block, ScriptFault>
     requires new { find name.now frame.old.sight.names ≡ None }
     requires within { id < length frame.old.types }
-    ensures gives { Gives (λ k. k) result (spec.block_slots (placed_of frame.old.gives) body.now
+    ensures gives { Gives (λ k. k) result (spec.slots_in (placed_of frame.old.gives) body.now
         (with_name name.now (type_at frame.old.types id) frame.old.sight)) }
     ensures extends { Extends frame.old.types frame.new.types }
     ensures known { frame.new.sight.known ≡ frame.old.sight.known }
@@ -324,7 +324,7 @@ fn named(
 #[cycle(block)]
 fn inner(alloc: Global, body: &Pile<Body>, frame: &mut Frame<'_>) -> Result<Block, ScriptFault>
     ensures gives { Gives (λ k. k) result
-        (spec.block_slots (placed_of frame.old.gives) body.now frame.old.sight) }
+        (spec.slots_in (placed_of frame.old.gives) body.now frame.old.sight) }
     ensures extends { Extends frame.old.types frame.new.types }
     ensures known { frame.new.sight.known ≡ frame.old.sight.known }
     ensures sight { OnOk result (frame.new.sight ≡ frame.old.sight) }

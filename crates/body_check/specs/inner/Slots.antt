@@ -31,8 +31,8 @@ block_slots f (statement ∷ rest) s slots = do
 abbrev pub InBlock : Type 0
 InBlock = Sight → Checked (List Stmt)
 
-abbrev pub block_slots : {X : Type 0} → (X → Sight → Checked Placed) → List X → InBlock
-block_slots f statements s = do
+abbrev pub slots_in : {X : Type 0} → (X → Sight → Checked Placed) → List X → InBlock
+slots_in f statements s = do
   all ← block_slots f statements s []
   Ok (all.0)
 
@@ -104,10 +104,10 @@ module _ (gives : List Ty) where
       Body-F X → Sight → Checked Placed
   layer_placed f (Body-F.Let line name e) s = let_slots line name e s
   layer_placed f (Body-F.Emit line to e) s = emit_slots line gives to e s
-  layer_placed f (Body-F.If line e a b) s = if_slots line e (block_slots f a) (block_slots f b) s
-  layer_placed f (Body-F.For line name e body) s = for_slots line name e (block_slots f body) s
+  layer_placed f (Body-F.If line e a b) s = if_slots line e (slots_in f a) (slots_in f b) s
+  layer_placed f (Body-F.For line name e body) s = for_slots line name e (slots_in f body) s
   layer_placed f (Body-F.Case line e left a right b) s =
-      case_slots line e left (block_slots f a) right (block_slots f b) s
+      case_slots line e left (slots_in f a) right (slots_in f b) s
 
   abbrev pub placed_of : Body → Sight → Checked Placed
   placed_of = fold-Body (Sight → Checked Placed) (layer_placed (λ m. m))

@@ -9,10 +9,10 @@ use Rattle.expression_check.proofs.of_written_types.FailsLemmas.{Fails-first, Fa
 use Rattle.expression_check.specs.of_expression_types.Fields.{side_types}
 use Rattle.expression_check.specs.Slots.{typed}
 use Rattle.body_check.specs.inner.Frames.{InBody}
-use Rattle.body_check.specs.inner.Slots.{Placed, block_slots, block_slots, both_slots, placed_of}
+use Rattle.body_check.specs.inner.Slots.{Placed, slots_in, block_slots, both_slots, placed_of}
 use Rattle.body_check.proofs.PlacedLemmas.{placed-If, placed-For, placed-Case}
 use Rattle.body_check.proofs.SightLemmas.{behind-twice, next-placed, case-goes-on}
-use Rattle.body_check.proofs.statements.+block_slots.Goals as goal
+use Rattle.body_check.proofs.statements.+block.Goals as goal
 
 pub block-loop-statement-preserved : goal.block-loop-statement-preserved
 block-loop-statement-preserved t c =
@@ -88,13 +88,13 @@ place_case-returns-in-Err-both_sides-clause-gives t c =
     ≡ Ok (type_at ts sides.left, type_at ts sides.right)) c.types.ensures
     c.in-Ok.ensures.gives in
     let fails = subst (λ g. Fails e (both_slots line types_of left
-    (block_slots (placed_of g) a) right_
-    (block_slots (placed_of g) b) s)) c.resolve.ensures.emits
-    (subst (λ t. Fails e (both_slots line types_of left (block_slots (placed_of mid.gives) a)
-    right_ (block_slots (placed_of mid.gives) b) t)) c.resolve.ensures.sight
+    (slots_in (placed_of g) a) right_
+    (slots_in (placed_of g) b) s)) c.resolve.ensures.emits
+    (subst (λ t. Fails e (both_slots line types_of left (slots_in (placed_of mid.gives) a)
+    right_ (slots_in (placed_of mid.gives) b) t)) c.resolve.ensures.sight
     c.in-Err-both_sides.ensures.gives) in
     Fails-same e _ _
-    (case-goes-on line c.args.e.now left right_ (block_slots (placed_of gives) a) (block_slots
+    (case-goes-on line c.args.e.now left right_ (slots_in (placed_of gives) a) (slots_in
     (placed_of gives) b) s
     (typed mid.types x) types_of c.in_ok-x.ensures.gives has)
     (Fails-first e _ _ fails)
