@@ -51,7 +51,7 @@ module _ {A : Type 0} (first next lists : List (List A)) (at : ℕ) (list : List
 
 -- ---- the list at one place
 
-joined_at : {A : Type 0} (xs ys : List (List A)) (r : ℕ)
+joined_at : (xs ys : List (List Value)) (r : ℕ)
     → or_none (slice_get (each_joined xs ys) r)
     ≡ or_none (slice_get xs r) ++ or_none (slice_get ys r)
 joined_at [] ys r = refl
@@ -104,7 +104,7 @@ passed_whole [] r whole so_far end stands =
 passed_whole (out ∷ outs) r whole so_far end stands = absurd (omega arith)
 
 -- behind the first list, places are one less
-pub behind_first : {A : Type 0} (xs : List (List A)) (r : ℕ)
+pub behind_first : (xs : List (List Value)) (r : ℕ)
     → or_none (slice_get (drop 1 xs) r) ≡ or_none (slice_get xs (suc r))
 behind_first [] r = refl
 behind_first (x ∷ xs) r = refl
