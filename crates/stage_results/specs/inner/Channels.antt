@@ -1,5 +1,5 @@
 -- The outs of reduce tasks, channel by channel.
-use Rattle.std.specs.Prelude.{◌≡◌, ℕ, ◌<◌, List, [], ◌∷◌, ◌++◌, length, map, Option, Some, None, slice_get}
+use Rattle.std.specs.Prelude.{◌≡◌, ℕ, ◌<◌, List, [], ◌∷◌, ◌++◌, length, map, Some, slice_get}
 use Rattle.std.specs.Option.{IsSomeAnd}
 use Rattle.exec_graph.specs.of_flume_collection.Calls.{or_none}
 use Rattle.flume_value.specs.declared.value.Value.{Value}
