@@ -3,7 +3,7 @@ use Rattle.std.specs.Prelude.{IfSome}
 use Rattle.std.proofs.lemmas.List.{take_all}
 use Rattle.outside.specs.Cause.{Rose}
 use Rattle.kept_results.specs.Kept.{AreFound, AreKept, FindsEach}
-use Rattle.kept_results.proofs.FindLemmas.{finds_next, found_next, kept_next}
+use Rattle.kept_results.proofs.FindLemmas.{finds_next, found_next, kept_next, looks_end, looks_next}
 use Rattle.kept_results.proofs.finding.find_each.Goals as goal
 
 pub find_next-requires : goal.find_next-requires
@@ -37,6 +37,12 @@ loop-one-preserved g c =
           (g.C.Cache.seen c.args.cache.now).faults (g.C.Cache.seen c.loop-one.cache).faults
           (g.C.Cache.seen c.find_next.new.cache).faults so_far.entries so_far.later
           c.in_ok-find_next.ensures.later c.in_ok-find_next.ensures.finds so_far.finds;
+      failed = looks_next script asked i one looked new found within at is
+          (g.C.Cache.seen c.loop-one.cache).entries (g.C.Cache.seen c.args.cache.now).entries
+          (g.C.Cache.seen c.args.cache.now).faults (g.C.Cache.seen c.loop-one.cache).faults
+          (g.C.Cache.seen c.find_next.new.cache).faults so_far.entries
+          c.in_ok-find_next.ensures.later c.in_ok-find_next.ensures.found
+          c.in_ok-find_next.ensures.finds so_far.failed;
     }
 
 pub returns-clause-kept : goal.returns-clause-kept
@@ -60,3 +66,10 @@ returns-clause-finds g c =
     → FindsEach c.args.program.now.script entries l c.loop-one.looked.items))
     (take_all c.loop-one.one-index c.args.asked.now (omega (arith, c.loop-one-test.false)))
     c.loop-one.invariant.finds
+
+pub returns-clause-failed : goal.returns-clause-failed
+returns-clause-failed g c =
+    looks_end (g.C.Cache.seen c.args.cache.now).faults (g.C.Cache.seen c.loop-one.cache).faults
+    c.args.program.now.script c.args.asked.now c.loop-one.one-index
+    (g.C.Cache.seen c.args.cache.now).entries c.loop-one.looked.items
+    (omega (arith, c.loop-one-test.false)) c.loop-one.invariant.failed

@@ -22,8 +22,9 @@ loop-entry-preserved g c =
           (g.C.Cache.seen c.args.cache.now).faults (g.C.Cache.seen c.loop-entry.cache).faults
           (g.C.Cache.seen c.keep_one.new.cache).faults c.keep_one.result so_far.later cause is
           so_far.all;
-      some = some_more kept i entry within at started told new (is_ok c.keep_one.result) is
-          so_far.some;
+      some = some_more kept i entry within at started told new
+          (g.C.Cache.seen c.args.cache.now).faults (g.C.Cache.seen c.loop-entry.cache).faults
+          (g.C.Cache.seen c.keep_one.new.cache).faults c.keep_one.result cause is so_far.some;
     }
 
 pub returns-clause-all : goal.returns-clause-all
@@ -35,6 +36,7 @@ returns-clause-all g c =
 
 pub returns-clause-some : goal.returns-clause-some
 returns-clause-some g c =
-    some_end c.args.kept.now c.loop-entry.entry-index (g.C.Cache.seen c.args.cache.now).entries
+    some_end (g.C.Cache.seen c.args.cache.now).faults (g.C.Cache.seen c.loop-entry.cache).faults
+    c.args.kept.now c.loop-entry.entry-index (g.C.Cache.seen c.args.cache.now).entries
     (g.C.Cache.seen c.loop-entry.cache).entries (omega (arith, c.loop-entry-test.false))
     c.loop-entry.invariant.some
