@@ -3,12 +3,4 @@
 #![tactic(auto)]
 
 #[cfg(test)]
-mod bags;
-#[cfg(test)]
-mod members;
-#[cfg(test)]
-mod parts;
-#[cfg(test)]
-mod ranges;
-#[cfg(test)]
-mod tables;
+mod tests;

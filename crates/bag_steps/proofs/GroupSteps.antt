@@ -53,9 +53,6 @@ module _ (xs rest : List Value) (i n : ℕ) (k x : Value) (pairs : All IsPair xs
   first : first_key rest ≡ Some k
   first = first_at rest x k (omega (arith, ap length is, length-drop i xs)) at keyed
 
-  pub run_begins : 0 < n
-  run_begins = run_some k rest n r first
-
   pub run_within : i + n ≤ length xs
   run_within = omega (arith, r.within, ap length is, length-drop i xs)
 

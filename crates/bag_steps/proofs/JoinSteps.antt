@@ -125,9 +125,6 @@ module _ (xs rest : List Value) (i m : ℕ) (pairs : All IsPair xs) (up : IsSort
       (left_rises xs rest i m pairs up within is) (left_pairs ys rest' j n pairs' up' within' is')
       (left_rises ys rest' j n pairs' up' within' is') least r r'
 
-  pub join_begins : 0 < m + n
-  join_begins = ahead.0
-
   pub join_more : (run run' rows grown : List Value) (row : Value) → run ≡ take m rest
       → run' ≡ take n rest' → row ≡ pair k (sides (held_by run) (held_by run'))
       → joined xs ys ≡ rows ++ joined (drop i xs) (drop j ys) → grown ≡ rows ++ row ∷ []

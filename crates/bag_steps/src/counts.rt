@@ -6,9 +6,8 @@ ghost use Rattle.flume_value.specs.Bag.{bag_of};
 ghost use Rattle.keyed_steps.specs.of_bag_groups.Pairs.{pair as pair_of};
 ghost use Rattle.bag_steps.specs.Counts.{counted, counted_traps};
 
-use crate::runs::run_of_value;
+use crate::runs::{run_of_value, under_copy};
 use flume_value::Value;
-use keyed_steps::bag_groups::pair;
 use std::alloc::{AllocError, Global};
 
 /// For each distinct value of the ascending bag the pair of it and how often it is there. It copies
@@ -35,5 +34,5 @@ pub fn count(alloc: Global, bag: &[Value]) -> Result<Vec<Value>, AllocError>
 fn pair_of_count(alloc: Global, value: &Value, times: i64) -> Result<Value, AllocError>
     ensures { IfOk result (λ p. p ≡ pair_of value.now (Value.Int times)) }
 {
-    pair(alloc, value.copy(alloc)?, Value::Int(times))
+    under_copy(alloc, value, Value::Int(times))
 }

@@ -7,9 +7,9 @@ ghost use Rattle.keyed_steps.specs.of_bag_groups.Pairs.{IsPair, pair as pair_of}
 ghost use Rattle.keyed_steps.specs.of_bag_groups.Groups.{grouped};
 ghost use Rattle.bag_steps.specs.inner.Runs.{held_by};
 
-use crate::runs::{run_of_key, values_of};
+use crate::runs::{run_of_key, under_copy, values_of};
 use flume_value::Value;
-use keyed_steps::bag_groups::{key, pair};
+use keyed_steps::bag_groups::key;
 use std::alloc::{AllocError, Global};
 
 /// For each key of the ascending pairs the pair of it and the list of its values, ascending. It
@@ -38,6 +38,6 @@ fn group_of_run(alloc: Global, key: &Value, run: &[Value]) -> Result<Value, Allo
     requires { All IsPair run.now }
     ensures { IfOk result (λ group. group ≡ pair_of key.now (Value.List (held_by run.now))) }
 {
-    let values = Value::List(values_of(alloc, run)?);
-    pair(alloc, key.copy(alloc)?, values)
+    let values = values_of(alloc, run)?;
+    under_copy(alloc, key, Value::List(values))
 }

@@ -8,7 +8,7 @@ ghost use Rattle.keyed_steps.specs.of_bag_groups.Pairs.{IsPair, pair as pair_of}
 ghost use Rattle.bag_steps.specs.Joins.{joined, sides};
 ghost use Rattle.bag_steps.specs.inner.Runs.{held_by, first_key, least_of};
 
-use crate::runs::{run_of_key, values_of};
+use crate::runs::{run_of_key, under_copy, values_of};
 use flume_value::{Pile, Value, compare};
 use keyed_steps::bag_groups::{key, pair};
 use std::alloc::{AllocError, Global};
@@ -59,8 +59,8 @@ fn row(alloc: Global, key: &Value, left: &[Value], right: &[Value]) -> Result<Va
     ensures { IfOk result (λ row.
         row ≡ pair_of key.now (sides (held_by left.now) (held_by right.now))) }
 {
-    let lefts = Value::List(values_of(alloc, left)?);
-    let rights = Value::List(values_of(alloc, right)?);
-    let both = pair(alloc, lefts, rights)?;
-    pair(alloc, key.copy(alloc)?, both)
+    let lefts = values_of(alloc, left)?;
+    let rights = values_of(alloc, right)?;
+    let both = pair(alloc, Value::List(lefts), Value::List(rights))?;
+    under_copy(alloc, key, both)
 }

@@ -1,10 +1,10 @@
 // Runs of one value or of one key, in ascending order.
 ghost use Rattle.std.specs.Prelude.{◌≡◌, All, IfOk, Some};
-ghost use Rattle.keyed_steps.specs.of_bag_groups.Pairs.{IsPair, key_of};
+ghost use Rattle.keyed_steps.specs.of_bag_groups.Pairs.{IsPair, key_of, pair as pair_of};
 ghost use Rattle.bag_steps.specs.inner.Runs.{IsRun, held_by};
 
 use flume_value::{Items, Pile, Value, equals};
-use keyed_steps::bag_groups::{key, value};
+use keyed_steps::bag_groups::{key, pair, value};
 use std::alloc::{AllocError, Global};
 
 /// How many values ahead are this one.
@@ -40,4 +40,17 @@ pub(crate) fn values_of(alloc: Global, pairs: &[Value]) -> Result<Items, AllocEr
         values.push(value(pair).copy(alloc)?)?;
     }
     Ok(Pile::from_vec(values))
+}
+
+/// The pair of a copy of the key and this value.
+pub(crate) fn under_copy(alloc: Global, key: &Value, value: Value) -> Result<Value, AllocError>
+    ensures { IfOk result (λ p. p ≡ pair_of key.now value) }
+{
+    match key.copy(alloc) {
+        Ok(copied) => pair(alloc, copied, value),
+        Err(fault) => {
+            drop(value);
+            Err(fault)
+        }
+    }
 }

@@ -11,7 +11,7 @@ use Rattle.flume_grammar.specs.declared.tree.Statement.{Statement}
 use Rattle.flume_grammar.specs.Limits.{Limits}
 use Rattle.flume_grammar.specs.Parts.{Tree}
 use Rattle.flume_grammar.specs.Grammar as g
-use Rattle.beginning_spelling.proofs.Fillings.{Plan, on, Filled, FilledList, one_more}
+use Rattle.beginning_spelling.proofs.Fillings.{Plan, on, Filled, FilledList, one_more, more_filled}
 use Rattle.beginning_spelling.proofs.FilledTypes.{whole_type_filled}
 use Rattle.beginning_spelling.proofs.FilledExpressions.{expression_filled}
 
@@ -111,10 +111,9 @@ module _ (limits : Limits) where
   lets_filled : {ts us : List Token} {ls : List TurnLet} → g.AreLets limits ts us ls → (p : Plan)
       → Filled (λ xs ys x. g.AreLets limits xs ys x) p ts us
   lets_filled g.none_ p = (p, _, g.none_)
-  lets_filled (g.some h l) p =
-      let (q, ls, y) = lets_filled h p in
-      let (r, m, z) = let_filled l q in
-      (r, _, g.some y z)
+  lets_filled (g.some {ts} {us} {vs} h l) p =
+      more_filled (g.AreLets limits) (g.IsLet limits) (λ xs ys zs ls own y z. g.some y z) p ts us vs
+      (lets_filled h p) (λ q. let_filled l q)
 
   repeat_filled : {ts us : List Token} {r : Repeat} → g.IsRepeat limits ts us r → (p : Plan)
       → Filled (λ xs ys x. g.IsRepeat limits xs ys x) p ts us
@@ -162,7 +161,7 @@ module _ (limits : Limits) where
       → g.AreStatements limits ts us ss → (p : Plan)
       → Filled (λ xs ys x. g.AreStatements limits xs ys x) p ts us
   script_filled g.none_ p = (p, _, g.none_)
-  script_filled (g.some h s) p =
-      let (q, ss, y) = script_filled h p in
-      let (r, t, z) = statement_filled s q in
-      (r, _, g.some y z)
+  script_filled (g.some {ts} {us} {vs} h s) p =
+      more_filled (g.AreStatements limits) (g.IsStatement limits)
+      (λ xs ys zs ss own y z. g.some y z) p ts us vs (script_filled h p)
+      (λ q. statement_filled s q)

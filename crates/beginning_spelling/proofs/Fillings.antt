@@ -79,3 +79,14 @@ pub one_more : {A B : Type 0} (xs : List A) (ys : List B) (x : A) (y : B) → le
     → length (ys ++ y ∷ []) ≡ length (xs ++ x ∷ [])
 one_more xs ys x y e = let a = length-append xs (x ∷ []) in let b = length-append ys (y ∷ []) in
     omega (arith, e, a, b)
+
+-- a list with one more part behind it stays one, where the list and the part stay what they are
+pub more_filled : {A : Type 0} (R : List Token → List Token → List A → Type 0)
+    (S : List Token → List Token → A → Type 0)
+    → ((xs ys zs : List Token) (own : List A) (x : A) → R xs ys own → S ys zs x
+    → R xs zs (own ++ x ∷ []))
+    → (p : Plan) (ts us vs : List Token) → Filled R p ts us → ((q : Plan) → Filled S q us vs)
+    → Filled R p ts vs
+more_filled R S more p ts us vs (q, own, y) part =
+    let (r, x, z) = part q in
+    (r, own ++ x ∷ [], more (filled p ts) (filled q us) (filled r vs) own x y z)

@@ -63,7 +63,7 @@ module _ (gives : List Ty) where
       (b : List Body) (s : Sight)
       → placed_of gives (body.Case line e left a right b) s
       ≡ case_slots line e left (block_slots (placed_of gives) a) right
-          (block_slots (placed_of gives) b) s
+      (block_slots (placed_of gives) b) s
   placed-Case line e left a right b s = placed_at _ _ s (body.outs-Case line e left a right b)
 
 pub ruleset placed_rules = (placed-Let, placed-Emit, placed-If, placed-For, placed-Case)

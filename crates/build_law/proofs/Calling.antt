@@ -2,7 +2,7 @@
 use Rattle.std.proofs.Common.{◌≡◌, ℕ, zero, suc, ◌+◌, ◌<◌, Bool, true, false, List, [], ◌∷◌}
 use Rattle.std.proofs.Common.{◌++◌, map, length, get_or, Option, Some, None, refl, sym, ap, ◌∙◌}
 use Rattle.std.proofs.Common.{subst, arith, add-zero, zero-add}
-use Rattle.std.specs.Prelude.{if◌then◌else◌, is_some, option_and_then, slice_get}
+use Rattle.std.specs.Prelude.{is_some, option_and_then, slice_get, if◌then◌else◌}
 use Rattle.std.specs.Option.{option_map}
 use Rattle.std.specs.List.{AllByRecursion, Contains}
 use Rattle.std.proofs.lemmas.Option.{slice_get-map}
@@ -51,10 +51,6 @@ if_some false own x h = cc
 
 module _ (script : Script) where
   -- ---- what is needed, as it is made
-
-  pub needed_how : (j : ℕ) → needed_at script j ≡ true
-      → (how : Made) × (get_or (wanted script) j None ≡ Some how)
-  needed_how j h = some_is (get_or (wanted script) j None) h
 
   pub how_needed : (j : ℕ) (how : Made) → get_or (wanted script) j None ≡ Some how
       → needed_at script j ≡ true

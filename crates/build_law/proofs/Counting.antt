@@ -19,7 +19,7 @@ use Rattle.exec_graph.specs.Derived.{with_one}
 use Rattle.exec_graph.specs.Meaning.{through}
 use Rattle.exec_graph.specs.World.{World}
 use Rattle.exec_graph.specs.declared.step.Does.TheVariants as does
-use Rattle.exec_graph.proofs.StepFacts.{pair_answers}
+use Rattle.exec_graph.proofs.StepFacts.{called_is}
 use Rattle.direct_meaning.specs.Direct.{combined_by, counted_by, counts_behind}
 use Rattle.build_law.proofs.Passing.{each_one, only_label, through_combined, through_given}
 
@@ -46,6 +46,6 @@ pub count_is : (w : World) (n : ℕ) (c : Collection) → trap_set c.traps ≡ c
 count_is w n c h =
     through_combined w n true by.Sum (by_key (through w (only_label n false does.Pair) c))
     ∙ ap (λ d. combined_by n by.Sum (by_key d))
-    (through_given w n false does.Pair with_one (pair_answers w) c
+    (through_given w n false does.Pair with_one (called_is does.Pair w) c
     ∙ same_collection _ _ _ _ refl h)
     ∙ counts_are n c.traps c.bag h

@@ -25,7 +25,7 @@ use Rattle.exec_graph.specs.Derived.{left_tagged, right_tagged, split, with_side
 use Rattle.exec_graph.specs.Meaning.{through}
 use Rattle.exec_graph.specs.World.{World}
 use Rattle.exec_graph.specs.declared.step.Does.TheVariants as does
-use Rattle.exec_graph.proofs.StepFacts.{left_answers, right_answers, split_answers}
+use Rattle.exec_graph.proofs.StepFacts.{called_is}
 use Rattle.direct_meaning.specs.Direct.{joined_by}
 use Rattle.build_law.proofs.Passing.{only_label, through_given}
 
@@ -119,9 +119,9 @@ pub join_is : (w : World) (n : ℕ) (a b : Collection)
 join_is w n a b h k =
     ap (λ c. through w (only_label n true does.Split) (by_key c))
     (λ i. together
-    (through_given w n false does.TagLeft left_tagged (left_answers w) a i
-    ∷ through_given w n false does.TagRight right_tagged (right_answers w) b i ∷ []))
-    ∙ through_given w n true does.Split split (split_answers w) (by_key (sides_together a b))
+    (through_given w n false does.TagLeft left_tagged (called_is does.TagLeft w) a i
+    ∷ through_given w n false does.TagRight right_tagged (called_is does.TagRight w) b i ∷ []))
+    ∙ through_given w n true does.Split split (called_is does.Split w) (by_key (sides_together a b))
     ∙ same_collection _ _ _ _
     (ap (λ c. bag_of (flat_map split c))
     (ap (λ ts. unless_trapped ts (grouped (both_tagged a.bag b.bag)))

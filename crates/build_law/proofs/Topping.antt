@@ -22,7 +22,7 @@ use Rattle.exec_graph.specs.Derived.{members_in, spread, under_zero}
 use Rattle.exec_graph.specs.Meaning.{through}
 use Rattle.exec_graph.specs.World.{World}
 use Rattle.exec_graph.specs.declared.step.Does.TheVariants as does
-use Rattle.exec_graph.proofs.StepFacts.{solo_answers, spread_answers}
+use Rattle.exec_graph.proofs.StepFacts.{called_is}
 use Rattle.direct_meaning.specs.Direct.{combined_by, top_by}
 use Rattle.build_law.proofs.Passing.{each_one, only_label, through_combined, through_given}
 
@@ -72,13 +72,13 @@ pub top_is : (w : World) (n many : ℕ) (c : Collection) → trap_set c.traps �
     (by_key (through w (only_label n false does.Solo) c)))
     ≡ top_by many c
 top_is w n many c h g =
-    through_given w n true does.Spread spread (spread_answers w)
+    through_given w n true does.Spread spread (called_is does.Spread w)
     (through w (only_label n false (does.Combine (by.Top many)))
     (by_key (through w (only_label n false does.Solo) c)))
     ∙ ap spread_of
     (through_combined w n false (by.Top many)
     (by_key (through w (only_label n false does.Solo) c))
     ∙ ap (λ d. combined_by n (by.Top many) (by_key d))
-    (through_given w n false does.Solo under_zero (solo_answers w) c
+    (through_given w n false does.Solo under_zero (called_is does.Solo w) c
     ∙ same_collection _ _ _ _ refl h))
     ∙ top_are n many c.traps c.bag h g

@@ -22,7 +22,7 @@ use Rattle.exec_graph.specs.World.{World}
 use Rattle.exec_graph.specs.declared.graph.Act.TheVariants.{Singleton}
 use Rattle.exec_graph.specs.declared.step.Does.TheVariants as does
 use Rattle.exec_graph.proofs.Barriers.{barrier_singleton}
-use Rattle.exec_graph.proofs.StepFacts.{solo_answers}
+use Rattle.exec_graph.proofs.StepFacts.{called_is}
 use Rattle.direct_meaning.specs.Direct.{combined_by}
 use Rattle.direct_meaning.specs.Objects.{combined_whole, object_as, whole_behind, whole_value}
 use Rattle.build_law.proofs.Passing.{only_label, through_combined, through_given}
@@ -89,6 +89,6 @@ whole_is w n k c h g =
     ∙ ap (singleton_value n k)
     (through_combined w n false k (by_key (through w (only_label n false does.Solo) c))
     ∙ ap (λ d. combined_by n k (by_key d))
-    (through_given w n false does.Solo under_zero (solo_answers w) c
+    (through_given w n false does.Solo under_zero (called_is does.Solo w) c
     ∙ same_collection _ _ _ _ refl h))
     ∙ value_is n k c.traps c.bag h g

@@ -1,5 +1,3 @@
 pub mod Cause
 pub mod Entries
-pub mod Memory
 pub mod Seen
-pub mod inner

@@ -3,16 +3,14 @@
 //!
 //! A contract sees what a cache tells (its entries: optional, since a real disk tells nothing) and
 //! a count of its failures, which never falls. A call answers `Failed` only where that count rose
-//! in the call. `MemCache` holds its entries in memory, tells all of them, and fails exactly where
-//! a list says or room ends; `NoCache` has none and keeps none.
+//! in the call. `NoCache` has no entries and keeps none; the form in memory, for tests, stands in
+//! memory_outside.
 #![tactic(auto)]
 
 mod cache;
 mod entry;
-mod memory;
 mod none;
 
 pub use cache::{Cache, FindFault};
 pub use entry::CacheEntry;
-pub use memory::MemCache;
 pub use none::NoCache;

@@ -1,5 +1,5 @@
 -- What the run of what was given comes to, as what a call comes to.
-use Rattle.std.proofs.Common.{◌≡◌, ◌∙◌, ◌⊎◌, inl, inr, ℕ, zero, suc, Bool, true, false, List, [], ◌∷◌, Some, None, drop, if◌then◌else◌, length, slice_get, refl, sym, ap, subst}
+use Rattle.std.proofs.Common.{◌≡◌, ◌∙◌, ◌⊎◌, inl, inr, ℕ, zero, suc, Bool, true, false, List, [], ◌∷◌, Some, None, drop, length, slice_get, refl, sym, ap, subst, if◌then◌else◌}
 use Rattle.std.specs.List.{AllByRecursion as Each, Contains}
 use Rattle.std.specs.Option.{option_map}
 use Rattle.cache_store.specs.declared.entry.CacheEntry.{CacheEntry}
@@ -40,7 +40,7 @@ use Rattle.cached_course.specs.Looked.{AreKeyedOutputs}
 use Rattle.cached_course.specs.declared.saving.Given.{Given}
 use Rattle.cached_course.specs.inner.Course.{AsksPhases, GivesUp, IsPrepared, IsStop, StopsRun, Traps, WasGiven, WasRun}
 use Rattle.cached_course.proofs.AskedLemmas.{keyed_read}
-use Rattle.cached_course.proofs.RunLemmas.{found_here, held_here, keeps_here, lists_here, planned_here, reused, script_here, writes_here}
+use Rattle.cached_course.proofs.RunLemmas.{found_here, held_here, keeps_here, planned_here, reused, script_here, writes_here}
 
 -- ---- names
 
@@ -79,9 +79,6 @@ module _ (words : List (List ℕ)) (before after : SeenSource) (olds news : List
 
   abbrev later_here : Script
   later_here = script_here before.files script asked rows cache later given is
-
-  abbrev given_here : List (List Value)
-  given_here = lists_here before.files script asked rows cache later given is
 
   running : (table : CollectionTable) (plan : Plan)
       → meaning given.program.script given.lists ≡ Some table

@@ -1,7 +1,8 @@
 // The cache of a case: what it has at the first, and which of its calls fail.
 use crate::rooms::fitting;
-use cache_store::{CacheEntry, MemCache};
+use cache_store::CacheEntry;
 use flume_value::{Pile, Str};
+use memory_outside::MemCache;
 use std::alloc::{AllocError, Global};
 use worked_cases::{CACHE_ROOM, TextFile};
 

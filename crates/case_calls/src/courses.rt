@@ -2,10 +2,10 @@
 use crate::caches::cache_of;
 use crate::calls::Call;
 use crate::outcomes::{CacheCounts, outcome_of};
-use crate::pages::{Caller, Calls};
+use crate::pages::{Caller, Calls, Invocation};
 use crate::worlds::World;
-use cache_store::MemCache;
 use case_reports::Report;
+use memory_outside::MemCache;
 use std::alloc::{AllocError, Global};
 use std::mem::replace;
 use std::thread::Threads;
@@ -56,10 +56,12 @@ impl Course {
         let (alloc, case) = (calls.alloc, calls.case);
         let mut world = World::new(alloc, case, &self.kept, &call.faults)?;
         let before = self.cache.faults();
-        let words = &calls.command.words;
-        let status = calls
-            .caller
-            .call(calls.rt, alloc, words, &mut world, &mut self.cache);
+        let with = Invocation {
+            rt: calls.rt,
+            alloc,
+            words: &calls.command.words,
+        };
+        let status = calls.caller.call(&with, &mut world, &mut self.cache);
         let cache = CacheCounts {
             faults: self.cache.faults().saturating_sub(before),
             entries: self.cache.entry_count(),

@@ -13,5 +13,5 @@ mod pages;
 mod rooms;
 mod worlds;
 
-pub use pages::{Caller, print_cases};
+pub use pages::{Caller, Invocation, print_cases};
 pub use worlds::World;

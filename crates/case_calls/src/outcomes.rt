@@ -1,7 +1,7 @@
 // What a call left of its world, as it is told.
 use crate::worlds::World;
 use case_reports::{Counts, Outcome, push_name, push_text};
-use outside::{MemHost, MemShelf};
+use memory_outside::{MemHost, MemShelf};
 use std::alloc::{AllocError, Global};
 use std::str;
 use worked_cases::Case;

@@ -5,22 +5,27 @@ ghost use Rattle.std.specs.Thread.{IsSync};
 use crate::calls::Call;
 use crate::courses::Course;
 use crate::worlds::World;
-use cache_store::MemCache;
 use case_reports::{push_number, push_title};
+use memory_outside::MemCache;
 use std::alloc::{AllocError, Global};
 use std::io;
 use std::thread::Threads;
 use worked_cases::{Case, Command, Entry, Misread, When, read_cases};
 
+/// What a call is made with: a runtime, which its workers share, memory, and words.
+#[derive(Drop)]
+pub struct Invocation<'a, X> {
+    pub rt: &'a X,
+    pub alloc: Global,
+    pub words: &'a [String],
+}
+
 /// Who makes the calls of cases.
 pub trait Caller {
-    /// Makes a call of `flume_cached` with these words, and answers its exit status. Its workers
-    /// share the runtime.
+    /// Makes a call of `flume_cached`, and answers its exit status.
     fn call<X: Threads + Sync>(
         &self,
-        rt: &X,
-        alloc: Global,
-        words: &[String],
+        with: &Invocation<'_, X>,
         world: &mut World,
         cache: &mut MemCache,
     ) -> u8

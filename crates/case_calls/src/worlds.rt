@@ -3,7 +3,8 @@ ghost use Rattle.std.specs.Prelude.{◌≡◌, IfOk, vec_len};
 
 use crate::rooms::fitting;
 use flume_value::{Pile, Str};
-use outside::{File, MemHost, MemScreen, MemShelf, MemSource};
+use memory_outside::{MemHost, MemScreen, MemShelf, MemSource};
+use outside::File;
 use std::alloc::{AllocError, Global};
 use worked_cases::{Case, Faults, HostDown, TextFile};
 

@@ -4,10 +4,9 @@
 //! The form of cases, and of what is printed, stands in docs/CASES.md.
 #![tactic(auto)]
 
-use cache_store::MemCache;
-use case_calls::{Caller, World, print_cases};
+use case_calls::{Caller, Invocation, World, print_cases};
 use flume_run::flume_cached;
-use std::alloc::Global;
+use memory_outside::MemCache;
 use std::io;
 use std::io::Read;
 use std::thread::Threads;
@@ -19,16 +18,14 @@ struct Flume;
 impl Caller for Flume {
     fn call<X: Threads + Sync>(
         &self,
-        rt: &X,
-        alloc: Global,
-        words: &[String],
+        with: &Invocation<'_, X>,
         world: &mut World,
         cache: &mut MemCache,
     ) -> u8 {
         let status = flume_cached(
-            rt,
-            alloc,
-            words,
+            with.rt,
+            with.alloc,
+            with.words,
             &mut world.source,
             &mut world.hosts,
             &mut world.shelf,

@@ -3,12 +3,4 @@
 #![tactic(auto)]
 
 #[cfg(test)]
-mod combining;
-#[cfg(test)]
-mod pairs;
-#[cfg(test)]
-mod steps;
-#[cfg(test)]
-mod tables;
-#[cfg(test)]
-mod wanted;
+mod tests;

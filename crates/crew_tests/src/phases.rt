@@ -4,7 +4,8 @@ ghost use Rattle.std.specs.Prelude.{◌≡◌, ◌*◌, ◌^◌, ◌<◌, ◌≤
 use crate::tasks::Doubles;
 use crew::{Drill, Entry, KeptOut, PhaseFault, PhaseSettings, run_phase};
 use flume_value::Pile;
-use outside::{At, CalmHost, Host, MemHost, Phase};
+use memory_outside::MemHost;
+use outside::{At, CalmHost, Host, Phase};
 use std::alloc::{AllocError, Global};
 use std::process::Abort;
 use std::test::Fail;

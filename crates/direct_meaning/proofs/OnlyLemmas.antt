@@ -1,13 +1,12 @@
 -- Lists of just one, the values of objects one after another, and pairs with another first value.
-use Rattle.std.proofs.Common.{◌≡◌, ℕ, zero, suc, ◌+◌, ◌<◌, List, [], ◌∷◌, ◌++◌, drop, get_or, length, Option, Some, None, slice_get, refl, sym, ap, ◌∙◌, arith, add-one, append_assoc, append-nil}
-use Rattle.std.specs.Prelude.{IsSome}
+use Rattle.std.proofs.Common.{◌≡◌, ℕ, zero, suc, ◌+◌, ◌<◌, List, [], ◌∷◌, ◌++◌, drop, get_or, length, Option, Some, None, slice_get, refl, sym, ap, ◌∙◌, add-one, append_assoc}
 use Rattle.std.specs.Option.{option_and_then, option_map}
-use Rattle.flume_value.specs.declared.value.Value.{Value, Value-F}
+use Rattle.flume_value.specs.declared.value.Value.{Value}
 use Rattle.flume_value.specs.declared.value.Value.TheVariants as value
-use Rattle.bag_groups.specs.Pairs.{IsPair, pair, parts_at, parts_of, value_of as second_of}
+use Rattle.bag_groups.specs.Pairs.{pair, value_of as second_of}
 use Rattle.bag_groups.proofs.PairLemmas.{Parts, parts_of-pair}
-use Rattle.direct_meaning.proofs.SizeLemmas.{all_dropped, at_index}
-use Rattle.direct_meaning.specs.Objects.{argument_of, only}
+use Rattle.direct_meaning.proofs.SizeLemmas.{at_index}
+use Rattle.direct_meaning.specs.Objects.{only}
 use Rattle.direct_meaning.specs.declared.kept.Kept.{Kept}
 use Rattle.direct_meaning.specs.inner.Objects.{value_in, values_in}
 
@@ -63,21 +62,6 @@ module _ (table : List (Option Kept)) (objects : List ℕ) (i number : ℕ) (so_
       (option_and_then (λ v. option_map (λ vs. v ∷ vs) (values_in table (drop (suc i) objects)))
       (sym is j)))
       ∙ step (at_index objects i number below at)))
-
-  pub values_lost : i < length objects → number ≡ get_or objects i number
-      → value_in table number ≡ None → None ≡ whole
-  values_lost below at none =
-      (λ j. before_all so_far
-      (option_and_then (λ v. option_map (λ vs. v ∷ vs) (values_in table (drop (suc i) objects)))
-      (sym none j)))
-      ∙ step (at_index objects i number below at)
-
-  pub values_all : i ≡ length objects → Some so_far ≡ whole
-  values_all end =
-      ap (λ (l : List Value). Some l) (sym (append-nil so_far))
-      ∙ (ap (λ (l : List ℕ). before_all so_far (values_in table l))
-      (sym (all_dropped objects i end))
-      ∙ along)
 
 -- ---- a pair with another first value
 

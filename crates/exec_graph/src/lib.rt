@@ -37,7 +37,7 @@ mod step;
 pub use combiners::root_comb;
 pub use graph::{Act, Blocked, Entry, Graph, Input, Node, Place};
 pub use laws::{act_law, meaning_law, object_law, step_law, typed_law};
-pub use places::{add_place, code_of};
+pub use places::{add_place, add_places, code_of, set_of_places};
 pub use readers::{held_places, read_places};
 pub use rows::{operate_rows_law, side_input_rows_law, singleton_rows_law};
 pub use sizes::{MOST_NODES, count_outputs, size_of};

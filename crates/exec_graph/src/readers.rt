@@ -1,11 +1,11 @@
 // The places that are read, and those that are read whole.
 ghost use Rattle.std.specs.Prelude.{OnOk, IfOk};
-ghost use Rattle.exec_graph.specs.Readers.{among, calls_on, collects, is_read};
+ghost use Rattle.exec_graph.specs.Readers.{calls_on, collects, is_read};
 ghost use Rattle.exec_graph.specs.Readers.{is_held};
 ghost use Rattle.exec_graph.specs.Places.{HasPlaces, HasAlso};
 
-use crate::graph::{Graph, Node, Place};
-use crate::places::add_place;
+use crate::graph::{Graph, Node};
+use crate::places::{add_place, add_places};
 use std::alloc::{AllocError, Global};
 use std::collections::HashSet;
 
@@ -52,13 +52,4 @@ fn add_called(node: &Node, places: &mut HashSet<u64>) -> Result<(), AllocError>
         Node::Pdo { input: c, .. } => add_place(*c, places),
         Node::Source(_) | Node::Flatten(_) | Node::Gbk { .. } | Node::Barrier { .. } => Ok(()),
     }
-}
-
-fn add_places(cs: &[Place], places: &mut HashSet<u64>) -> Result<(), AllocError>
-    ensures { OnOk result (HasAlso places.old places.new (λ d. among d cs.now)) }
-{
-    for c in cs {
-        add_place(*c, places)?;
-    }
-    Ok(())
 }

@@ -1,5 +1,5 @@
 -- Bodies of the grammar are read.
-use Rattle.std.proofs.Common.{◌≡◌, ℕ, zero, suc, ◌-◌, ◌≤◌, ◌<◌, max, length, nat_le, List, [], ◌∷◌, ◌++◌, true, false, Some, None, Ok, Err, if◌then◌else◌, refl, ap, ◌∙◌, arith}
+use Rattle.std.proofs.Common.{◌≡◌, ℕ, zero, suc, ◌-◌, ◌≤◌, ◌<◌, max, length, nat_le, List, [], ◌∷◌, ◌++◌, true, false, Some, None, Ok, Err, refl, ap, ◌∙◌, arith, if◌then◌else◌}
 use Rattle.std.proofs.lemmas.Bool.{le-leb}
 use Rattle.flume_tokens.specs.declared.token.Token.{Token}
 use Rattle.flume_tokens.specs.declared.keyword.Keyword.{Keyword}
@@ -77,14 +77,6 @@ module _ (limits : Limits) (fair : IsFair limits) where
     shorter_bodies g.none_ = omega arith
     shorter_bodies (g.some x y) = let h = shorter_bodies x in let i = shorter_body y in
         omega (arith, h, i)
-
-  body_deep : {us vs : List Token} {x : Body} {a : ℕ} → IsBody limits us vs x a → 2 ≤ a
-  body_deep (g.let_ x) = let h = (positive limits fair) x in omega (arith, h)
-  body_deep (g.emit o x) = let h = (positive limits fair) x in omega (arith, h)
-  body_deep (g.if_ x y) = let h = (positive limits fair) x in omega (arith, h)
-  body_deep (g.if_else x y z) = let h = (positive limits fair) x in omega (arith, h)
-  body_deep (g.for_ x y) = let h = (positive limits fair) x in omega (arith, h)
-  body_deep (g.case_ x y z) = let h = (positive limits fair) x in omega (arith, h)
 
   -- an expression in a statement of depth at most n + 1
   abbrev ReadsValue : ℕ → List Token → List Token → Expr → ℕ → Type 0

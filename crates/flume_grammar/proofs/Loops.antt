@@ -1,5 +1,5 @@
 -- How far a loop over `many` has come.
-use Rattle.std.proofs.Common.{◌≡◌, ◌≢◌, ℕ, zero, suc, ◌≤◌, ◌<◌, length, List, [], ◌∷◌, Bool, true, false, Result, Ok, Err, if◌then◌else◌, refl, sym, ap, ◌∙◌, subst, arith}
+use Rattle.std.proofs.Common.{◌≡◌, ◌≢◌, ℕ, zero, suc, ◌≤◌, ◌<◌, length, List, [], ◌∷◌, Bool, true, false, Result, Ok, Err, refl, sym, ap, ◌∙◌, subst, arith, if◌then◌else◌}
 use Rattle.std.proofs.lemmas.Bool.{both_ways}
 use Rattle.std.proofs.lemmas.Result.{err_from_is_err_and}
 use Rattle.std.specs.Result.{IsErrAnd}
@@ -7,7 +7,7 @@ use Rattle.flume_tokens.specs.declared.token.Token.{Token}
 use Rattle.flume_grammar.specs.declared.fault.Stop.{Stop}
 use Rattle.flume_grammar.specs.declared.fault.Stop.TheVariants.{Memory}
 use Rattle.flume_grammar.specs.inner.Out.{Out, bind, many, all_of}
-use Rattle.flume_grammar.specs.inner.Reads.{Read, Passed}
+use Rattle.flume_grammar.specs.inner.Reads.{Read}
 
 -- what is left, from this state and these tokens, comes to the whole; the turns that are left are
 -- enough
@@ -81,13 +81,6 @@ module _ {A : Type 0} {more : A → List Token → Bool} {part : A → List Toke
           r.shorter;
       fits = r.fits;
       shorter = let i = h.shorter in let j = r.shorter in omega (arith, i, j);
-    }
-
-    pub turned_out : more a us ≡ false → Passed such (all_of more part first) ts us a
-    turned_out e = record {
-      value = reaches_end more part (all_of more part first ts) a us h.reaches e;
-      shorter = h.shorter;
-      fits = h.fits;
     }
 
     -- where the next part has a fault, the whole has it

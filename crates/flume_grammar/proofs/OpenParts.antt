@@ -63,13 +63,6 @@ module _ (limits : Limits) (fair : IsFair limits) where
         (λ q vs. bind (one (sign_at sign.CloseBrace) vs)
         (λ _ ws. give (so_far 8 (tree.Record q.names q.parts) (q.depth + 1)) ws))
 
-    pub o_fields_then : (p : Parts Expr) → IsComplete any any (fields_then p)
-    o_fields_then p =
-        wider ending any any _ (free ending)
-        (then_ ending ending any (all_of at_comma (next_field limits inner) p) _ (o_fields p)
-        (λ q _. sign_then ending any sign.CloseBrace _ (λ own least. refl, refl)
-        (λ _. given any any _ (free any))))
-
     pub at_quiet : (p : Parts Expr) → IsComplete quiet any (fields_then p)
     at_quiet p =
         wider ending quiet any _ quieter

@@ -7,6 +7,7 @@ use Rattle.flume_tokens.specs.declared.sign.Sign.TheVariants as sign
 use Rattle.flume_grammar.specs.declared.start.LetStart.{LetStart}
 use Rattle.flume_grammar.specs.declared.start.LetStart.TheVariants as letting
 use Rattle.flume_grammar.specs.declared.start.OperationStart.{OperationStart}
+use Rattle.flume_grammar.specs.declared.tree.Body.{Body}
 use Rattle.flume_grammar.specs.declared.tree.Form.{Form}
 use Rattle.flume_grammar.specs.declared.tree.Form.TheVariants as form
 use Rattle.flume_grammar.specs.inner.Out.{Out, one}
@@ -17,7 +18,7 @@ use Rattle.flume_grammar.specs.inner.Bodies.{block_within, whole_block}
 use Rattle.flume_grammar.specs.inner.Statements as s
 use Rattle.flume_grammar.specs.Grammar as g
 use Rattle.flume_grammar.specs.Terminals.{key, mark, name, text}
-use Rattle.flume_grammar.specs.Grammar.{AreNames, IsWholeType, AreMoreTypes, IsBlock, IsStatement}
+use Rattle.flume_grammar.specs.Grammar.{AreNames, IsOptionalNumber, IsWholeType, AreMoreTypes, IsBlock, IsStatement}
 use Rattle.flume_grammar.proofs.Sound.{bound, gave, moved_by, shallow}
 use Rattle.flume_grammar.proofs.SoundTokens.{past_sign, past_keyword, past_name, past_text, begun, comma_read, numbered_read}
 use Rattle.flume_grammar.proofs.SoundLoops.{kept_all}
@@ -139,22 +140,20 @@ module _ (limits : Limits) (fair : IsFair limits) where
       kept_all at_comma (s.next_type limits) (Outputs ts)
       (λ p vs r ws t k e. s_next_type ts p vs r ws k e) [] ts types us (g.none_, fair.outputs) q
 
-  record Signed (ts us : List Token) (x : List ℕ × Tree × Tree × List Tree) : Type 0 where
-    k : ℕ
-    i : ℕ
-    j : ℕ
-    o : ℕ
-    p : ℕ
-    vs : List Token
-    ws : List Token
-    xs : List Token
-    start : ts ≡ mark sign.Open k ∷ name x.0 i ∷ mark sign.Colon j ∷ vs
-    takes : (IsWholeType limits) vs (mark sign.Close o ∷ mark sign.Arrow p ∷ ws) x.1
-    gives : (IsWholeType limits) ws xs x.2
-    more : Outputs xs x.3 us
+  -- what stands between the name of a function and its scale
+  abbrev Signature : Type 0
+  Signature = List ℕ × Tree × Tree × List Tree
 
-  s_signature : (ts : List Token) (x : List ℕ × Tree × Tree × List Tree) (us : List Token)
-      → s.signature limits ts ≡ Ok (x, us) → Signed ts us x
+  -- "(" name ":" type ")" "->" type { "," type }
+  data IsSignature : List Token → List Token → Signature → Type 0 where
+    signature : {x : List ℕ} {s t : Tree} {types : List Tree} {k i j o p : ℕ}
+        {ts us vs ws : List Token}
+        → IsWholeType limits ts (mark sign.Close o ∷ mark sign.Arrow p ∷ us) s
+        → IsWholeType limits us vs t → Outputs vs types ws
+        → IsSignature (mark sign.Open k ∷ name x i ∷ mark sign.Colon j ∷ ts) ws (x, s, t, types)
+
+  s_signature : (ts : List Token) (x : Signature) (us : List Token)
+      → s.signature limits ts ≡ Ok (x, us) → IsSignature ts us x
   s_signature ts x us q =
       let a = past_sign sign.Open ts _ x us q in
       let c = past_name a.rest _ x us a.after in
@@ -164,58 +163,48 @@ module _ (limits : Limits) (fair : IsFair limits) where
       let l = past_sign sign.Arrow f.rest _ x us f.after in
       let m = bound (whole_type limits l.rest) _ x us l.after in
       let r = bound (s.more_types limits m.rest) _ x us m.after in
-      let v = gave (c.got, e.got, m.got, r.got) x r.rest us r.after in
-      record {
-        k = a.line;
-        i = c.line;
-        j = d.line;
-        o = f.line;
-        p = l.line;
-        vs = d.rest;
-        ws = l.rest;
-        xs = m.rest;
-        start = a.is ∙ ap (λ z. mark sign.Open a.line ∷ z) (c.is
-            ∙ ap (λ z. name c.got c.line ∷ z) d.is)
-            ∙ ap (λ (z : List ℕ × Tree × Tree × List Tree).
-            mark sign.Open a.line ∷ name z.0 c.line ∷ mark
-            sign.Colon d.line ∷ d.rest) v.0;
-        takes =
-            subst (λ (z : List ℕ × Tree × Tree × List Tree). (IsWholeType limits) d.rest
-            (mark sign.Close f.line ∷ mark sign.Arrow l.line ∷ l.rest) z.1) v.0
-            (subst (λ z. (IsWholeType limits) d.rest z e.got) (f.is
-            ∙ ap (λ z. mark sign.Close f.line ∷ z) l.is)
-            ((sound_whole limits fair) d.rest e.got e.rest e.part));
-        gives = subst (λ (z : List ℕ × Tree × Tree × List Tree). (IsWholeType limits) l.rest
-            m.rest z.2) v.0 ((sound_whole limits fair) l.rest m.got m.rest m.part);
-        more = subst (λ (z : List ℕ × Tree × Tree × List Tree). Outputs m.rest z.3 us) v.0
-            (subst (Outputs m.rest r.got) v.1 (s_more_types m.rest r.got r.rest r.part));
-      }
+      let own : Signature = (c.got, e.got, m.got, r.got) in
+      let v = gave own x r.rest us r.after in
+      moved_by IsSignature
+      (mark sign.Open a.line ∷ name c.got c.line ∷ mark sign.Colon d.line ∷ d.rest) ts r.rest us
+      own x
+      (a.is ∙ ap (λ z. mark sign.Open a.line ∷ z) (c.is ∙ ap (λ z. name c.got c.line ∷ z) d.is))
+      v.1 v.0
+      (signature (subst (λ z. IsWholeType limits d.rest z e.got) (f.is
+      ∙ ap (λ z. mark sign.Close f.line ∷ z) l.is)
+      (sound_whole limits fair d.rest e.got e.rest e.part))
+      (sound_whole limits fair l.rest m.got m.rest m.part)
+      (s_more_types m.rest r.got r.rest r.part))
+
+  abbrev function_of : List ℕ → Signature → Option (List ℕ) → List Body → Form
+  function_of x h c b = form.Function (record {
+    name = x;
+    argument = h.0;
+    takes = h.1;
+    gives = h.2;
+    more = h.3;
+    scale = c;
+    body = b;
+  })
+
+  signed : {n i d : ℕ} {x : List ℕ} {ts us vs ws : List Token} {h : Signature}
+      {c : Option (List ℕ)} {b : List Body} → IsSignature ts us h
+      → IsOptionalNumber keyword.Scale us vs c → IsBlock limits vs ws b d → d ≤ limits.depth
+      → StatementOf n (key keyword.Fn n ∷ name x i ∷ ts) ws (function_of x h c b)
+  signed (signature takes gives more) scale body small =
+      g.fn_ takes gives more.0 more.1 scale body small
 
   pub s_function : Shows keyword.Fn (s.function_form limits)
   s_function n ts x us q =
       let a = past_name ts _ x us q in
       let c = bound (s.signature limits a.rest) _ x us a.after in
-      let r = s_signature a.rest c.got c.rest c.part in
       let d = bound (numbered keyword.Scale c.rest) _ x us c.after in
       let e = bound (whole_block limits d.rest) _ x us d.after in
       let k = shallow (IsBlock limits) limits.depth (block_within limits limits.depth)
       (sound_block limits fair limits.depth) d.rest e.got e.rest e.part in
-      let y = form.Function
-      (record {
-        name = a.got;
-        argument = c.got.0;
-        takes = c.got.1;
-        gives = c.got.2;
-        more = c.got.3;
-        scale =
-            d.got;
-        body = e.got;
-      }) in
+      let y = function_of a.got c.got d.got e.got in
       let v = gave y x e.rest us e.after in
-      moved_by (StatementOf n) (key keyword.Fn n ∷ name a.got a.line ∷ mark sign.Open
-      r.k ∷ name
-      c.got.0 r.i ∷ mark sign.Colon r.j ∷ r.vs) _ e.rest us y x
-      (ap (λ z. key keyword.Fn n ∷ z) (a.is ∙ ap (λ z. name a.got a.line ∷ z) r.start)) v.1 v.0
-      (g.fn_ r.takes r.gives r.more.0 r.more.1 (numbered_read keyword.Scale c.rest d.got
-      d.rest d.part)
-      k.spelled k.small)
+      moved_by (StatementOf n) (key keyword.Fn n ∷ name a.got a.line ∷ a.rest) _ e.rest us y x
+      (ap (λ z. key keyword.Fn n ∷ z) a.is) v.1 v.0
+      (signed (s_signature a.rest c.got c.rest c.part)
+      (numbered_read keyword.Scale c.rest d.got d.rest d.part) k.spelled k.small)

@@ -2,7 +2,6 @@
 use Rattle.std.proofs.Common.{◌≡◌, ◌<◌, ◌^◌, ℕ, List, map, Some, sym, ap, ◌∙◌}
 use Rattle.std.specs.Prelude.{IfOk, OnErr, Result, Ok, Err}
 use Rattle.flume_value.specs.declared.value.Value.{Value}
-use Rattle.flume_collection.specs.declared.trap.Trap.{Trap}
 use Rattle.exec_graph.specs.Forests.{Branch, Forest, after, grown, numbered}
 use Rattle.exec_graph.specs.World.{World}
 use Rattle.crew.specs.declared.drill.Entry.{Entry}
@@ -18,15 +17,6 @@ use Rattle.forest_steps.proofs.Visiting.{in_turn_each}
 use Rattle.forest_courses.specs.Courses.{IsCourse}
 use Rattle.forest_courses.proofs.Coursing.{either_course}
 use Rattle.forest_run.specs.Asked.{WasAsked}
-use Rattle.forest_run.specs.inner.Ends.{IsRest}
-
--- ---- the end of a walk
-module _ (e : Entry) (trap : Trap) (from to : ℕ) (a b : Account) where
-  pub rest_value : (whole : Run) (r : Attempt Run) → IsRest e trap from to a b r
-      → whole ≡ Err trap → MadeHas (λ end. whole ≡ end) r
-  rest_value whole (Made (Ok given)) rest is = absurd rest
-  rest_value whole (Made (Err t)) rest is = is ∙ ap Err (sym rest.0)
-  rest_value whole Down rest is = tt
 
 -- ---- what a walk comes to by the steps of a forest
 module _ (w : World) (f : Forest) (bs : List Branch) (sizes : List ℕ) (start : Given)

@@ -97,8 +97,13 @@ fn go_through<E: Elements + Drop>(
     for _place in 0..count {
         match elements.step(alloc, &mut outputs) {
             Ok(()) => {}
-            Err(StepFault::Trap(trap)) => return Ok(Err(trap)),
-            Err(StepFault::Memory) => return Err(AllocError),
+            Err(fault) => {
+                drop(outputs);
+                return match fault {
+                    StepFault::Trap(trap) => Ok(Err(trap)),
+                    StepFault::Memory => Err(AllocError),
+                };
+            }
         }
     }
     Ok(Ok(outputs))

@@ -84,7 +84,10 @@ fn run_whole<H: Host>(
     let given = whole(alloc, elements)?;
     match ask_all(host, spot, task, 0, count as u64 + 1) {
         Ok(()) => Ok(Attempt::Made(Ok(given))),
-        Err(Down) => Ok(Attempt::Down),
+        Err(Down) => {
+            drop(given);
+            Ok(Attempt::Down)
+        }
     }
 }
 

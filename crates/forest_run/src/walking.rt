@@ -33,20 +33,29 @@ pub fn walk<E: Elements + Drop, H: Host>(
 {
     match ask_all(host, spot, task, 0, 1) {
         Ok(()) => {}
-        Err(Down) => return Ok(Attempt::Down),
+        Err(Down) => {
+            drop(outputs);
+            return Ok(Attempt::Down);
+        }
     }
     let end = elements.count() as u64 + 1;
     for place in 1..end {
         match ask_all(host, spot, task, place, place + 1) {
             Ok(()) => {}
-            Err(Down) => return Ok(Attempt::Down),
+            Err(Down) => {
+                drop(outputs);
+                return Ok(Attempt::Down);
+            }
         }
         match elements.step(alloc, &mut outputs) {
             Ok(()) => {}
-            Err(StepFault::Trap(trap)) => {
-                return Ok(trapped(host, spot, task, place + 1, end, trap));
+            Err(fault) => {
+                drop(outputs);
+                return match fault {
+                    StepFault::Trap(trap) => { Ok(trapped(host, spot, task, place + 1, end, trap)) }
+                    StepFault::Memory => Err(AllocError),
+                };
             }
-            Err(StepFault::Memory) => return Err(AllocError),
         }
     }
     Ok(Attempt::Made(Ok(outputs)))
@@ -68,6 +77,9 @@ fn trapped<H: Host>(
 {
     match ask_all(host, spot, task, from, to) {
         Ok(()) => Attempt::Made(Err(trap)),
-        Err(Down) => Attempt::Down,
+        Err(Down) => {
+            drop(trap);
+            Attempt::Down
+        }
     }
 }

@@ -1,17 +1,14 @@
 -- A step, by its outputs side by side.
-use Rattle.std.proofs.Common.{◌≡◌, ◌<◌, ℕ, zero, suc, List, [], ◌∷◌, length, get_or, drop, Option, refl, sym, ap, ◌∙◌, subst, arith}
+use Rattle.std.proofs.Common.{◌≡◌, ◌<◌, ℕ, zero, suc, List, [], ◌∷◌, length, get_or, drop, refl, sym, ap, ◌∙◌, subst, arith}
 use Rattle.std.specs.Prelude.{Ok, Err}
 use Rattle.std.specs.List.{AllByRecursion, slice_get}
 use Rattle.flume_value.specs.declared.value.Value.{Value}
-use Rattle.flume_collection.specs.declared.trap.Trap.{Trap}
-use Rattle.flume_collection.specs.Calls.{Called, emissions, or_none, trap_named, trap_of}
+use Rattle.flume_collection.specs.Calls.{emissions, or_none}
 use Rattle.exec_graph.specs.Calls.{called}
 use Rattle.exec_graph.specs.Forests.{Branch, Forest, Bare, Twig, grown, limb, twigs}
 use Rattle.exec_graph.specs.World.{World}
-use Rattle.forest_steps.specs.Functions.{IsTrapOf}
 use Rattle.forest_steps.specs.Safety.{Safe}
-use Rattle.forest_steps.specs.Running.{Given, Run, and_then, below, behind, behind_all, run, run_answer, run_out, run_twigs, IsStepsFault, SafeTwigs}
-use Rattle.forest_steps.specs.declared.fault.StepFault.{StepFault}
+use Rattle.forest_steps.specs.Running.{Given, Run, and_then, below, behind, behind_all, run, run_answer, run_out, run_twigs, SafeTwigs}
 use Rattle.forest_steps.specs.declared.fault.StepFault.TheVariants as fault
 
 -- ---- runs one after another
@@ -74,23 +71,6 @@ module _ (w : World) where
     limb_run at b x answers given e =
         twigs_run at b 0 (b.first ∷ b.more) Bare x answers given e
         ∙ then_itself (run_twigs w sizes at answers (b.first ∷ b.more) given)
-
-    trap_first : (origin which : ℕ) (answer : Called) (out : Option ℕ) (at : ℕ)
-        (kids : Value → Given → Run) (given : Given) (f : Given → Run) (e : Trap)
-        → trap_of origin answer ≡ e ∷ []
-        → and_then (run_answer origin which answer out at kids given) f ≡ Err e
-    trap_first origin which (Ok answers) out at kids given f e h = cc h
-    trap_first origin which (Err trap) out at kids given f e h =
-        let same : trap_named origin trap ≡ e = cc in ap Err same
-
-    pub limb_traps : (at : ℕ) (b : Branch) (x : Value) (given : Given) (t : StepFault)
-        → IsTrapOf b.origin (called w b.does x) t
-        → IsStepsFault (run w sizes at (limb b Bare) x given) t
-    limb_traps at b x given fault.Memory h = tt
-    limb_traps at b x given (fault.Trap e) h =
-        trap_first b.origin 0 (called w b.does x) b.first.out at
-        (run w sizes (below at) b.first.kids) given
-        (run w sizes (behind sizes at) (twigs b 1 b.more Bare) x) e h
 
     -- ---- steps side by side
     limb_then : (at : ℕ) (b : Branch) (n : ℕ) (ts : List Twig) (rest : Forest) (x : Value)

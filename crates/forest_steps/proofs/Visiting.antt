@@ -1,5 +1,5 @@
 -- Steps, outputs and emissions, one after another.
-use Rattle.std.proofs.Common.{◌≡◌, ◌<◌, ◌≤◌, ◌+◌, ℕ, zero, suc, List, [], ◌∷◌, length, get_or, drop, map, Option, refl, sym, ap, ◌∙◌, subst, arith, add-one}
+use Rattle.std.proofs.Common.{◌≡◌, ◌<◌, ◌≤◌, ◌+◌, ℕ, zero, suc, List, [], ◌∷◌, length, get_or, drop, map, refl, sym, ap, ◌∙◌, subst, arith, add-one}
 use Rattle.std.specs.Prelude.{Ok}
 use Rattle.std.specs.List.{AllByRecursion, slice_get}
 use Rattle.std.proofs.Math.Seq.{drop-cons}
@@ -10,8 +10,8 @@ use Rattle.exec_graph.specs.Twigs.{twig}
 use Rattle.exec_graph.specs.World.{World}
 use Rattle.exec_graph.specs.declared.step.Output.{Output}
 use Rattle.forest_steps.specs.Safety.{Safe}
-use Rattle.forest_steps.specs.Running.{Given, Run, and_then, below, behind, behind_all, counted, kept, run, run_each, run_out, run_twigs, IsStepsFault, SafeTwigs}
-use Rattle.forest_steps.specs.Turns.{StepsTurn, first_turn, in_turn}
+use Rattle.forest_steps.specs.Running.{Given, Run, and_then, below, behind, behind_all, run, run_each, run_out, run_twigs, IsStepsFault, SafeTwigs}
+use Rattle.forest_steps.specs.Turns.{StepsTurn, in_turn}
 use Rattle.forest_steps.specs.declared.fault.StepFault.{StepFault}
 use Rattle.forest_steps.specs.declared.fault.StepFault.TheVariants as fault
 use Rattle.forest_steps.proofs.Twigging.{grown_run, then_alike}
@@ -83,18 +83,6 @@ module _ (w : World) (sizes : List ℕ) where
       (ap (λ us. out_of at o us g) (sym given) ∙ e))
       ∙ (λ i. run_twigs w sizes at answers (sym first i ∷ sym rest i) g)
 
-  pub twigs_first_ends : (b : Branch) (o : Output) (os : List Output) (at : ℕ)
-      (answers : List (List Value)) (vs : List Value) (g : Given) (t : StepFault)
-      → b.first ≡ twig o → b.more ≡ map twig os → vs ≡ or_none (slice_get answers 0)
-      → IsStepsFault (out_of at o vs g) t
-      → IsStepsFault (run_twigs w sizes at answers (b.first ∷ b.more) g) t
-  twigs_first_ends b o os at answers vs g t first rest given e =
-      ends_by (out_of at o (or_none (slice_get answers 0)) g)
-      (run_twigs w sizes at answers (b.first ∷ b.more) g)
-      (rest_of (behind sizes at) (drop 1 answers) os) t
-      (λ i. run_twigs w sizes at answers (sym first i ∷ sym rest i) g)
-      (subst (λ us. IsStepsFault (out_of at o us g) t) given e)
-
   twigs_at : (items : List Output) (i : ℕ) (o : Output) (at : ℕ) (answers : List (List Value))
       (vs : List Value) (g : Given) (whole : Run) → i < length items → o ≡ get_or items i o
       → vs ≡ or_none (slice_get answers 0)
@@ -128,12 +116,6 @@ module _ (w : World) (sizes : List ℕ) where
       (rest_of (behind sizes at) (drop 1 answers) (drop (i + 1) items)) t
       (twigs_at items i o at answers vs g whole h is given goes) e
 
-  pub twigs_done : (items : List Output) (i at : ℕ) (answers : List (List Value)) (g : Given)
-      (whole : Run) → rest_of at answers (drop i items) g ≡ whole → length items ≤ i
-      → whole ≡ Ok g
-  twigs_done items i at answers g whole goes h =
-      sym goes ∙ ap (λ l. rest_of at answers l g) (drop_past items i h)
-
   pub place_on : (items : List Output) (i : ℕ) (o : Output) (at next whole : ℕ)
       → i < length items → o ≡ get_or items i o → next ≡ behind sizes at
       → behind_all sizes at (map twig (drop i items)) ≡ whole
@@ -141,11 +123,6 @@ module _ (w : World) (sizes : List ℕ) where
   place_on items i o at next whole h is next_is goes =
       ap (λ k. behind_all sizes k (map twig (drop (i + 1) items))) next_is
       ∙ sym (ap (λ l. behind_all sizes at (map twig l)) (drop_at items i o h is)) ∙ goes
-
-  pub place_done : (items : List Output) (i at whole : ℕ)
-      → behind_all sizes at (map twig (drop i items)) ≡ whole → length items ≤ i → at ≡ whole
-  place_done items i at whole goes h =
-      sym (ap (λ l. behind_all sizes at (map twig l)) (drop_past items i h)) ∙ goes
 
   pub place_begun : (b : Branch) (o : Output) (os items : List Output) (at next : ℕ)
       → b.first ≡ twig o → b.more ≡ map twig os → items ≡ os → next ≡ behind sizes at

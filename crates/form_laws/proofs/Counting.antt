@@ -17,12 +17,11 @@ use Rattle.plan_laws.specs.declared.operations.Key.{Key}
 use Rattle.plan_laws.specs.declared.operations.Key.TheVariants.{Mapper}
 use Rattle.plan_laws.specs.declared.operations.Operation.{Operation}
 use Rattle.plan_laws.specs.declared.operations.Operation.TheVariants.{Flat, Class}
-use Rattle.plan_laws.specs.Operations.{IsReducer, IsPdoOn, key_runs, reducer_runs, runs, times, works_at}
+use Rattle.plan_laws.specs.Operations.{IsIn, IsReducer, IsPdoOn, key_runs, reducer_runs, runs, times, works_at}
 use Rattle.plan_roles.specs.Mappers.{is_mapper, is_reducer, is_stage, maps_at, reducer_of}
 use Rattle.form_laws.specs.declared.ranked.Ranked.{Ranked}
 use Rattle.form_laws.specs.Classes.{IsGbk, IsGbkAt, has_same, keys_of, members}
 use Rattle.form_laws.specs.Operations.{all_alone, alone, alone_of, class_keys, class_ranked, barrier_ranked, operations, trivial}
-use Rattle.form_laws.specs.Order.{Among}
 use Rattle.form_laws.proofs.Basics.{one_among, times_append}
 use Rattle.form_laws.proofs.Classing.{AreParts, each_counted, gbk_node, member_gbk, node_gbk}
 use Rattle.form_laws.proofs.Keying.{class_mapper, classes_runs, keys_times, no_keys, one_key, reducers}
@@ -204,7 +203,7 @@ key_in_times n (k ∷ ks) (inr h) =
     omega arith
 
 some_keys : (b : Blocked) (n : ℕ) (ms : List ℕ) (cs : List (List ℕ))
-    → KeyIn (Mapper n) (class_keys b ms) → Among (class_ranked b ms) (map (class_ranked b) cs)
+    → KeyIn (Mapper n) (class_keys b ms) → IsIn (class_ranked b ms) (map (class_ranked b) cs)
     → 0 < keys_times b n cs
 some_keys b n ms [] k h = absurd h
 some_keys b n ms (c ∷ cs) k (inl e) =

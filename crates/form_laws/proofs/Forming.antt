@@ -14,13 +14,13 @@ use Rattle.exec_graph.proofs.Entries.{all_found}
 use Rattle.exec_graph.proofs.Solving.{each_found}
 use Rattle.plan_laws.specs.declared.operations.Operation.{Operation}
 use Rattle.plan_laws.specs.declared.operations.Operation.TheVariants.{Flat}
-use Rattle.plan_laws.specs.Operations.{DoAll, IsFlat, IsHonest, gives_of, source_places}
+use Rattle.plan_laws.specs.Operations.{DoAll, IsFlat, IsHonest, IsIn, gives_of, source_places}
 use Rattle.plan_roles.specs.Mappers.{is_mapper, is_reducer, is_stage}
 use Rattle.form_laws.specs.declared.ranked.Ranked.{Ranked}
 use Rattle.form_laws.specs.Classes.{IsGbk}
 use Rattle.form_laws.specs.Formed.{AreFormed, in_order}
 use Rattle.form_laws.specs.Operations.{all_alone, alone, alone_of, class_operation, class_ranked, operations, trivial}
-use Rattle.form_laws.specs.Order.{Among, Picked, ordered, ordered_by, pick}
+use Rattle.form_laws.specs.Order.{Picked, ordered, ordered_by, pick}
 use Rattle.form_laws.proofs.Classing.{AreParts, classes_part}
 use Rattle.form_laws.proofs.Counting.{runs_once}
 use Rattle.form_laws.proofs.Ordering.{pick_ok}
@@ -31,8 +31,8 @@ use Rattle.form_laws.proofs.Standing.{class_honest, barrier_honest, trivial_hone
 -- ---- what holds of all operations holds of all in order
 keep_by : (P : Operation → Type 0) (es : List Entry) (k : ℕ) (made : List Place)
     (xs : List Ranked) (o : Option Picked) → pick es made xs ≡ o
-    → ((y : Ranked) → Among y xs → P y.does)
-    → ((made : List Place) (ys : List Ranked) → ((y : Ranked) → Among y ys → P y.does)
+    → ((y : Ranked) → IsIn y xs → P y.does)
+    → ((made : List Place) (ys : List Ranked) → ((y : Ranked) → IsIn y ys → P y.does)
     → Each P (ordered es k made ys))
     → Each P (ordered_by o (λ p. ordered es k (gives_of es p.op.does ++ made) p.rest))
 keep_by P es k made xs None e h f = tt
@@ -43,7 +43,7 @@ keep_by P es k made xs (Some p) e h f =
     )
 
 pub ordered_keep : (P : Operation → Type 0) (es : List Entry) (k : ℕ) (made : List Place)
-    (xs : List Ranked) → ((y : Ranked) → Among y xs → P y.does) → Each P (ordered es k made xs)
+    (xs : List Ranked) → ((y : Ranked) → IsIn y xs → P y.does) → Each P (ordered es k made xs)
 unfolding ordered
 ordered_keep P es zero made xs h = tt
 ordered_keep P es (suc k) made xs h =

@@ -26,7 +26,6 @@ use Rattle.plan_roles.specs.Reading.{goes_on}
 use Rattle.plan_roles.specs.Mappers.{is_mapper, is_reducer, is_stage, maps_at}
 use Rattle.form_laws.specs.declared.ranked.Ranked.{Ranked}
 use Rattle.form_laws.specs.Operations.{alone, barrier_rank, barrier_ranked, operations}
-use Rattle.form_laws.specs.Order.{Among}
 use Rattle.form_laws.proofs.Basics.{one_among}
 use Rattle.form_laws.proofs.Classing.{AreParts}
 use Rattle.form_laws.proofs.Leveling.{levels_at}
@@ -40,7 +39,7 @@ use Rattle.form_laws.proofs.Apartness.{and_false as false_right}
 abbrev pub GivenBelow : Blocked → List (List ℕ) → ℕ → (ℕ → ℕ) → Ranked → Place → Type 0
 GivenBelow b cs w r y c =
     IsIn c (source_places b.graph.nodes)
-    ⊎ ((z : Ranked) × Among z (operations b cs) × IsIn c (gives_of b.graph.nodes z.does)
+    ⊎ ((z : Ranked) × IsIn z (operations b cs) × IsIn c (gives_of b.graph.nodes z.does)
     × (below b.graph.nodes w r z y ≡ true))
 
 abbrev pub AllGiven : Blocked → List (List ℕ) → ℕ → (ℕ → ℕ) → Ranked → Type 0

@@ -10,16 +10,16 @@ use Rattle.exec_graph.specs.declared.graph.Entry.{Entry}
 use Rattle.exec_graph.specs.declared.graph.Blocked.{Blocked}
 use Rattle.exec_graph.proofs.Solving.{each_found}
 use Rattle.plan_laws.specs.declared.operations.Operation.TheVariants.{Flat}
-use Rattle.plan_laws.specs.Operations.{times}
+use Rattle.plan_laws.specs.Operations.{IsIn, times}
+use Rattle.plan_laws.proofs.Running.{in_append}
 use Rattle.plan_roles.specs.Mappers.{is_mapper, is_reducer, is_stage}
 use Rattle.form_laws.specs.declared.ranked.Ranked.{Ranked}
 use Rattle.form_laws.specs.Classes.{AreClasses, IsGbk, IsGbkAt, IsShared, Rises, members}
 use Rattle.form_laws.specs.Operations.{all_alone, alone, alone_of, class_ranked, least_of, operations, trivial}
-use Rattle.form_laws.specs.Order.{Among}
+use Rattle.plan_rules.proofs.Members.{in_left, in_right}
 use Rattle.form_laws.proofs.Basics.{all_at, counted, counts_head, in_either, none_counted, times_append}
 use Rattle.form_laws.proofs.Classing.{each_class, member_gbk}
 use Rattle.form_laws.proofs.Progress.{all_alone_so}
-use Rattle.form_laws.proofs.Providing.{among_left, among_right}
 use Rattle.form_laws.proofs.Turns.{Apart, AreSame, Other}
 
 -- ---- rising lists with the same members
@@ -185,41 +185,34 @@ class_too b cs ds a e c h =
 
 -- ---- their operations
 
-split_among : (y : Ranked) (xs ys : List Ranked) → Among y (xs ++ ys)
-    → Among y xs ⊎ Among y ys
-split_among y [] ys h = inr h
-split_among y (x ∷ xs) ys (inl e) = inl (inl e)
-split_among y (x ∷ xs) ys (inr h) =
-    elim (split_among y xs ys h) [ inl i ↦ inl (inr i) | inr j ↦ inr j ]
-
 record RankedOf (b : Blocked) (cs : List (List ℕ)) (y : Ranked) : Type 0 where
   pub list : List ℕ
   pub has : HasClass list cs
   pub is : class_ranked b list ≡ y
 
 class_among : (b : Blocked) (cs : List (List ℕ)) (y : Ranked)
-    → Among y (map (class_ranked b) cs) → RankedOf b cs y
+    → IsIn y (map (class_ranked b) cs) → RankedOf b cs y
 class_among b [] y h = absurd h
 class_among b (c ∷ cs) y (inl e) = record { list = c; has = inl refl; is = e }
 class_among b (c ∷ cs) y (inr h) =
     let r = class_among b cs y h in record { list = r.list; has = inr r.has; is = r.is }
 
 among_class : (b : Blocked) (c : List ℕ) (cs : List (List ℕ)) → HasClass c cs
-    → Among (class_ranked b c) (map (class_ranked b) cs)
+    → IsIn (class_ranked b c) (map (class_ranked b) cs)
 among_class b c [] h = absurd h
 among_class b c (d ∷ ds) (inl e) = inl (ap (class_ranked b) e)
 among_class b c (d ∷ ds) (inr h) = inr (among_class b c ds h)
 
 operation_too : (b : Blocked) (cs ds : List (List ℕ)) → AreClasses b cs → AreClasses b ds
-    → (y : Ranked) → Among y (operations b cs) → Among y (operations b ds)
+    → (y : Ranked) → IsIn y (operations b cs) → IsIn y (operations b ds)
 operation_too b cs ds a e y h =
     let others : List Ranked = all_alone b b.graph.nodes in
-    elim (split_among y (map (class_ranked b) cs) others h) [
+    elim (in_append y (map (class_ranked b) cs) others h) [
       | inl i ↦ (let r = class_among b cs y i in
-          among_left y (map (class_ranked b) ds) others
-          (subst (λ (z : Ranked). Among z (map (class_ranked b) ds)) r.is
+          in_left y (map (class_ranked b) ds) others
+          (subst (λ (z : Ranked). IsIn z (map (class_ranked b) ds)) r.is
           (among_class b r.list ds (class_too b cs ds a e r.list r.has))))
-      | inr j ↦ among_right y (map (class_ranked b) ds) others j
+      | inr j ↦ in_right y (map (class_ranked b) ds) others j
     ]
 
 pub same_operations : (b : Blocked) (cs ds : List (List ℕ)) → AreClasses b cs → AreClasses b ds

@@ -25,36 +25,27 @@ use Rattle.form_laws.specs.declared.ranked.Ranked.{Ranked}
 use Rattle.plan_rules.specs.Fitting.{same_key}
 use Rattle.form_laws.specs.Classes.{IsGbkAt, keys_of, members}
 use Rattle.form_laws.specs.Operations.{all_alone, alone_of, class_keys, class_level, class_operation, class_ranked, first_uses, grouped, key_passes, passes_at}
-use Rattle.form_laws.specs.Order.{Among}
-use Rattle.form_laws.proofs.Basics.{any_at, counted, in_either, in_left, in_right, none_counted}
+use Rattle.plan_rules.proofs.Members.{in_left, in_right}
+use Rattle.form_laws.proofs.Basics.{any_at, counted, in_either, none_counted}
 use Rattle.form_laws.proofs.Classing.{AreParts, HasLevel, key_same, node_gbk}
 use Rattle.form_laws.proofs.Reading.{is_gbk, maps_so}
 use Rattle.form_laws.proofs.Standing.{all_mapped, inputs_from, keys_are}
 
 -- ---- membership
-pub among_left : (y : Ranked) (xs ys : List Ranked) → Among y xs → Among y (xs ++ ys)
-among_left y [] ys h = absurd h
-among_left y (x ∷ xs) ys (inl h) = inl h
-among_left y (x ∷ xs) ys (inr h) = inr (among_left y xs ys h)
-
-pub among_right : (y : Ranked) (xs ys : List Ranked) → Among y ys → Among y (xs ++ ys)
-among_right y [] ys h = h
-among_right y (x ∷ xs) ys h = inr (among_right y xs ys h)
-
 alone_by : (b : Blocked) (e : Entry) (es : List Entry) (n : ℕ) (x : Node) (y : Ranked) (c : Bool)
     → eqb e.number n ≡ c → cond c (Some e.node) (node_at es n) ≡ Some x
-    → Among y (alone_of b n x) → (node_at es n ≡ Some x → Among y (all_alone b es))
-    → Among y (all_alone b (e ∷ es))
+    → IsIn y (alone_of b n x) → (node_at es n ≡ Some x → IsIn y (all_alone b es))
+    → IsIn y (all_alone b (e ∷ es))
 alone_by b e es n x y true i h a f =
     let same : e.node ≡ x = cc in
-    among_left y (alone_of b e.number e.node) (all_alone b es)
-    (subst (λ (k : ℕ). Among y (alone_of b k e.node)) (sym (eqb-true e.number n i))
-    (subst (λ (z : Node). Among y (alone_of b n z)) (sym same) a))
+    in_left y (alone_of b e.number e.node) (all_alone b es)
+    (subst (λ (k : ℕ). IsIn y (alone_of b k e.node)) (sym (eqb-true e.number n i))
+    (subst (λ (z : Node). IsIn y (alone_of b n z)) (sym same) a))
 alone_by b e es n x y false i h a f =
-    among_right y (alone_of b e.number e.node) (all_alone b es) (f h)
+    in_right y (alone_of b e.number e.node) (all_alone b es) (f h)
 
 pub alone_in : (b : Blocked) (es : List Entry) (n : ℕ) (x : Node) (y : Ranked)
-    → node_at es n ≡ Some x → Among y (alone_of b n x) → Among y (all_alone b es)
+    → node_at es n ≡ Some x → IsIn y (alone_of b n x) → IsIn y (all_alone b es)
 alone_in b [] n x y h a = let bad : ⊥ = cc in absurd bad
 alone_in b (e ∷ es) n x y h a =
     alone_by b e es n x y (eqb e.number n) refl h a (λ i. alone_in b es n x y i a)
@@ -62,7 +53,7 @@ alone_in b (e ∷ es) n x y h a =
 -- ---- the class of a Gbk
 pub record ClassOf (b : Blocked) (cs : List (List ℕ)) (n : ℕ) : Type 0 where
   pub gbks : List ℕ
-  pub among : Among (class_ranked b gbks) (map (class_ranked b) cs)
+  pub among : IsIn (class_ranked b gbks) (map (class_ranked b) cs)
   pub has_it : 0 < times n gbks
   pub level : class_level b gbks ≡ level b.graph.nodes n
 
@@ -81,7 +72,7 @@ first_level b n (k ∷ ks) a h =
 
 find_class : (b : Blocked) (n : ℕ) (cs : List (List ℕ)) → Each (HasLevel b) cs
     → 0 < times n (members cs)
-    → (c : List ℕ) × Among (class_ranked b c) (map (class_ranked b) cs) × (0 < times n c)
+    → (c : List ℕ) × IsIn (class_ranked b c) (map (class_ranked b) cs) × (0 < times n c)
     × (class_level b c ≡ level b.graph.nodes n)
 find_class b n [] a h = absurd (none_counted n h)
 find_class b n (c ∷ cs) a h =

@@ -23,13 +23,13 @@ use Rattle.plan_roles.specs.Reading.{goes_on}
 use Rattle.plan_roles.specs.Mappers.{is_mapper, is_reducer, is_stage, outputs_of, passes, reducer_of, reduces}
 use Rattle.form_laws.specs.declared.ranked.Ranked.{Ranked}
 use Rattle.form_laws.specs.Operations.{all_alone, alone, class_keys, class_level, class_operation, class_ranked, grouped, key_passes, barrier_ranked, operations, passes_at, trivial}
-use Rattle.form_laws.specs.Order.{Among}
-use Rattle.form_laws.proofs.Basics.{any_at, in_filter, in_left, in_right}
+use Rattle.plan_rules.proofs.Members.{in_left, in_right}
+use Rattle.form_laws.proofs.Basics.{any_at, in_filter}
 use Rattle.form_laws.proofs.Classing.{AreParts}
 use Rattle.form_laws.proofs.Leveling.{levels_at}
 use Rattle.form_laws.proofs.Meeting.{IsMet, is_some_of}
 use Rattle.form_laws.proofs.Reading.{is_flatten, is_gbk, out_in, reducer_ok}
-use Rattle.form_laws.proofs.Providing.{ClassOf, alone_in, among_left, among_right, class_gives, class_of, maps_in, passes_in}
+use Rattle.form_laws.proofs.Providing.{ClassOf, alone_in, class_gives, class_of, maps_in, passes_in}
 
 -- ---- who gives a collection
 -- whether the node is a Flatten
@@ -44,7 +44,7 @@ is_end es (Class keys groups passes) = false
 
 pub record Served (b : Blocked) (cs : List (List ℕ)) (c : Place) : Type 0 where
   pub by : Ranked
-  pub among : Among by (operations b cs)
+  pub among : IsIn by (operations b cs)
   pub gives : IsIn c (gives_of b.graph.nodes by.does)
   pub bound :
       ((is_mapper b c.node ≡ true) × (by.rank ≡ 2 * suc (level b.graph.nodes c.node)))
@@ -94,9 +94,9 @@ serve_flat b cs c ins h z s =
     let y : Ranked = alone b c.node (Flat c.node) in
     record {
       by = y;
-      among = among_right y (map (class_ranked b) cs) (all_alone b b.graph.nodes)
+      among = in_right y (map (class_ranked b) cs) (all_alone b b.graph.nodes)
           (alone_in b b.graph.nodes c.node (Flatten ins) y h
-          (subst (λ x. Among y (cond x (y ∷ []) [])) (sym s) (inl refl)));
+          (subst (λ x. IsIn y (cond x (y ∷ []) [])) (sym s) (inl refl)));
       gives = inl (place_is c z);
       bound = inr (inr (refl, refl));
       flat = λ _ x e. (let same : Some (Flatten ins) ≡ Some x = sym h ∙ e in
@@ -121,7 +121,7 @@ serve_object b cs c ins o l a h z e same =
     ∙ ap (λ (x : Bool). x && not (goes_on es (place c.node 0))) e in
     record {
       by = y;
-      among = among_right y (map (class_ranked b) cs) (all_alone b es)
+      among = in_right y (map (class_ranked b) cs) (all_alone b es)
           (alone_in b es c.node (Barrier ins o l a) y h (inl same));
       gives = inl (place_is c z);
       bound = inr (inl (omega arith));
@@ -135,7 +135,7 @@ serve_barrier b cs c ins o l (SideInput f) h z =
     let y : Ranked = barrier_ranked b c.node (SideInput f) in
     record {
       by = y;
-      among = among_right y (map (class_ranked b) cs) (all_alone b b.graph.nodes)
+      among = in_right y (map (class_ranked b) cs) (all_alone b b.graph.nodes)
           (alone_in b b.graph.nodes c.node (Barrier ins o l (SideInput f)) y h (inl refl));
       gives = inl (place_is c z);
       bound = inr (inr (refl, refl));
@@ -156,7 +156,7 @@ serve_class b cs n k c i h =
     ap (λ (x : ℕ). 2 * x) k.level in
     record {
       by = class_ranked b k.gbks;
-      among = among_left (class_ranked b k.gbks) (map (class_ranked b) cs)
+      among = in_left (class_ranked b k.gbks) (map (class_ranked b) cs)
           (all_alone b b.graph.nodes) k.among;
       gives = i;
       bound = elim h [
@@ -228,9 +228,9 @@ serve_trivial b cs c d f h g s =
     let y : Ranked = alone b c.node (trivial c.node f) in
     record {
       by = y;
-      among = among_right y (map (class_ranked b) cs) (all_alone b b.graph.nodes)
+      among = in_right y (map (class_ranked b) cs) (all_alone b b.graph.nodes)
           (alone_in b b.graph.nodes c.node (Pdo d f) y h
-          (subst (λ x. Among y (cond x [] (y ∷ []))) (sym s) (inl refl)));
+          (subst (λ x. IsIn y (cond x [] (y ∷ []))) (sym s) (inl refl)));
       gives = out_in c.node c.out f g;
       bound = inr (inr (refl, refl));
       flat = λ i. never i;

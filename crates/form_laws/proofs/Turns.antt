@@ -7,9 +7,9 @@ use Rattle.exec_graph.specs.declared.graph.Place.{Place}
 use Rattle.exec_graph.specs.declared.graph.Entry.{Entry}
 use Rattle.plan_rules.proofs.of_graph_laws.Lexicographic.{Le, le_both, le_not, le_self, le_trans, less_le, not_less}
 use Rattle.plan_laws.specs.declared.operations.Operation.{Operation}
-use Rattle.plan_laws.specs.Operations.{gives_of}
+use Rattle.plan_laws.specs.Operations.{IsIn, gives_of}
 use Rattle.form_laws.specs.declared.ranked.Ranked.{Ranked}
-use Rattle.form_laws.specs.Order.{Among, AreOthers, InTurn, IsNext, IsTurn, Picked, before, is_ready, ordered, ordered_by, pick, pick_by, picked}
+use Rattle.form_laws.specs.Order.{AreOthers, InTurn, IsNext, IsTurn, Picked, before, is_ready, ordered, ordered_by, pick, pick_by, picked}
 use Rattle.form_laws.proofs.Ordering.{pick_ok, some_picked, stuck}
 use Rattle.form_laws.proofs.Settling.{among_all}
 
@@ -31,7 +31,7 @@ self_not x = before_not x x (le_self x.rank x.number)
 -- ---- what is picked is next
 
 abbrev Least : List Entry → List Place → List Ranked → Ranked → Type 0
-Least es made xs y = (z : Ranked) → Among z xs → is_ready es made z.does ≡ true
+Least es made xs y = (z : Ranked) → IsIn z xs → is_ready es made z.does ≡ true
     → before z y ≡ false
 
 -- what is picked, where none that is ready is before it, with the others
@@ -176,14 +176,14 @@ taken_apart (x ∷ left) y right h =
 
 -- what stands among others of y
 among_out : (z : Ranked) (left : List Ranked) (y : Ranked) (right : List Ranked)
-    → Among z (left ++ y ∷ right) → (y ≡ z) ⊎ Among z (left ++ right)
+    → IsIn z (left ++ y ∷ right) → (y ≡ z) ⊎ IsIn z (left ++ right)
 among_out z [] y right h = h
 among_out z (x ∷ left) y right (inl e) = inr (inl e)
 among_out z (x ∷ left) y right (inr h) =
     elim (among_out z left y right h) [ inl e ↦ inl e | inr i ↦ inr (inr i) ]
 
 among_in : (z : Ranked) (left : List Ranked) (y : Ranked) (right : List Ranked)
-    → Among z (left ++ right) → Among z (left ++ y ∷ right)
+    → IsIn z (left ++ right) → IsIn z (left ++ y ∷ right)
 among_in z [] y right h = inr h
 among_in z (x ∷ left) y right (inl e) = inl e
 among_in z (x ∷ left) y right (inr h) = inr (among_in z left y right h)
@@ -192,8 +192,8 @@ among_in z (x ∷ left) y right (inr h) = inr (among_in z left y right h)
 record Rest (xs : List Ranked) (y : Ranked) (rest : List Ranked) : Type 0 where
   pub apart : Apart rest
   pub other : Each (Other y) rest
-  pub out : (z : Ranked) → Among z xs → (y ≡ z) ⊎ Among z rest
-  pub back : (z : Ranked) → Among z rest → Among z xs
+  pub out : (z : Ranked) → IsIn z xs → (y ≡ z) ⊎ IsIn z rest
+  pub back : (z : Ranked) → IsIn z rest → IsIn z xs
 
 rest_of : (xs : List Ranked) (y : Ranked) (rest : List Ranked) → Apart xs
     → AreOthers xs y rest → Rest xs y rest
@@ -203,13 +203,13 @@ rest_of xs y rest a h =
       apart = subst Apart (sym h.others) t.1;
       other = subst (Each (Other y)) (sym h.others) t.0;
       out = λ z i.
-          elim (among_out z h.left y h.right (subst (Among z) h.all i))
-          [ inl e ↦ inl e | inr j ↦ inr (subst (Among z) (sym h.others) j) ];
-      back = λ z i. subst (Among z) (sym h.all)
-          (among_in z h.left y h.right (subst (Among z) h.others i));
+          elim (among_out z h.left y h.right (subst (IsIn z) h.all i))
+          [ inl e ↦ inl e | inr j ↦ inr (subst (IsIn z) (sym h.others) j) ];
+      back = λ z i. subst (IsIn z) (sym h.all)
+          (among_in z h.left y h.right (subst (IsIn z) h.others i));
     }
 
-same_number : (xs : List Ranked) (y z : Ranked) → Apart xs → Among y xs → Among z xs
+same_number : (xs : List Ranked) (y z : Ranked) → Apart xs → IsIn y xs → IsIn z xs
     → y.number ≡ z.number → y ≡ z
 same_number [] y z a i j e = absurd i
 same_number (x ∷ xs) y z a (inl i) (inl j) e = sym i ∙ j
@@ -221,8 +221,8 @@ same_number (x ∷ xs) y z a (inr i) (inr j) e = same_number xs y z a.1 i j e
 
 -- the same ones stand in both
 pub record AreSame (xs ys : List Ranked) : Type 0 where
-  pub there : (z : Ranked) → Among z xs → Among z ys
-  pub back : (z : Ranked) → Among z ys → Among z xs
+  pub there : (z : Ranked) → IsIn z xs → IsIn z ys
+  pub back : (z : Ranked) → IsIn z ys → IsIn z xs
 
 next_same : (es : List Entry) (made : List Place) (xs ys : List Ranked) (x y : Ranked)
     → Apart xs → AreSame xs ys → IsNext es made xs x → IsNext es made ys y → x ≡ y
@@ -233,7 +233,7 @@ next_same es made xs ys x y a s h k =
     (not_before x y (k.least x (s.there x h.among) h.ready))).1
 
 rest_within : (xs ys rest others : List Ranked) (y : Ranked) → AreSame xs ys
-    → Rest xs y rest → Rest ys y others → (z : Ranked) → Among z rest → Among z others
+    → Rest xs y rest → Rest ys y others → (z : Ranked) → IsIn z rest → IsIn z others
 rest_within xs ys rest others y s h k z i =
     elim (k.out z (s.there z (h.back z i))) [
       | inl e ↦ absurd (among_all (Other y) rest z h.other i (ap (λ (r : Ranked). r.number) e))

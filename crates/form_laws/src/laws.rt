@@ -9,10 +9,10 @@ ghost use Rattle.plan_rules.specs.of_exec_plan.declared.plan.Plan.{Plan};
 ghost use Rattle.exec_graph.specs.Meaning.{IsSound};
 ghost use Rattle.plan_laws.specs.declared.operations.Operation.{Operation};
 ghost use Rattle.exec_graph.specs.Wellformed.{HaveObjects, IsBlockedOk, IsGraphOk};
-ghost use Rattle.plan_laws.specs.Operations.{DoAll};
+ghost use Rattle.plan_laws.specs.Operations.{DoAll, IsIn};
 ghost use Rattle.plan_rules.specs.Fitting.{AreFit};
 ghost use Rattle.form_laws.specs.Formed.{AreFormed, IsFormed};
-ghost use Rattle.form_laws.specs.Order.{Among, InTurn, IsTurn, Picked, is_ready, ordered, pick};
+ghost use Rattle.form_laws.specs.Order.{InTurn, IsTurn, Picked, is_ready, ordered, pick};
 ghost use Rattle.form_laws.specs.declared.ranked.Ranked.{Ranked};
 
 /// The operations that are formed of a sound graph carry it out: each stands for nodes of the graph
@@ -38,7 +38,7 @@ pub fn order_law()
     ensures next { (es : List Entry) (made : List Place) (xs : List Ranked) (p : Picked) →
         pick es made xs ≡ Some p → IsTurn es made xs p.op.does p.rest }
     ensures none { (es : List Entry) (made : List Place) (xs : List Ranked) →
-        pick es made xs ≡ None → (y : Ranked) → Among y xs → is_ready es made y.does ≡ false }
+        pick es made xs ≡ None → (y : Ranked) → IsIn y xs → is_ready es made y.does ≡ false }
     ensures in_turn { (es : List Entry) (n : ℕ) (made : List Place) (xs : List Ranked) →
         length xs ≤ n → InTurn es made xs (ordered es n made xs) }
 {}

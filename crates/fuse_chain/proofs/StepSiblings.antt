@@ -35,7 +35,7 @@ use Rattle.fuse_chain.proofs.KidChains.{can_later, cut_graph}
 use Rattle.fuse_chain.proofs.KidSteps.{kept_alike}
 use Rattle.fuse_chain.proofs.SideBySide.{bare, kept_read_by, reads_output, rooted}
 use Rattle.fuse_chain.proofs.Partly.{found_in}
-use Rattle.fuse_chain.proofs.Plans.{drawn, drawn_alike}
+use Rattle.fuse_chain.proofs.Plans.{drawn_alike}
 use Rattle.fuse_chain.proofs.Splits.{append_end, end, those_none}
 use Rattle.fuse_chain.proofs.States.{IsState, graph_of, named_graph}
 use Rattle.fuse_chain.proofs.Whole.{can, own, whole, scene}
@@ -104,10 +104,6 @@ module _ (b : Blocked) (fu : IsFusible b) where
   }
   steps_from done (e ∷ rest) split at = node_steps done rest e split e.node refl at
       (steps_from (end done e) rest (split ∙ append_end done e rest))
-
-  -- ---- the first state and the last
-  none_done : done_nodes b [] ≡ drawn (own b) ps
-  none_done = refl
 
   begun : done_nodes b [] ≡ map (whole b) es
   begun = own_drawn b fu

@@ -1,7 +1,7 @@
 -- The graph nodes that make a collection of a script, of which the last gives it. Each has the
 -- collection as its origin, and numbers one after another. A call is one node, with an output for
 -- each of its names, and has the first of these as its origin.
-use Rattle.std.specs.Prelude.{ℕ, ◌+◌, ◌-◌, Bool, true, false, List, [], ◌∷◌, map, Option, Some, None, slice_index}
+use Rattle.std.specs.Prelude.{ℕ, ◌+◌, ◌-◌, Bool, true, false, List, [], ◌∷◌, ◌++◌, map, Option, Some, None, slice_index}
 use Rattle.std.proofs.Common.{suc}
 use Rattle.combine_table.specs.declared.comb.Comb.TheVariants as by
 use Rattle.combine_table.specs.declared.comb.Comb.{Comb}
@@ -20,6 +20,8 @@ use Rattle.script_program.specs.declared.made.Made.{Made}
 use Rattle.script_program.specs.declared.made.Made.TheVariants as made
 use Rattle.script_program.specs.Script.{Script}
 use Rattle.script_program.specs.Sources.{source_numbers}
+use Rattle.graph_build.specs.declared.nodes.Turn.{Turn}
+use Rattle.graph_build.specs.declared.nodes.Turn.TheVariants.{Ahead, Last}
 use Rattle.graph_build.specs.Calls.{emitted_at, needed_from, next_if, number_if, other_names, output_numbers}
 
 -- ---- one node
@@ -43,6 +45,14 @@ source_number script source = slice_index (source_numbers script) source
 abbrev pub one_step : ℕ → Bool → Does → Forest
 one_step origin last does =
     Grow (record { origin = origin; last = last; does = does; at = 0; out = Some 0 }) Bare Bare
+
+-- whether the step gives its collection
+abbrev pub is_last : Turn → Bool
+is_last Ahead = false
+is_last Last = true
+
+abbrev pub step_in : Turn → ℕ → Does → Place → Node
+step_in turn origin does input = Pdo input (one_step origin (is_last turn) does)
 
 -- a step of a collection, and the step that gives it
 abbrev pub step : ℕ → Does → Place → Node
@@ -90,6 +100,13 @@ first_of n = place n 0
 
 -- ---- the nodes of derived operations, from number n on
 
+-- all members under one key, in one group, combined
+abbrev pub combined_nodes : Comb → ℕ → ℕ → Place → List Entry
+combined_nodes comb origin n input =
+    entry n (step origin does.Solo input)
+    ∷ entry (n + 1) (groups origin (first_of n))
+    ∷ entry (n + 2) (step origin (does.Combine comb) (first_of (n + 1))) ∷ []
+
 -- each member with 1, in groups, with the sum of its ones
 abbrev pub count_nodes : ℕ → ℕ → Place → List Entry
 count_nodes origin n input =
@@ -106,22 +123,18 @@ join_nodes origin n left right =
     ∷ entry (n + 3) (groups origin (first_of (n + 2)))
     ∷ entry (n + 4) (last_step origin does.Split (first_of (n + 3))) ∷ []
 
--- all members under one key, in one group, its greatest ones, and these alone
+-- the greatest members in one list, and these alone
 abbrev pub top_nodes : ℕ → ℕ → ℕ → Place → List Entry
 top_nodes many origin n input =
-    entry n (step origin does.Solo input)
-    ∷ entry (n + 1) (groups origin (first_of n))
-    ∷ entry (n + 2) (step origin (does.Combine (by.Top many)) (first_of (n + 1)))
-    ∷ entry (n + 3) (last_step origin does.Spread (first_of (n + 2))) ∷ []
+    combined_nodes (by.Top many) origin n input
+    ++ entry (n + 3) (last_step origin does.Spread (first_of (n + 2))) ∷ []
 
--- all members under one key, in one group, combined, and the value of the one pair that there is;
--- where there is none, what the combiner makes of nothing
+-- all members combined, and the value of the one pair that there is; where there is none, what the
+-- combiner makes of nothing
 abbrev pub whole_nodes : Comb → ℕ → ℕ → Place → List Entry
 whole_nodes comb origin n input =
-    entry n (step origin does.Solo input)
-    ∷ entry (n + 1) (groups origin (first_of n))
-    ∷ entry (n + 2) (step origin (does.Combine comb) (first_of (n + 1)))
-    ∷ entry (n + 3) (barrier origin (Singleton comb) (first_of (n + 2) ∷ [])) ∷ []
+    combined_nodes comb origin n input
+    ++ entry (n + 3) (barrier origin (Singleton comb) (first_of (n + 2) ∷ [])) ∷ []
 
 -- ---- the nodes of any collection
 

@@ -9,7 +9,7 @@ ghost use Rattle.graph_build.specs.Nodes.{before_last as before_last_of, sources
 ghost use Rattle.script_program.specs.Sources.{source_numbers as numbers_in};
 
 use crate::built::built_at;
-use crate::nodes::{call, push_last, push_node, read_source};
+use crate::nodes::{Turn, call, push_node, push_step, read_source};
 use crate::numbers::{Start, ahead_of, before_last, inputs_of, number_of};
 use crate::objects::{push_beside, push_operate, push_whole};
 use crate::operations::{push_count, push_join, push_top};
@@ -250,7 +250,16 @@ fn push_combine(
 {
     let input = place_in(places, source);
     let combined = Does::Combine(by);
-    push_last(alloc, start.origin, start.node, combined, input, nodes)
+    let last = Turn::Last;
+    push_step(
+        alloc,
+        start.origin,
+        start.node,
+        last,
+        combined,
+        input,
+        nodes,
+    )
 }
 
 /// Adds a node of collections together.

@@ -26,51 +26,39 @@ pub(crate) fn read_source(number: u32, is_object: bool) -> Node
     Node::Source(Input { number, is_object })
 }
 
-/// The step of a collection that does not give it.
-fn step(alloc: Global, origin: u32, does: Does, input: Place) -> Result<Node, AllocError>
-    ensures { IfOk result (λ node. node ≡ spec.step origin does input) }
-{
-    let step = Step::new(origin, false, does, first_output(alloc), Vec::new(alloc));
-    only(alloc, input, step)
+/// Which of the steps of a collection a step is: one ahead of the last, or the last, which gives
+/// the collection.
+#[derive(Clone, Copy)]
+pub(crate) enum Turn {
+    Ahead,
+    Last,
 }
 
-/// The step that gives a collection.
-fn last_step(alloc: Global, origin: u32, does: Does, input: Place) -> Result<Node, AllocError>
-    ensures { IfOk result (λ node. node ≡ spec.last_step origin does input) }
+fn is_last(turn: Turn) -> bool
+    ensures { result ≡ spec.is_last turn }
 {
-    let step = Step::new(origin, true, does, first_output(alloc), Vec::new(alloc));
-    only(alloc, input, step)
+    match turn {
+        Turn::Ahead => false,
+        Turn::Last => true,
+    }
 }
 
-/// Adds the step of a collection that does not give it.
+/// Adds a step of a collection.
 pub(crate) fn push_step(
     alloc: Global,
     origin: u32,
     number: u32,
+    turn: Turn,
     does: Does,
     input: Place,
     nodes: &mut Pile<Entry>,
 ) -> Result<(), AllocError>
     ensures { OnOk result (nodes.new
-        ≡ nodes.old ++ spec.entry number (spec.step origin does input) ∷ []) }
+        ≡ nodes.old ++ spec.entry number (spec.step_in turn origin does input) ∷ []) }
 {
-    let node = step(alloc, origin, does, input)?;
-    push_node(nodes, number, node)
-}
-
-/// Adds the step that gives a collection.
-pub(crate) fn push_last(
-    alloc: Global,
-    origin: u32,
-    number: u32,
-    does: Does,
-    input: Place,
-    nodes: &mut Pile<Entry>,
-) -> Result<(), AllocError>
-    ensures { OnOk result (nodes.new
-        ≡ nodes.old ++ spec.entry number (spec.last_step origin does input) ∷ []) }
-{
-    let node = last_step(alloc, origin, does, input)?;
+    let output = first_output(alloc);
+    let step = Step::new(origin, is_last(turn), does, output, Vec::new(alloc));
+    let node = only(alloc, input, step)?;
     push_node(nodes, number, node)
 }
 

@@ -4,11 +4,12 @@ ghost use Rattle.exec_graph.specs.declared.graph.Act.TheVariants.{Operate, SideI
 ghost use Rattle.graph_build.specs.Graphs.{place_in as place_of};
 ghost use Rattle.graph_build.specs.Nodes as spec;
 
-use crate::nodes::{groups, push_node, push_step};
+use crate::nodes::push_node;
 use crate::numbers::{Start, first_of, number_of};
+use crate::operations::push_combined;
 use crate::places::{both, place_in, places_in};
 use combine_table::Comb;
-use exec_graph::{Act, Does, Entry, Node, Place};
+use exec_graph::{Act, Entry, Node, Place};
 use flume_value::Pile;
 use std::alloc::{AllocError, Global};
 
@@ -25,14 +26,10 @@ pub(crate) fn push_whole(
     ensures { OnOk result (nodes.new ≡ nodes.old
         ++ spec.whole_nodes by start.origin start.node (place_of places.now source)) }
 {
-    let origin = start.origin;
     let n = start.node;
     let input = place_in(places, source);
-    push_step(alloc, origin, n, Does::Solo, input, nodes)?;
-    push_node(nodes, n + 1, groups(origin, first_of(n)))?;
-    let combined = Does::Combine(by);
-    push_step(alloc, origin, n + 2, combined, first_of(n + 1), nodes)?;
-    let value = only_value(alloc, by, origin, first_of(n + 2))?;
+    push_combined(alloc, start, input, by, nodes)?;
+    let value = only_value(alloc, by, start.origin, first_of(n + 2))?;
     push_node(nodes, n + 3, value)?;
     Ok(())
 }

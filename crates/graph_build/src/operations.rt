@@ -4,7 +4,7 @@ ghost use Rattle.exec_graph.specs.declared.graph.Node.TheVariants.{Flatten};
 ghost use Rattle.graph_build.specs.Graphs.{place_in as place_of};
 ghost use Rattle.graph_build.specs.Nodes as spec;
 
-use crate::nodes::{groups, push_last, push_node, push_step};
+use crate::nodes::{Turn, groups, push_node, push_step};
 use crate::numbers::{Start, first_of};
 use crate::places::{both, place_in};
 use combine_table::Comb;
@@ -27,10 +27,11 @@ pub(crate) fn push_count(
     let origin = start.origin;
     let n = start.node;
     let input = place_in(places, source);
-    push_step(alloc, origin, n, Does::Pair, input, nodes)?;
+    push_step(alloc, origin, n, Turn::Ahead, Does::Pair, input, nodes)?;
     push_node(nodes, n + 1, groups(origin, first_of(n)))?;
+    let ones = first_of(n + 1);
     let sums = Does::Combine(Comb::Sum);
-    push_last(alloc, origin, n + 2, sums, first_of(n + 1), nodes)?;
+    push_step(alloc, origin, n + 2, Turn::Last, sums, ones, nodes)?;
     Ok(())
 }
 
@@ -52,11 +53,13 @@ pub(crate) fn push_join(
     let n = start.node;
     let one = place_in(places, left);
     let other = place_in(places, right);
-    push_step(alloc, origin, n, Does::TagLeft, one, nodes)?;
-    push_step(alloc, origin, n + 1, Does::TagRight, other, nodes)?;
+    let ahead = Turn::Ahead;
+    push_step(alloc, origin, n, ahead, Does::TagLeft, one, nodes)?;
+    push_step(alloc, origin, n + 1, ahead, Does::TagRight, other, nodes)?;
     push_both(alloc, n + 2, first_of(n), first_of(n + 1), nodes)?;
     push_node(nodes, n + 3, groups(origin, first_of(n + 2)))?;
-    push_last(alloc, origin, n + 4, Does::Split, first_of(n + 3), nodes)?;
+    let sides = first_of(n + 3);
+    push_step(alloc, origin, n + 4, Turn::Last, Does::Split, sides, nodes)?;
     Ok(())
 }
 
@@ -88,13 +91,40 @@ pub(crate) fn push_top(
     ensures { OnOk result (nodes.new ≡ nodes.old
         ++ spec.top_nodes many start.origin start.node (place_of places.now source)) }
 {
-    let origin = start.origin;
     let n = start.node;
     let input = place_in(places, source);
-    push_step(alloc, origin, n, Does::Solo, input, nodes)?;
+    push_combined(alloc, start, input, Comb::Top(many), nodes)?;
+    let lists = first_of(n + 2);
+    push_step(
+        alloc,
+        start.origin,
+        n + 3,
+        Turn::Last,
+        Does::Spread,
+        lists,
+        nodes,
+    )?;
+    Ok(())
+}
+
+/// Adds the nodes of all members under one key, in one group, combined.
+pub(crate) fn push_combined(
+    alloc: Global,
+    start: Start,
+    input: Place,
+    by: Comb,
+    nodes: &mut Pile<Entry>,
+) -> Result<(), AllocError>
+    requires { start.node + 2 < 2 ^ 32 }
+    ensures { OnOk result (nodes.new ≡ nodes.old
+        ++ spec.combined_nodes by start.origin start.node input) }
+{
+    let origin = start.origin;
+    let n = start.node;
+    push_step(alloc, origin, n, Turn::Ahead, Does::Solo, input, nodes)?;
     push_node(nodes, n + 1, groups(origin, first_of(n)))?;
-    let greatest = Does::Combine(Comb::Top(many));
-    push_step(alloc, origin, n + 2, greatest, first_of(n + 1), nodes)?;
-    push_last(alloc, origin, n + 3, Does::Spread, first_of(n + 2), nodes)?;
+    let all = first_of(n + 1);
+    let combined = Does::Combine(by);
+    push_step(alloc, origin, n + 2, Turn::Ahead, combined, all, nodes)?;
     Ok(())
 }

@@ -1,16 +1,14 @@
 -- Nodes that read elsewhere, are others or are gone, in one order or another.
-use Rattle.std.proofs.Common.{◌≡◌, ◌⊎◌, ℕ, Bool, true, false, cond, eqb, List, [], ◌∷◌, map, Option, Some, inl, inr, refl, sym, ap, ap₂, subst, ◌∙◌}
-use Rattle.std.proofs.lemmas.Bool.{eqb-true, eq-eqb, ne_eqb}
+use Rattle.std.proofs.Common.{◌≡◌, ◌⊎◌, ℕ, Bool, true, false, cond, eqb, List, [], ◌∷◌, map, inl, inr, refl, sym, ap, ap₂, subst, ◌∙◌}
+use Rattle.std.proofs.lemmas.Bool.{eq-eqb, ne_eqb}
 use Rattle.exec_graph.specs.Forests.{Forest}
-use Rattle.exec_graph.specs.Meaning.{node_at}
 use Rattle.exec_graph.specs.declared.graph.Entry.{Entry}
 use Rattle.exec_graph.specs.declared.graph.Node.{Node}
 use Rattle.exec_graph.specs.declared.graph.Node.TheVariants.{Source, Flatten, Pdo, Gbk, Barrier}
 use Rattle.exec_graph.specs.declared.graph.Place.{Place}
-use Rattle.exec_graph.proofs.Bools.{not_true}
 use Rattle.exec_graph.proofs.Entries.{entry}
 use Rattle.graph_laws.specs.Joining.{reread, reread_entry, set_node, without}
-use Rattle.graph_laws.proofs.Setting.{set_set, without_set, without_set_other}
+use Rattle.graph_laws.proofs.Setting.{set_on, set_set, without_on, without_set, without_set_other}
 
 -- ---- read by one rule, and then by another
 
@@ -40,16 +38,7 @@ nodes_both r s (e ∷ es) =
 
 pub set_map : (r : Place → Place) (es : List Entry) (n : ℕ) (x : Node)
     → set_node (map (reread_entry r) es) n (reread r x) ≡ map (reread_entry r) (set_node es n x)
-set_map r [] n x = refl
-set_map r (e ∷ es) n x = by (eqb e.number n) (set_map r es n x)
-  where
-    by : (b : Bool) → set_node (map (reread_entry r) es) n (reread r x)
-        ≡ map (reread_entry r) (set_node es n x)
-        → cond b (entry n (reread r x) ∷ map (reread_entry r) es)
-        (reread_entry r e ∷ set_node (map (reread_entry r) es) n (reread r x))
-        ≡ map (reread_entry r) (cond b (entry n x ∷ es) (e ∷ set_node es n x))
-    by true h = refl
-    by false h = ap (λ (l : List Entry). reread_entry r e ∷ l) h
+set_map r es n x = set_on (reread r) es n x
 
 -- a Pdo of what is read where it was
 pub set_over : (r : Place → Place) (es : List Entry) (n : ℕ) (y : Node) (c : Place) (f : Forest)
@@ -64,15 +53,7 @@ set_over r es n y c f stays =
 
 pub without_map : (r : Place → Place) (es : List Entry) (n : ℕ)
     → without (map (reread_entry r) es) n ≡ map (reread_entry r) (without es n)
-without_map r [] n = refl
-without_map r (e ∷ es) n = by (eqb e.number n) (without_map r es n)
-  where
-    by : (b : Bool) → without (map (reread_entry r) es) n ≡ map (reread_entry r) (without es n)
-        → cond b (map (reread_entry r) es)
-        (reread_entry r e ∷ without (map (reread_entry r) es) n)
-        ≡ map (reread_entry r) (cond b es (e ∷ without es n))
-    by true h = refl
-    by false h = ap (λ (l : List Entry). reread_entry r e ∷ l) h
+without_map r es n = without_on (reread r) es n
 
 -- two nodes are others, and the first is gone
 pub without_first : (es : List Entry) (p q : ℕ) (x y : Node) → (q ≡ p → ⊥)
@@ -93,20 +74,3 @@ without_one es p q n x apart (inr e) =
     subst (λ (m : ℕ). without (set_node (set_node es p x) q x) (cond (eqb m p) q p)
     ≡ set_node (without es (cond (eqb m p) q p)) m x) (sym e)
     (rw (ne_eqb q p (λ i. apart (sym i))) (without_first es p q x x (λ i. apart (sym i))))
-
--- another node stays as it is
-pub node_set : (es : List Entry) (q m : ℕ) (x : Node) → (m ≡ q → ⊥)
-    → node_at (set_node es q x) m ≡ node_at es m
-node_set [] q m x far = refl
-node_set (d ∷ es) q m x far = by (eqb d.number q) refl (node_set es q m x far)
-  where
-    by : (b : Bool) → eqb d.number q ≡ b → node_at (set_node es q x) m ≡ node_at es m
-        → node_at (cond b (entry q x ∷ es) (d ∷ set_node es q x)) m
-        ≡ cond (eqb d.number m) (Some d.node) (node_at es m)
-    by true e i =
-        let n : d.number ≡ q = eqb-true d.number q e in
-        ap (λ (b : Bool). cond b (Some x) (node_at es m))
-        (not_true (eqb q m) (λ j. far (sym (eqb-true q m j))))
-        ∙ sym (ap (λ (b : Bool). cond b (Some d.node) (node_at es m))
-        (not_true (eqb d.number m) (λ j. far (sym (eqb-true d.number m j) ∙ n))))
-    by false e i = ap (λ (o : Option Node). cond (eqb d.number m) (Some d.node) o) i

@@ -8,12 +8,12 @@ use Rattle.exec_graph.specs.declared.graph.Node.{Node}
 use Rattle.exec_graph.specs.declared.graph.Node.TheVariants.{Pdo}
 use Rattle.exec_graph.specs.declared.graph.Place.{Place}
 use Rattle.flatten_sink.specs.of_sink_laws.Chain.{forest_of}
-use Rattle.graph_joining.proofs.Commuting.{node_set}
 use Rattle.graph_laws.specs.Joining.{set_node, without}
 use Rattle.graph_laws.specs.Kids.{number_in}
 use Rattle.graph_laws.proofs.Changes.{node_at-without_other}
 use Rattle.graph_laws.proofs.ObjectNodes.{node_without}
 use Rattle.graph_laws.proofs.Wellness.{node_at-set_same}
+use Rattle.graph_laws.proofs.Setting.{node_set}
 use Rattle.graph_walks.specs.Outs.{outs, place_of}
 use Rattle.graph_walks.proofs.Places.{holds, holds_outs, number_place}
 use Rattle.graph_joins.specs.inner.Splices.{joined, known, spliced, spliced_at}

@@ -23,14 +23,6 @@ module _ (t : Node → Bool) (es : List Entry) (i : ℕ) (e : Entry) (lt : i < l
       ap (λ (l : List Entry). those t l)
       (drop_more es i e lt ∙ ap (λ (d : Entry). d ∷ drop (i + 1) es) (sym is))
 
-  pub calls_not : (found : Option ℕ) (all : List ℕ) → t e.node ≡ false
-      → found_list found ++ those t (drop i es) ≡ all
-      → found_list found ++ those t (drop (i + 1) es) ≡ all
-  calls_not found all no_call so_far =
-      ap (λ (l : List ℕ). found_list found ++ l)
-      (sym (here ∙ ap (λ (b : Bool). cond b (e.number ∷ those t (drop (i + 1) es))
-      (those t (drop (i + 1) es))) no_call)) ∙ so_far
-
   calls_first : t e.node ≡ true
       → those t (drop i es) ≡ e.number ∷ those t (drop (i + 1) es)
   calls_first call =
@@ -40,11 +32,6 @@ module _ (t : Node → Bool) (es : List Entry) (i : ℕ) (e : Entry) (lt : i < l
   pub calls_here : (all : List ℕ) → t e.node ≡ true → those t (drop i es) ≡ all
       → e.number ∷ those t (drop (i + 1) es) ≡ all
   calls_here all call so_far = sym (calls_first call) ∙ so_far
-
-  pub calls_twice : (m : ℕ) (all : List ℕ) → t e.node ≡ true
-      → m ∷ those t (drop i es) ≡ all → None ≡ only all
-  calls_twice m all call so_far =
-      ap only (ap (λ (l : List ℕ). m ∷ l) (sym (calls_first call)) ∙ so_far)
 
 pub found_only : (t : Node → Bool) (es : List Entry) (i : ℕ) (found : Option ℕ) (all : List ℕ)
     → length es ≤ i → found_list found ++ those t (drop i es) ≡ all → found ≡ only all

@@ -1,6 +1,7 @@
 // The graph of a word count with one change, and whether it is well-formed.
+use crate::nodes::{ROWS, first_of, groups, lone};
 use combine_table::Comb;
-use exec_graph::{Does, Entry, Graph, Input, Node, Output, Place, Roots, Step};
+use exec_graph::{Does, Entry, Graph, Node, Place};
 use flume_value::Pile;
 use graph_checks::graph_ok;
 use std::alloc::{AllocError, Global};
@@ -18,25 +19,9 @@ enum Change {
     FlattenOfNothing,
 }
 
-/// The rows that the words are cut from.
-const WORDS: Input = Input {
-    number: 0,
-    is_object: false,
-};
-
-fn first_of(node: u32) -> Place {
-    Place { node, out: 0 }
-}
-
 /// One step on each element, whose output has the number.
 fn pdo(alloc: Global, input: u32, does: Does, number: u32) -> Result<Node, AllocError> {
-    let output = Output::new(Some(number), Vec::new(alloc));
-    let mut steps = Vec::new(alloc);
-    steps.push(Step::new(1, true, does, output, Vec::new(alloc)))?;
-    Ok(Node::Pdo {
-        input: first_of(input),
-        roots: Roots::new(steps),
-    })
+    lone(alloc, input, 1, true, does, number)
 }
 
 fn lift(change: Change) -> Option<Comb> {
@@ -50,15 +35,10 @@ fn lift(change: Change) -> Option<Comb> {
 fn node(alloc: Global, number: u32, change: Change) -> Result<Node, AllocError> {
     match number {
         0 if change == Change::FlattenOfNothing => Ok(Node::Flatten(Pile::new(alloc))),
-        0 => Ok(Node::Source(WORDS)),
+        0 => Ok(Node::Source(ROWS)),
         1 => pdo(alloc, 0, Does::Call(0), 0),
         2 => pdo(alloc, 1, Does::Pair, 0),
-        3 => Ok(Node::Gbk {
-            input: first_of(2),
-            origin: 1,
-            is_own: false,
-            lifted: lift(change),
-        }),
+        3 => Ok(groups(2, 1, false, lift(change))),
         4 if change == Change::NumberedFromOne => pdo(alloc, 3, Does::Combine(Comb::Sum), 1),
         4 => pdo(alloc, 3, Does::Combine(Comb::Sum), 0),
         _ => pdo(alloc, 3, Does::Combine(Comb::Sum), 0),

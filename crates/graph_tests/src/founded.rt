@@ -1,6 +1,7 @@
 // Graphs, and whether each is founded.
+use crate::nodes::{ROWS, first_of, groups, lone};
 use combine_table::Comb;
-use exec_graph::{Does, Entry, Graph, Input, Node, Output, Place, Roots, Step};
+use exec_graph::{Does, Entry, Graph, Node};
 use flume_value::Pile;
 use graph_checks::is_founded;
 use std::alloc::{AllocError, Global};
@@ -8,21 +9,11 @@ use std::test::Fail;
 
 /// A kind of node, with the numbers of the nodes whose first output it reads.
 #[derive(Clone, Copy)]
-enum Shape {
+enum Kind {
     Source,
     Flatten(u32, u32),
     Group(u32),
     Sums(u32),
-}
-
-/// The rows of every source.
-const ROWS: Input = Input {
-    number: 0,
-    is_object: false,
-};
-
-fn first_of(node: u32) -> Place {
-    Place { node, out: 0 }
 }
 
 fn flatten(alloc: Global, one: u32, other: u32) -> Result<Node, AllocError> {
@@ -32,44 +23,22 @@ fn flatten(alloc: Global, one: u32, other: u32) -> Result<Node, AllocError> {
     Ok(Node::Flatten(inputs))
 }
 
-/// One step that sums the lists of ints, whose sums are output 0.
-fn sums(alloc: Global, input: u32) -> Result<Node, AllocError> {
-    let output = Output::new(Some(0), Vec::new(alloc));
-    let does = Does::Combine(Comb::Sum);
-    let mut steps = Vec::new(alloc);
-    steps.push(Step::new(2, true, does, output, Vec::new(alloc)))?;
-    Ok(Node::Pdo {
-        input: first_of(input),
-        roots: Roots::new(steps),
-    })
-}
-
-fn node(alloc: Global, shape: Shape) -> Result<Node, AllocError> {
-    match shape {
-        Shape::Source => Ok(Node::Source(ROWS)),
-        Shape::Flatten(one, other) => flatten(alloc, one, other),
-        Shape::Group(input) => Ok(Node::Gbk {
-            input: first_of(input),
-            origin: 1,
-            is_own: true,
-            lifted: None,
-        }),
-        Shape::Sums(input) => sums(alloc, input),
+fn node(alloc: Global, kind: Kind) -> Result<Node, AllocError> {
+    match kind {
+        Kind::Source => Ok(Node::Source(ROWS)),
+        Kind::Flatten(one, other) => flatten(alloc, one, other),
+        Kind::Group(input) => Ok(groups(input, 1, true, None)),
+        Kind::Sums(input) => lone(alloc, input, 2, true, Does::Combine(Comb::Sum), 0),
     }
 }
 
 /// The nodes under their numbers, and one that is written out.
-fn graph(
-    alloc: Global,
-    shapes: &[(u32, Shape)],
-    told: u32,
-    next: u32,
-) -> Result<Graph, AllocError> {
+fn graph(alloc: Global, kinds: &[(u32, Kind)], told: u32, next: u32) -> Result<Graph, AllocError> {
     let mut nodes = Pile::new(alloc);
-    for (number, shape) in shapes {
+    for (number, kind) in kinds {
         nodes.push(Entry {
             number: *number,
-            node: node(alloc, *shape)?,
+            node: node(alloc, *kind)?,
         })?;
     }
     let mut outputs = Pile::new(alloc);
@@ -81,128 +50,65 @@ fn graph(
     })
 }
 
-/// Nodes under their numbers, the node that is written out, the next number, and whether the graph
-/// is founded.
-#[derive(Clone, Copy)]
-struct Case {
-    nodes: &'static [(u32, Shape)],
-    told: u32,
-    next: u32,
-    founded: bool,
-}
+/// Nodes under their numbers.
+type Nodes = &'static [(u32, Kind)];
 
-static TABLE: [Case; 9] = [
-    // a chain
-    Case {
-        nodes: &[
-            (0, Shape::Source),
-            (1, Shape::Group(0)),
-            (2, Shape::Sums(1)),
-        ],
-        told: 2,
-        next: 3,
-        founded: true,
-    },
-    // a flatten that names one input twice
-    Case {
-        nodes: &[
-            (0, Shape::Source),
-            (1, Shape::Flatten(0, 0)),
-            (2, Shape::Group(1)),
-        ],
-        told: 2,
-        next: 3,
-        founded: true,
-    },
-    // a node that reads one of a higher number
-    Case {
-        nodes: &[
-            (0, Shape::Source),
-            (1, Shape::Group(2)),
-            (2, Shape::Flatten(0, 0)),
-        ],
-        told: 1,
-        next: 3,
-        founded: true,
-    },
-    // a cycle
-    Case {
-        nodes: &[
-            (0, Shape::Source),
-            (1, Shape::Flatten(0, 2)),
-            (2, Shape::Flatten(1, 1)),
-        ],
-        told: 2,
-        next: 3,
-        founded: false,
-    },
-    // a node that reads itself
-    Case {
-        nodes: &[
-            (0, Shape::Source),
-            (1, Shape::Group(1)),
-            (2, Shape::Group(0)),
-        ],
-        told: 2,
-        next: 3,
-        founded: false,
-    },
-    // a node that reads what is not there
-    Case {
-        nodes: &[
-            (0, Shape::Source),
-            (1, Shape::Group(0)),
-            (2, Shape::Group(7)),
-        ],
-        told: 1,
-        next: 3,
-        founded: false,
-    },
-    // an output that is not there
-    Case {
-        nodes: &[
-            (0, Shape::Source),
-            (1, Shape::Group(0)),
-            (2, Shape::Sums(1)),
-        ],
-        told: 7,
-        next: 3,
-        founded: false,
-    },
-    // a next number that a node has
-    Case {
-        nodes: &[
-            (0, Shape::Source),
-            (1, Shape::Group(0)),
-            (2, Shape::Sums(1)),
-        ],
-        told: 2,
-        next: 2,
-        founded: false,
-    },
-    // one number twice
-    Case {
-        nodes: &[
-            (0, Shape::Source),
-            (1, Shape::Group(0)),
-            (1, Shape::Group(0)),
-        ],
-        told: 1,
-        next: 3,
-        founded: false,
-    },
+const CHAIN: Nodes = &[(0, Kind::Source), (1, Kind::Group(0)), (2, Kind::Sums(1))];
+
+/// It names one input twice.
+const TWICE: Nodes = &[
+    (0, Kind::Source),
+    (1, Kind::Flatten(0, 0)),
+    (2, Kind::Group(1)),
 ];
 
-fn is_told(alloc: Global, case: Case) -> Option<bool> {
-    let graph = graph(alloc, case.nodes, case.told, case.next).ok()?;
+/// A node reads one of a higher number.
+const UPWARDS: Nodes = &[
+    (0, Kind::Source),
+    (1, Kind::Group(2)),
+    (2, Kind::Flatten(0, 0)),
+];
+
+const CYCLE: Nodes = &[
+    (0, Kind::Source),
+    (1, Kind::Flatten(0, 2)),
+    (2, Kind::Flatten(1, 1)),
+];
+
+/// A node reads itself.
+const SELFISH: Nodes = &[(0, Kind::Source), (1, Kind::Group(1)), (2, Kind::Group(0))];
+
+/// A node reads what is not there.
+const DANGLING: Nodes = &[(0, Kind::Source), (1, Kind::Group(0)), (2, Kind::Group(7))];
+
+/// Two nodes have one number.
+const DOUBLE: Nodes = &[(0, Kind::Source), (1, Kind::Group(0)), (1, Kind::Group(0))];
+
+/// Nodes, the one that is written out, the next number, and whether the graph is founded.
+static TABLE: [(Nodes, u32, u32, bool); 9] = [
+    (CHAIN, 2, 3, true),
+    (TWICE, 2, 3, true),
+    (UPWARDS, 1, 3, true),
+    (CYCLE, 2, 3, false),
+    (SELFISH, 2, 3, false),
+    (DANGLING, 1, 3, false),
+    // an output that is not there
+    (CHAIN, 7, 3, false),
+    // a next number that a node has
+    (CHAIN, 2, 2, false),
+    (DOUBLE, 1, 3, false),
+];
+
+fn is_told(alloc: Global, nodes: Nodes, told: u32, next: u32) -> Option<bool> {
+    let graph = graph(alloc, nodes, told, next).ok()?;
     is_founded(alloc, &graph).ok()
 }
 
 /// The place of the first graph of which something else is told.
 fn first_other(alloc: Global) -> Option<usize> {
     for place in 0..TABLE.len() {
-        let case = TABLE[place];
-        if is_told(alloc, case) != Some(case.founded) {
+        let (nodes, told, next, wanted) = TABLE[place];
+        if is_told(alloc, nodes, told, next) != Some(wanted) {
             return Some(place);
         }
     }

@@ -10,6 +10,8 @@ mod formed;
 #[cfg(test)]
 mod founded;
 #[cfg(test)]
+mod nodes;
+#[cfg(test)]
 mod objects;
 #[cfg(test)]
 mod pairs;

@@ -1,16 +1,11 @@
 // Graphs with objects, and whether each is well-formed.
+use crate::nodes::{ROWS, first_of, groups, lone};
 use combine_table::Comb;
-use exec_graph::{Act, Does, Entry, Graph, Input, Node, Output, Place, Roots, Step};
+use exec_graph::{Act, Does, Entry, Graph, Input, Node};
 use flume_value::Pile;
 use graph_checks::graph_ok;
 use std::alloc::{AllocError, Global};
 use std::test::Fail;
-
-/// The rows of an input.
-const ROWS: Input = Input {
-    number: 0,
-    is_object: false,
-};
 
 /// A value that was kept.
 const SAVED: Input = Input {
@@ -18,19 +13,9 @@ const SAVED: Input = Input {
     is_object: true,
 };
 
-fn first_of(node: u32) -> Place {
-    Place { node, out: 0 }
-}
-
 /// One step on the first output of a node, whose output is 0.
 fn pdo(alloc: Global, input: u32, origin: u32, does: Does) -> Result<Node, AllocError> {
-    let output = Output::new(Some(0), Vec::new(alloc));
-    let mut steps = Vec::new(alloc);
-    steps.push(Step::new(origin, false, does, output, Vec::new(alloc)))?;
-    Ok(Node::Pdo {
-        input: first_of(input),
-        roots: Roots::new(steps),
-    })
+    lone(alloc, input, origin, false, does, 0)
 }
 
 fn barrier(alloc: Global, inputs: &[u32], act: Act) -> Result<Node, AllocError> {
@@ -53,12 +38,7 @@ fn node(alloc: Global, number: u32, inputs: &[u32], act: Act) -> Result<Node, Al
         0 => Ok(Node::Source(ROWS)),
         1 => pdo(alloc, 0, 1, Does::Call(0)),
         2 => pdo(alloc, 1, 2, Does::Solo),
-        3 => Ok(Node::Gbk {
-            input: first_of(2),
-            origin: 2,
-            is_own: false,
-            lifted: None,
-        }),
+        3 => Ok(groups(2, 2, false, None)),
         4 => pdo(alloc, 3, 2, Does::Combine(Comb::Sum)),
         5 => barrier(alloc, &[4], Act::Singleton(Comb::Sum)),
         6 => Ok(Node::Source(SAVED)),

@@ -113,13 +113,6 @@ calls_kept (r ∷ rs) g m l low a b c x y i j =
     calls_kept rs l.0 m l.2 (made_sound r g l.0 l.1 low) a b (e.shift c)
     (e.calls a c x (λ z. i.0 (sym z))) (e.calls b c y (λ z. j.0 (sym z))) i.1 j.1
 
-pub absent_kept : (rs : List Fusion) (g m : Graph) → FusesTo rs g m → IsSound g → (n : ℕ)
-    → node_at g.nodes n ≡ None → node_at m.nodes n ≡ None
-absent_kept [] g m l low n h = subst (λ (z : Graph). node_at z.nodes n ≡ None) l h
-absent_kept (r ∷ rs) g m l low n h =
-    let e : Effect g l.0 (other_of r) = effect r g l.0 l.1 low in
-    absent_kept rs l.0 m l.2 (made_sound r g l.0 l.1 low) n (e.absent n h)
-
 -- what is still to be made behind the first of them, where a graph is what that makes
 pub await_rest : (siblings : Bool) (r : Fusion) (rs : List Fusion) (g h now m : Graph)
     (ns : List ℕ) → now ≡ h → MakesByRewrite r g h → IsSound g → FusesTo rs h m

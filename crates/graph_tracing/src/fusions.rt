@@ -12,7 +12,7 @@ use crate::fusing::KidTrace;
 use crate::hanging::with_kids;
 use crate::pairing::with_siblings;
 use crate::trace::Trace;
-use exec_graph::{Entry, Graph, Node, Place, add_place, code_of};
+use exec_graph::{Entry, Graph, Node, Place, code_of, set_of_places};
 use flume_value::Pile;
 use graph_joining::is_pdo_at;
 use graph_rewrites::Rewrite;
@@ -59,7 +59,7 @@ fn kid_numbers(alloc: Global, nodes: &[Entry], marks: &[Place]) -> Result<Vec<u3
     ensures { IfOk result (λ numbers. numbers.items
         ≡ those (callers.goes_by nodes.now marks.now) nodes.now) }
 {
-    let marked = places_in(alloc, marks)?;
+    let marked = set_of_places(alloc, marks)?;
     let mut numbers = Vec::new(alloc);
     for entry in nodes {
         if goes(nodes, marks, &marked, &entry.node) {
@@ -88,14 +88,4 @@ fn is_unmarked(nodes: &[Entry], marks: &[Place], marked: &HashSet<u64>, c: Place
 {
     let _out = c.out;
     is_pdo_at(nodes, c.node) && !marked.contains(&code_of(c))
-}
-
-fn places_in(alloc: Global, places: &[Place]) -> Result<HashSet<u64>, AllocError>
-    ensures { IfOk result (λ s. HasPlaces s (λ c. among c places.now)) }
-{
-    let mut all = HashSet::new(alloc);
-    for c in places {
-        add_place(*c, &mut all)?;
-    }
-    Ok(all)
 }

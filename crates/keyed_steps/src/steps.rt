@@ -49,6 +49,9 @@ pub fn combine_group(alloc: Global, comb: Comb, group: &Value) -> Result<Value, 
     match combine(alloc, comb, list) {
         Ok(value) => Ok(pair(alloc, key, value)?),
         Err(CallFault::Trap(kind)) => Err(KeyFault::Trap { kind, key }),
-        Err(CallFault::Memory) => Err(KeyFault::Memory),
+        Err(CallFault::Memory) => {
+            drop(key);
+            Err(KeyFault::Memory)
+        }
     }
 }

@@ -1,6 +1,6 @@
 -- What enters a repeat stays as it is while its body is added, which takes no collection away.
-use Rattle.std.proofs.Common.{◌≡◌, ℕ, ◌+◌, suc, ◌<◌, ◌≤◌, List, [], ◌∷◌, length, map, Ok}
-use Rattle.std.proofs.Common.{Bool, true, false, ◌&&◌, Result, Err, IfOk, OnOk, refl, sym, ap, ◌∙◌, arith}
+use Rattle.std.proofs.Common.{◌≡◌, ℕ, ◌+◌, ◌<◌, ◌≤◌, List, [], ◌∷◌, length, map, Ok}
+use Rattle.std.proofs.Common.{Result, Err, IfOk, OnOk, sym, ap, ◌∙◌, arith}
 use Rattle.std.specs.List.{All}
 use Rattle.std.specs.Map.{keys_of}
 use Rattle.std.proofs.lemmas.List.{length_push, length-take-le}
@@ -39,9 +39,6 @@ module _ (old new : List Ty) (more : Extends old new) (from : List HeldOperand) 
         is_object = source.is_object;
       })
       from within
-
-  pub operands-within : All (IsIn old) from → All (IsIn new) from
-  operands-within within = λ k source in_. omega (arith, within k source in_, more.longer)
 
 -- ---- how many collections there are
 
@@ -84,21 +81,6 @@ entered-more names entering makings s mid after hidden put =
     let then : length after.nodes ≡ length (with_nodes entering makings mid).nodes =
     ap (λ (t : State). length t.nodes) put in
     omega (arith, nodes-more entering makings mid, first, then)
-
--- ---- lists of different length
-
-both-false : (a b : Bool) → false ≡ b → false ≡ (a && b)
-both-false true b e = e
-both-false false b e = refl
-
-pub not-alike : (from given : List Operand) → (length from ≡ length given → ⊥)
-    → false ≡ spec.alike from given
-not-alike [] [] other = absurd (other refl)
-not-alike [] (one ∷ given) other = refl
-not-alike (one ∷ from) [] other = refl
-not-alike (one ∷ from) (two ∷ given) other =
-    both-false (spec.is_like one two) (spec.alike from given)
-    (not-alike from given (λ same. other (ap suc same)))
 
 -- ---- the repeat behind its body
 

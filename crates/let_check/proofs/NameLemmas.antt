@@ -13,7 +13,7 @@ use Rattle.flume_types.specs.declared.types.Ty.{Ty}
 use Rattle.script_program.specs.declared.made.Making.{Making as HeldMaking}
 use Rattle.script_program.specs.Program.{making_in}
 use Rattle.script_program.specs.declared.made.Standing.TheVariants.{Hidden}
-use Rattle.script_program.specs.Script.{Making, State, with_hidden, with_name, with_node}
+use Rattle.script_program.specs.Script.{Making, State, with_name, with_node}
 use Rattle.script_program.specs.Script.{with_nodes}
 use Rattle.script_rules.specs.Rules.{all_fresh}
 use Rattle.let_check.specs.inner.Names.{AreFree, AreNew}
@@ -63,26 +63,6 @@ are-free line (name ∷ names) s u e =
           (subst (λ keys. all_fresh line keys names ≡ Ok u) (sym (keys-push s.names name _))
           new.then),
     )
-
--- ---- one name after another, of names that are taken
-
-module _ (s after : State) (name : List ℕ) (names all-names : List (List ℕ))
-    (first : all-names ≡ name ∷ names) (put : after ≡ with_name name Hidden s) where
-  -- the first is free, and the others behind it
-  pub first-free : AreFree all-names s → is_some (find name s.names) ≡ false
-  first-free free =
-      let both = subst (λ names. AreFree names s) first free in
-      both.0
-
-  pub others-free : AreFree all-names s → AreFree names after
-  others-free free =
-      let both = subst (λ names. AreFree names s) first free in
-      subst (AreFree names) (sym put) both.1
-
-  -- what is taken with the others is taken with all of them
-  pub others-hidden : with_hidden names after ≡ with_hidden all-names s
-  others-hidden =
-      ap (with_hidden names) put ∙ sym (ap (λ names. with_hidden names s) first)
 
 -- ---- one name after another, of names and what is made in memory
 

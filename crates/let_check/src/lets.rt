@@ -11,7 +11,7 @@ ghost use Rattle.script_rules.specs.Rules as spec;
 ghost use Rattle.let_check.specs.inner.Names.{AreNew};
 
 use crate::definitions::fresh;
-use flume_grammar::{Operation, ScriptFault, ScriptKind};
+use flume_grammar::{Operation, ScriptFault, ScriptKind, TurnLet};
 use flume_value::{Pile, Str};
 use operation_check::made_by;
 use operation_check::written_types::{refused, shallow};
@@ -20,20 +20,16 @@ use script_state::State;
 use std::alloc::{AllocError, Global};
 use type_table::Types;
 
-/// A let, where there is room for what it names.
-pub fn add_let(
-    alloc: Global,
-    line: u32,
-    names: Pile<Str>,
-    by: &Operation,
-    state: &mut State,
-) -> Result<(), ScriptFault>
+/// A let on its line, where there is room for what it names.
+pub fn add_let(alloc: Global, it: TurnLet, state: &mut State) -> Result<(), ScriptFault>
     ensures gives { Gives (λ _. state.new.state) result
-        (spec.named line names by.now state.old.state) }
+        (spec.named it.line it.names it.by state.old.state) }
     ensures extends { Extends state.old.types state.new.types }
 {
-    let makings = makings_for(alloc, line, names.as_slice(), by, state)?;
-    add_all(alloc, names, makings, state)?;
+    let TurnLet { line, names, by } = it;
+    let makings = makings_for(alloc, line, names.as_slice(), &by, state);
+    drop(by);
+    add_all(alloc, names, makings?, state)?;
     Ok(())
 }
 

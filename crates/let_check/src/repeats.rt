@@ -241,21 +241,9 @@ fn add_lets(alloc: Global, lets: Pile<TurnLet>, state: &mut State) -> Result<(),
     ensures extends { Extends state.old.types state.new.types }
 {
     for it in lets.into_vec() {
-        add_turn_let(alloc, it, state)?;
+        add_let(alloc, it, state)?;
     }
     Ok(())
-}
-
-/// A let of a body.
-fn add_turn_let(alloc: Global, it: TurnLet, state: &mut State) -> Result<(), ScriptFault>
-    ensures gives { Gives (λ _. state.new.state) result
-        (spec.named it.line it.names it.by state.old.state) }
-    ensures extends { Extends state.old.types state.new.types }
-{
-    let TurnLet { line, names, by } = it;
-    let added = add_let(alloc, line, names, &by, state);
-    drop(by);
-    added
 }
 
 /// The repeat whose body stands behind so many collections, and is taken out.

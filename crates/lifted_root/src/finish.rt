@@ -29,11 +29,16 @@ pub(crate) fn finish_root(
     let (key, accumulator) = partial;
     match finish(comb, accumulator) {
         Ok(value) => Ok(pair(alloc, key, value)?),
-        Err(CallFault::Trap(kind)) => Err(StepFault::Trap(Trap {
-            origin,
-            element: key,
-            kind,
-        })),
-        Err(CallFault::Memory) => Err(StepFault::Memory),
+        Err(fault) => match fault {
+            CallFault::Trap(kind) => Err(StepFault::Trap(Trap {
+                origin,
+                element: key,
+                kind,
+            })),
+            CallFault::Memory => {
+                drop(key);
+                Err(StepFault::Memory)
+            }
+        },
     }
 }

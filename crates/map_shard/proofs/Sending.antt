@@ -1,9 +1,9 @@
 -- The output channels of a stage, one after another.
-use Rattle.std.proofs.Common.{◌≡◌, ◌<◌, ◌≤◌, ◌+◌, ℕ, zero, suc, List, [], ◌∷◌, ◌++◌, length, get_or, drop, take, Option, sym, ap, ◌∙◌, subst, arith}
+use Rattle.std.proofs.Common.{◌≡◌, ◌<◌, ◌+◌, ℕ, zero, suc, List, [], ◌∷◌, ◌++◌, length, get_or, drop, take, Option, sym, ap, ◌∙◌, subst, arith}
 use Rattle.std.specs.Prelude.{slice_get}
 use Rattle.std.specs.List.{AllByRecursion, AllZip}
 use Rattle.std.specs.Option.{IsSomeAnd}
-use Rattle.std.proofs.lemmas.List.{take_more, take_all}
+use Rattle.std.proofs.lemmas.List.{take_more}
 use Rattle.shuffle_parts.proofs.Lifting.{zip_push}
 use Rattle.map_shard.proofs.Later.{drop_at}
 
@@ -15,10 +15,6 @@ module _ {A B : Type 0} (P : A → B → Type 0) where
       subst (λ l. AllZip P l more)
       (sym (take_more all i x h ∙ ap (λ z. take i all ++ z ∷ []) (sym is)))
       (subst (AllZip P (take i all ++ x ∷ [])) (sym push) (zip_push P (take i all) ys x y a p))
-
-  pub zip_all : (all : List A) (i : ℕ) (ys : List B) → length all ≤ i → AllZip P (take i all) ys
-      → AllZip P all ys
-  zip_all all i ys h a = subst (λ l. AllZip P l ys) (take_all i all h) a
 
   -- ---- the next ones
   of_first : (x : A) (xs : List A) (ys : List B) → AllZip P (x ∷ xs) ys

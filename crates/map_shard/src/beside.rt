@@ -34,7 +34,9 @@ impl<'a, F: Functions> Functions for Beside<'a, F> {
 
     fn call(&self, alloc: Global, number: u32, element: &Value) -> Result<Answer, CallFault> {
         let both = record_of(alloc, element, self.object)?;
-        self.functions.call(alloc, number, &both)
+        let answer = self.functions.call(alloc, number, &both);
+        drop(both);
+        answer
     }
 }
 

@@ -68,7 +68,13 @@ pub(crate) fn fill(
         IfOk result (λ more. IsFilling partitions channel.now more (done ++ values)) }
 {
     match channel {
-        OutChannel::Pass(_, _) => fill_passed(filling, values.into_items(alloc)?),
+        OutChannel::Pass(_, _) => match values.into_items(alloc) {
+            Ok(items) => fill_passed(filling, items),
+            Err(fault) => {
+                drop(filling);
+                Err(fault)
+            }
+        },
         OutChannel::Group(group) => fill_groups(alloc, group.lifted, filling, values, partitions),
     }
 }

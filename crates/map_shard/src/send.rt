@@ -98,11 +98,16 @@ fn fill_next(
         (given.new.rest.items ≡ left (takes_of channel.now) given.old.rest.items) }
 {
     match filling {
-        Some(filling) => {
-            let values = taken_values(alloc, channel, given)?;
-            let more = fill(alloc, channel, filling, values, partitions)?;
-            Ok(more)
-        }
+        Some(filling) => match taken_values(alloc, channel, given) {
+            Ok(values) => {
+                let more = fill(alloc, channel, filling, values, partitions)?;
+                Ok(more)
+            }
+            Err(fault) => {
+                drop(filling);
+                Err(fault)
+            }
+        },
         None => unreachable!(),
     }
 }

@@ -1,21 +1,18 @@
 -- What functions of objects take.
-use Rattle.std.proofs.Common.{◌≡◌, suc, Bool, true, false, ◌&&◌, List, [], ◌∷◌, length, refl, ap}
-use Rattle.flume_types.specs.declared.types.Ty.{Ty}
-use Rattle.flume_types.specs.declared.types.Field.{Field}
-use Rattle.flume_types.specs.Equality.{type_eq}
-use Rattle.script_rules.specs.Arguments.{each_fits}
-use Rattle.script_program.specs.Script.{Operand}
+use Rattle.std.proofs.Common.{◌≡◌, suc, Bool, true, false, ◌&&◌, List, [], ◌∷◌, length, map, refl, ap}
+use Rattle.script_rules.specs.Arguments.{pairwise}
 
 both-false : (a b : Bool) → false ≡ b → false ≡ (a && b)
 both-false true b e = e
 both-false false b e = refl
 
--- more operands than fields, or fewer
-pub not-fitting : (operands : List Operand) (fields : List (Field Ty))
-    → (length operands ≡ length fields → ⊥) → false ≡ each_fits operands fields
-not-fitting [] [] other = absurd (other refl)
-not-fitting [] (field ∷ fields) other = refl
-not-fitting (one ∷ others) [] other = refl
-not-fitting (one ∷ others) (field ∷ fields) other =
-    both-false (type_eq one.type field.ty) (each_fits others fields)
-    (not-fitting others fields (λ same. other (ap suc same)))
+-- more of the one than of the other, or fewer: whatever is seen of them
+pub not-fitting : {A B X Y : Type 0} (fits : A → B → Bool) (f : X → A) (g : Y → B)
+    (ones : List X) (others : List Y) → (length ones ≡ length others → ⊥)
+    → false ≡ pairwise fits (map f ones) (map g others)
+not-fitting fits f g [] [] unlike = absurd (unlike refl)
+not-fitting fits f g [] (other ∷ others) unlike = refl
+not-fitting fits f g (one ∷ ones) [] unlike = refl
+not-fitting fits f g (one ∷ ones) (other ∷ others) unlike =
+    both-false (fits (f one) (g other)) (pairwise fits (map f ones) (map g others))
+    (not-fitting fits f g ones others (λ same. unlike (ap suc same)))

@@ -1,15 +1,12 @@
 pub mod Accounts
 pub mod Asked
 pub mod Begun
-pub mod Calls
 pub mod Cause
 pub mod Files
 pub mod Load
-pub mod Memory
 pub mod Notes
 pub mod Saves
 pub mod Says
 pub mod Seen
-pub mod Slots
 pub mod Told
 pub mod inner

@@ -4,14 +4,4 @@
 #![tactic(auto)]
 
 #[cfg(test)]
-mod adapters;
-#[cfg(test)]
-mod caches;
-#[cfg(test)]
-mod calls;
-#[cfg(test)]
-mod printed;
-#[cfg(test)]
-mod transfers;
-#[cfg(test)]
-mod unflushed;
+mod tests;

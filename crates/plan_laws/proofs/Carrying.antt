@@ -13,7 +13,7 @@ use Rattle.exec_plan.specs.of_exec_graph.declared.graph.Act.{Act}
 use Rattle.exec_plan.specs.of_exec_graph.declared.graph.Act.TheVariants.{SideInput, Operate as Operates, Singleton}
 use Rattle.exec_plan.specs.of_exec_graph.declared.step.Does.TheVariants as does
 use Rattle.exec_plan.proofs.of_exec_graph.Barriers.{barrier_side_input}
-use Rattle.exec_plan.proofs.of_exec_graph.StepFacts.{call_answers}
+use Rattle.exec_plan.proofs.of_exec_graph.StepFacts.{called_is}
 use Rattle.exec_plan.specs.of_flume_collection.Calls.{Called, passed}
 use Rattle.exec_plan.specs.of_flume_value.declared.value.Value.{Value}
 use Rattle.exec_plan.specs.of_exec_graph.Forests.{Label, Forest, Bare, Grow}
@@ -110,7 +110,7 @@ pub side_is : (w : World) (o : ℕ) (l : Bool) (f : ℕ) (c d : Collection)
     (value_on c (Some d)) ≡ side_input w o f c d
 side_is w o l f c d =
     let u : World = world_in w (Some d) in
-    let same : called u (does.Call f) ≡ u.called f = λ i x. call_answers u f x i in
+    let same : called u (does.Call f) ≡ u.called f = λ i x. called_is (does.Call f) u x i in
     ap (λ (g : Value → Called). passed o 0 g (value_on c (Some d))) same
 
 side_through : (w : World) (o : ℕ) (l : Bool) (f : ℕ) (c d : Collection)

@@ -192,7 +192,7 @@ has_all : (m : Place → Collection) (ds : List Place) → HasFrom m (map m ds) 
 has_all m [] = tt
 has_all m (d ∷ ds) = (refl, from_shift m (m d) (map m ds) 0 ds (has_all m ds))
 
-pub in_append : (c : Place) (xs ys : List Place) → IsIn c (xs ++ ys) → IsIn c xs ⊎ IsIn c ys
+pub in_append : {X : Type 0} (c : X) (xs ys : List X) → IsIn c (xs ++ ys) → IsIn c xs ⊎ IsIn c ys
 in_append c [] ys h = inr h
 in_append c (x ∷ xs) ys (inl h) = inl (inl h)
 in_append c (x ∷ xs) ys (inr h) =

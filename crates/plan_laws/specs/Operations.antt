@@ -309,9 +309,10 @@ plan_of sources es outs os = record {
 
 -- ---- operations that carry out a graph
 
-abbrev pub IsIn : Place → List Place → Type 0
-IsIn c [] = ⊥
-IsIn c (d ∷ ds) = (d ≡ c) ⊎ IsIn c ds
+-- it is one of them
+abbrev pub IsIn : {X : Type 0} → X → List X → Type 0
+IsIn x [] = ⊥
+IsIn x (y ∷ ys) = (y ≡ x) ⊎ IsIn x ys
 
 -- each operation reads collections that are made before
 abbrev pub AreReady : List Entry → List Place → List Operation → Type 0

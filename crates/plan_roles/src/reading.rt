@@ -7,8 +7,7 @@ ghost use Rattle.plan_roles.specs.Reading.{carries_on, goes_on, goes_past, works
 ghost use Rattle.plan_roles.specs.Mappers.{is_stage, is_staged};
 ghost use Rattle.plan_roles.specs.inner.Tables.{HasAmong, IsReading};
 
-use crate::sets::{add_places, set_of};
-use exec_graph::{Blocked, Entry, Node, Place, add_place, code_of};
+use exec_graph::{Blocked, Entry, Node, Place, add_place, add_places, code_of, set_of_places};
 use std::alloc::{AllocError, Global};
 use std::collections::HashSet;
 
@@ -30,7 +29,7 @@ pub(crate) fn reading_of(alloc: Global, blocked: &Blocked) -> Result<Reading, Al
     ensures { IfOk result (λ s. IsReading blocked.now s) }
 {
     let nodes = blocked.graph.nodes.as_slice();
-    let told = set_of(alloc, blocked.graph.outputs.as_slice())?;
+    let told = set_of_places(alloc, blocked.graph.outputs.as_slice())?;
     let on = on_places(alloc, nodes)?;
     let past = past_places(alloc, nodes, &on)?;
     let staged = staged_places(alloc, blocked, &told, &on)?;

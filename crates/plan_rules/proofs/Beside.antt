@@ -11,8 +11,10 @@ use Rattle.graph_laws.specs.of_exec_graph.declared.graph.Entry.{Entry}
 use Rattle.plan_rules.proofs.Apart.{Misses}
 use Rattle.plan_rules.proofs.Collections.{collections, node_outs}
 use Rattle.plan_rules.proofs.Keys.{outs_of_number}
-use Rattle.plan_rules.proofs.Members.{Differ, Has, has_left, has_right, lighter, shorter, weight, weight-append}
+use Rattle.plan_rules.proofs.Members.{Differ, in_left, in_right, lighter, shorter, weight, weight-append}
 use Rattle.plan_rules.proofs.Places.{entry_places, numbers, numbers_weigh}
+use Rattle.plan_laws.specs.Operations.{IsIn}
+use Rattle.plan_laws.proofs.Running.{in_append}
 
 -- ---- nodes that are none of these
 
@@ -86,12 +88,12 @@ others_differ ns (e ∷ es) d =
       )
     ]
 
-each_number : (es : List Entry) → AllByRecursion (λ (e : Entry). Has e.number (numbers es)) es
+each_number : (es : List Entry) → AllByRecursion (λ (e : Entry). IsIn e.number (numbers es)) es
 each_number [] = tt
 each_number (e ∷ es) = (
   inl refl,
-  Each-weaker (λ (x : Entry). Has x.number (numbers es))
-      (λ (x : Entry). Has x.number (numbers (e ∷ es))) (λ x h. inr h) es (each_number es),
+  Each-weaker (λ (x : Entry). IsIn x.number (numbers es))
+      (λ (x : Entry). IsIn x.number (numbers (e ∷ es))) (λ x h. inr h) es (each_number es),
 )
 
 -- ---- both lists differ
@@ -111,47 +113,38 @@ differ_both (n ∷ ns) ks d e a =
 
 -- ---- collections of the other nodes
 
-has_either : {X : Type 0} (x : X) (xs ys : List X) → Has x (xs ++ ys) → Has x xs ⊎ Has x ys
-has_either x [] ys h = inr h
-has_either x (z ∷ zs) ys (inl e) = inl (inl e)
-has_either x (z ∷ zs) ys (inr h) = by (has_either x zs ys h)
-  where
-    by : Has x zs ⊎ Has x ys → Has x (z ∷ zs) ⊎ Has x ys
-    by (inl i) = inl (inr i)
-    by (inr i) = inr i
-
-out_node : (n : ℕ) (c : Place) (js : List ℕ) → Has c (map (place n) js) → n ≡ c.node
+out_node : (n : ℕ) (c : Place) (js : List ℕ) → IsIn c (map (place n) js) → n ≡ c.node
 out_node n c [] h = absurd h
 out_node n c (j ∷ js) (inl e) = ap (λ (d : Place). d.node) e
 out_node n c (j ∷ js) (inr h) = out_node n c js h
 
 others_hold : (ns : List ℕ) (es : List Entry) (c : Place) → Misses ns c.node
-    → Has c (collections es) → Has c (collections (others ns es))
+    → IsIn c (collections es) → IsIn c (collections (others ns es))
 others_hold ns [] c m h = absurd h
 others_hold ns (e ∷ es) c m h =
     by (holds e.number ns) refl (others_hold ns es c m)
-    (has_either c (entry_places e) (collections es) h)
+    (in_append c (entry_places e) (collections es) h)
   where
     by : (b : Bool) → holds e.number ns ≡ b
-        → (Has c (collections es) → Has c (collections (others ns es)))
-        → Has c (entry_places e) ⊎ Has c (collections es)
-        → Has c (collections (cond b (others ns es) (e ∷ others ns es)))
+        → (IsIn c (collections es) → IsIn c (collections (others ns es)))
+        → IsIn c (entry_places e) ⊎ IsIn c (collections es)
+        → IsIn c (collections (cond b (others ns es) (e ∷ others ns es)))
     by true i f (inl q) =
         let same : e.number ≡ c.node = out_node e.number c (node_outs e.node) q in
         let none : holds e.number ns ≡ false =
         ap (λ (n : ℕ). holds n ns) same ∙ misses_holds c.node ns m in
         absurd (false≢true (sym none ∙ i))
     by true i f (inr q) = f q
-    by false i f (inl q) = has_left c (entry_places e) (collections (others ns es)) q
+    by false i f (inl q) = in_left c (entry_places e) (collections (others ns es)) q
     by false i f (inr q) =
-        has_right c (entry_places e) (collections (others ns es)) (f q)
+        in_right c (entry_places e) (collections (others ns es)) (f q)
 
 -- ---- together
 
 pub beside_short : (es : List Entry) (ns : List ℕ) (cs : List Place)
     → AllByRecursion (λ e. node_at es e.number ≡ Some e.node) es → Differ (numbers es)
-    → Differ ns → AllByRecursion (λ n. Has n (numbers es)) ns
-    → Differ cs → AllByRecursion (λ c. Has c (collections es)) cs
+    → Differ ns → AllByRecursion (λ n. IsIn n (numbers es)) ns
+    → Differ cs → AllByRecursion (λ c. IsIn c (collections es)) cs
     → AllByRecursion (λ c. Misses ns c.node) cs
     → weight (outs_of_number es) ns + length cs ≤ length (collections es)
 beside_short es ns cs f d dn sn dc hc ac =
@@ -160,9 +153,9 @@ beside_short es ns cs f d dn sn dc hc ac =
     let l = lighter w (ns ++ numbers rest) (numbers es)
     (differ_both ns (numbers rest) dn (others_differ ns es d)
     (turned ns (numbers rest) (others_miss ns es)))
-    (Each-append (λ n. Has n (numbers es)) ns (numbers rest) sn
-    (numbers_have (λ n. Has n (numbers es)) rest
-    (others_have (λ (e : Entry). Has e.number (numbers es)) ns es (each_number es)))) in
+    (Each-append (λ n. IsIn n (numbers es)) ns (numbers rest) sn
+    (numbers_have (λ n. IsIn n (numbers es)) rest
+    (others_have (λ (e : Entry). IsIn e.number (numbers es)) ns es (each_number es)))) in
     let s = weight-append w ns (numbers rest) in
     let r = numbers_weigh es rest
     (others_have (λ (e : Entry). node_at es e.number ≡ Some e.node) ns es f) in
@@ -172,8 +165,8 @@ beside_short es ns cs f d dn sn dc hc ac =
     omega arith
   where
     all_held : (ds : List Place) → AllByRecursion (λ c. Misses ns c.node) ds
-        → AllByRecursion (λ c. Has c (collections es)) ds
-        → AllByRecursion (λ c. Has c (collections (others ns es))) ds
+        → AllByRecursion (λ c. IsIn c (collections es)) ds
+        → AllByRecursion (λ c. IsIn c (collections (others ns es))) ds
     all_held [] a h = tt
     all_held (c ∷ ds) a h = (others_hold ns es c a.0 h.0, all_held ds a.1 h.1)
 

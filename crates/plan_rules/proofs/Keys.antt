@@ -15,11 +15,11 @@ use Rattle.graph_laws.proofs.of_exec_graph.Solving.{there_found}
 use Rattle.plan_laws.specs.declared.operations.Key.{Key}
 use Rattle.plan_laws.specs.declared.operations.Key.TheVariants.{Mapper, Whole}
 use Rattle.plan_laws.specs.declared.operations.Grouped.{Grouped}
-use Rattle.plan_laws.specs.Operations.{IsGroupedOk, IsTakenPlace, TakesInputs, has_key, read_through, key_runs}
+use Rattle.plan_laws.specs.Operations.{IsGroupedOk, IsTakenPlace, TakesInputs, has_key, read_through, key_runs, IsIn}
 use Rattle.plan_laws.proofs.Running.{place_same, same_self}
 use Rattle.plan_rules.specs.Fitting.{IsUsed, gbk_inputs, same_key, takes_key}
 use Rattle.plan_rules.proofs.Collections.{collections, node_outs}
-use Rattle.plan_rules.proofs.Members.{Differ, Has, weight}
+use Rattle.plan_rules.proofs.Members.{Differ, weight}
 use Rattle.plan_rules.proofs.Places.{given_has, number_has, numbers, outs_count, there_has}
 
 -- ---- mappers, and collections as they are
@@ -118,12 +118,12 @@ key_taken es keys k (g ∷ gs) a h =
 abbrev pub outs_of_number : List Entry → ℕ → ℕ
 outs_of_number es n = outs_count (node_at es n)
 
-has_some : {X : Type 0} (x : X) (xs : List X) → Has x xs → 1 ≤ length xs
+has_some : {X : Type 0} (x : X) (xs : List X) → IsIn x xs → 1 ≤ length xs
 has_some x [] h = absurd h
 has_some x (y ∷ ys) h = omega arith
 
 record Weighs (es : List Entry) (n : ℕ) : Type 0 where
-  pub stands : Has n (numbers es)
+  pub stands : IsIn n (numbers es)
   pub some : 1 ≤ outs_of_number es n
 
 mapper_weighs : (es : List Entry) (n : ℕ) → Taken es (Mapper n) → Weighs es n
@@ -135,16 +135,16 @@ mapper_weighs es n t =
     let s = has_some t.at.out (node_outs f.0) (given_has f.0 t.at.out f.2) in
     record { stands = number_has es n f.0 h; some = omega arith }
 
-whole_there : (es : List Entry) (c : Place) → Taken es (Whole c) → Has c (collections es)
+whole_there : (es : List Entry) (c : Place) → Taken es (Whole c) → IsIn c (collections es)
 whole_there es c t =
-    subst (λ (d : Place). Has d (collections es)) (sym (place_same c t.at t.has))
+    subst (λ (d : Place). IsIn d (collections es)) (sym (place_same c t.at t.has))
     (there_has es t.at t.there)
 
 abbrev pub AreTaken : List Entry → List Key → Type 0
 AreTaken es ks = AllByRecursion (Taken es) ks
 
 pub mappers_stand : (es : List Entry) (ks : List Key) → AreTaken es ks
-    → AllByRecursion (λ n. Has n (numbers es)) (mappers ks)
+    → AllByRecursion (λ n. IsIn n (numbers es)) (mappers ks)
 mappers_stand es [] a = tt
 mappers_stand es (Mapper n ∷ ks) a =
     ((mapper_weighs es n a.0).stands, mappers_stand es ks a.1)
@@ -159,7 +159,7 @@ mappers_weigh es (Mapper n ∷ ks) a =
 mappers_weigh es (Whole c ∷ ks) a = mappers_weigh es ks a.1
 
 pub wholes_there : (es : List Entry) (ks : List Key) → AreTaken es ks
-    → AllByRecursion (λ c. Has c (collections es)) (wholes ks)
+    → AllByRecursion (λ c. IsIn c (collections es)) (wholes ks)
 wholes_there es [] a = tt
 wholes_there es (Mapper n ∷ ks) a = wholes_there es ks a.1
 wholes_there es (Whole c ∷ ks) a = (whole_there es c a.0, wholes_there es ks a.1)

@@ -15,33 +15,32 @@ use Rattle.graph_laws.proofs.of_exec_graph.Entries.{all_found}
 use Rattle.plan_making.specs.of_exec_plan.Wellformed.{IsLiftOk}
 use Rattle.plan_laws.specs.declared.operations.Key.{Key}
 use Rattle.plan_laws.specs.declared.operations.Grouped.{Grouped}
-use Rattle.plan_laws.specs.Operations.{IsGroupedOk, IsReducer, IsPdoOn, forest_at, reducer_of}
+use Rattle.plan_laws.specs.Operations.{IsGroupedOk, IsReducer, IsPdoOn, forest_at, reducer_of, IsIn}
 use Rattle.plan_rules.specs.Fitting.{HasReducer, IsReduced}
-use Rattle.plan_rules.proofs.Members.{Has}
 use Rattle.plan_rules.proofs.Staging.{AreLifted, IsLifted}
 use Rattle.plan_laws.proofs.Running.{same_self}
 
 those_by : (t : Node → Bool) (e : Entry) (es : List Entry) (r : ℕ) (x : Node) (b : Bool)
     → eqb e.number r ≡ b → cond b (Some e.node) (node_at es r) ≡ Some x → t x ≡ true
-    → (node_at es r ≡ Some x → Has r (those t es)) → Has r (those t (e ∷ es))
+    → (node_at es r ≡ Some x → IsIn r (those t es)) → IsIn r (those t (e ∷ es))
 those_by t e es r x true i h p f =
     let s : e.node ≡ x = cc in
-    subst (λ (b : Bool). Has r (cond b (e.number ∷ those t es) (those t es)))
+    subst (λ (b : Bool). IsIn r (cond b (e.number ∷ those t es) (those t es)))
     (sym (ap t s ∙ p)) (inl (eqb-true e.number r i))
 those_by t e es r x false i h p f =
-    elim (t e.node) as (λ b. Has r (cond b (e.number ∷ those t es) (those t es)))
+    elim (t e.node) as (λ b. IsIn r (cond b (e.number ∷ those t es) (those t es)))
     [ true ↦ inr (f h) | false ↦ f h ]
 
 -- a node that passes the test is among those that do
 those_has : (t : Node → Bool) (es : List Entry) (r : ℕ) (x : Node) → node_at es r ≡ Some x
-    → t x ≡ true → Has r (those t es)
+    → t x ≡ true → IsIn r (those t es)
 those_has t [] r x h p = let bad : ⊥ = cc in absurd bad
 those_has t (e ∷ es) r x h p =
     those_by t e es r x (eqb e.number r) refl h p (λ i. those_has t es r x i p)
 
-one_reader : (n r : ℕ) (ns : List ℕ) → ns ≡ n ∷ [] → Has r ns → n ≡ r
+one_reader : (n r : ℕ) (ns : List ℕ) → ns ≡ n ∷ [] → IsIn r ns → n ≡ r
 one_reader n r ns e h =
-    elim (subst (λ (l : List ℕ). Has r l) e h) [ inl i ↦ i | inr i ↦ absurd i ]
+    elim (subst (λ (l : List ℕ). IsIn r l) e h) [ inl i ↦ i | inr i ↦ absurd i ]
 
 forest_lifted : (es : List Entry) (c : Place) (n r : ℕ) (k : Comb) (o : Option Node)
     → node_at es r ≡ o → IsPdoOn c o → readers es c ≡ n ∷ []

@@ -11,13 +11,13 @@ use Rattle.plan_laws.specs.declared.operations.Key.{Key}
 use Rattle.plan_laws.specs.declared.operations.Key.TheVariants.{Mapper, Whole}
 use Rattle.plan_laws.specs.declared.operations.Grouped.{Grouped}
 use Rattle.plan_laws.specs.declared.operations.Operation.TheVariants.{Class}
-use Rattle.plan_laws.specs.Operations.{IsGroupedOk, IsHonest, IsTakenPlace, TakesInputs, group_gives, group_runs, key_runs, outs_at, reduced, reducer_runs, runs}
+use Rattle.plan_laws.specs.Operations.{IsGroupedOk, IsHonest, IsTakenPlace, TakesInputs, group_gives, group_runs, key_runs, outs_at, reduced, reducer_runs, runs, IsIn}
 use Rattle.plan_rules.specs.Fitting.{IsAlone, IsClassFit, IsUsed}
 use Rattle.plan_rules.proofs.Collections.{collections}
 use Rattle.plan_rules.proofs.Apart.{IsApart, Misses, misses_left}
 use Rattle.plan_rules.proofs.Beside.{beside_short}
 use Rattle.plan_rules.proofs.Keys.{all_taken, keys_parted, mappers, mappers_differ, mappers_run, mappers_stand, mappers_weigh, outs_of_number, places_differ, wholes, wholes_differ, wholes_there}
-use Rattle.plan_rules.proofs.Members.{Differ, Has, differ_right, weight, weight-append}
+use Rattle.plan_rules.proofs.Members.{Differ, differ_right, weight, weight-append}
 use Rattle.plan_rules.proofs.Places.{numbers, outs_count, there_has}
 use Rattle.plan_rules.proofs.Runs.{all_stand, groups_work}
 use Rattle.plan_rules.proofs.Widths.{length_map}
@@ -115,7 +115,8 @@ class_bounded es keys gs cs f dn m h t d o =
     w.results in
     let b = beside_short es ns cs f dn (differ_right (flat_map key_runs keys) ns d)
     (all_stand es ns (groups_work es keys gs h.1)) (places_differ cs t.passed)
-    (Each-weaker (IsTakenPlace es keys) (λ c. Has c (collections es)) (λ c i. there_has es c i.1) cs
+    (Each-weaker (IsTakenPlace es keys) (λ c. IsIn c (collections es))
+    (λ c i. there_has es c i.1) cs
     h.2) o.1 in
     let k = inputs_short es keys gs cs f dn m h.1 t o t.used in
     let a = length-append (flat_map (group_gives es) gs) cs in

@@ -14,9 +14,9 @@ use Rattle.plan_laws.specs.declared.operations.Key.TheVariants.{Mapper, Whole}
 use Rattle.plan_laws.specs.declared.operations.Grouped.{Grouped}
 use Rattle.plan_laws.specs.declared.operations.Operation.{Operation}
 use Rattle.plan_laws.specs.declared.operations.Operation.TheVariants.{Flat, Class}
-use Rattle.plan_laws.specs.Operations.{DoAll, IsFlat, IsGroupedOk, IsHonest, IsKeyOk, IsPdo, IsReducer, IsPdoOn, TakesInputs, group_runs, key_runs, reducer_runs, runs, times, works_at}
+use Rattle.plan_laws.specs.Operations.{DoAll, IsFlat, IsGroupedOk, IsHonest, IsKeyOk, IsPdo, IsReducer, IsPdoOn, TakesInputs, group_runs, key_runs, reducer_runs, runs, times, works_at, IsIn}
 use Rattle.plan_rules.specs.Fitting.{AreFit, IsAlone, FitsEntries, IsUsed, flat_runs}
-use Rattle.plan_rules.proofs.Members.{Differ, Has, differ_left, differ_once, differ_right, times-append}
+use Rattle.plan_rules.proofs.Members.{Differ, differ_left, differ_once, differ_right, times-append}
 use Rattle.plan_rules.proofs.Places.{number_has, numbers}
 
 -- the node is there, and a Pdo or a Gbk
@@ -66,7 +66,7 @@ class_works es keys gs cs h =
 -- ---- each is there
 
 abbrev pub Stands : List Entry → ℕ → Type 0
-Stands es n = Has n (numbers es)
+Stands es n = IsIn n (numbers es)
 
 works_stands : (es : List Entry) (n : ℕ) (o : Option Node) → node_at es n ≡ o
     → works_at o ≡ true → Stands es n

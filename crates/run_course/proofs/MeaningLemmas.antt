@@ -15,8 +15,8 @@ use Rattle.script_program.specs.Script.{Script}
 use Rattle.run_course.specs.Answers.{name_at}
 use Rattle.run_course.specs.declared.stop.Stop.{Stop}
 use Rattle.run_course.specs.declared.stop.Stop.TheVariants as stop
-use Rattle.run_course.specs.inner.Course.{AreFiles, GivesFiles, HaveMembers, IsStop, IsTrapOf}
-use Rattle.run_course.proofs.FileLemmas.{files_made, ready}
+use Rattle.run_course.specs.inner.Course.{AreFiles, GivesFiles, IsStop, IsTrapOf}
+use Rattle.run_course.proofs.FileLemmas.{files_made}
 use Rattle.run_course.proofs.OriginLemmas.{origins}
 
 -- ---- the first of some traps
@@ -60,9 +60,6 @@ module _ (script : Script) (inputs : List (List Value)) (it : Direct)
       named = ap (λ (t : Trap). name_at script t.origin) own.0 ∙ own.1;
     },
   )
-
-  pub have_members : HaveMembers script it.bags.items
-  have_members = ready script direct.made it.bags.items direct.written
 
   pub gives : (text : List ℕ) (files : List NamedBytes) → slice_get it.traps.items 0 ≡ None
       → AreFiles it.bags.items script.outputs files

@@ -138,18 +138,3 @@ module _ (s : RunSettings) (script : Script) (rows : List (List Value)) (plan : 
   pub within : (trap : Trap) → IsFirstTrap s script rows plan olds news trap
       → trap.origin < length script.nodes
   within trap it = origins script rows it.made it.means trap it.among
-
-  pub trap_stops : (trap : Trap) (why : Stop) → IsFirstTrap s script rows plan olds news trap
-      → IsTrapOf script trap why → IsRunStop s script rows plan olds news why
-  trap_stops trap (stop.Refused status) it own = absurd own
-  trap_stops trap (stop.Trapped trapped) it own = (
-    it.made,
-    record {
-      means = it.means;
-      told = subst
-          (λ (t : Trap). Contains (traps_of it.made) t
-          × IsFirstOfPlan s script rows plan olds news t)
-          (sym own.0) (it.among, (it.first, it.ran));
-      named = ap (λ (t : Trap). name_at script t.origin) own.0 ∙ own.1;
-    },
-  )

@@ -4,7 +4,8 @@ ghost use Rattle.std.specs.Prelude.{◌≡◌, length};
 use crate::hosts::TestHost;
 use flume_run::flume;
 use flume_value::{Pile, Str};
-use outside::{File, MemScreen, MemShelf, MemSource};
+use memory_outside::{MemScreen, MemShelf, MemSource};
+use outside::File;
 use std::alloc::{AllocError, Global};
 use std::thread::Threads;
 

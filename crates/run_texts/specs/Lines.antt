@@ -4,6 +4,8 @@ use Rattle.csv_rows.specs.declared.fault.RowKind.{RowKind}
 use Rattle.csv_rows.specs.declared.fault.RowKind.TheVariants as row
 use Rattle.flume_grammar.specs.declared.fault.ScriptKind.{ScriptKind}
 use Rattle.flume_grammar.specs.declared.fault.ScriptKind.TheVariants as script
+use Rattle.run_texts.specs.declared.lines.Reason.{Reason}
+use Rattle.run_texts.specs.declared.lines.Reason.TheVariants as reason
 use Rattle.run_texts.specs.declared.status.Place.{Place}
 use Rattle.run_texts.specs.declared.status.Place.TheVariants.{File, Screen}
 use Rattle.run_texts.specs.declared.status.Status.{Status}
@@ -17,54 +19,45 @@ use Rattle.flume_value.specs.declared.fault.Kind.TheVariants as trap
 use Rattle.flume_value.specs.declared.value.Value.{Value}
 use Rattle.printing.specs.Printed.{quoted, printed}
 
--- the name of each kind of fault of an input
-abbrev pub row_kind_name : RowKind → List ℕ
-row_kind_name row.Header = codes "Header"
-row_kind_name row.Width = codes "Width"
-row_kind_name row.NotInt = codes "NotInt"
-row_kind_name row.NotBool = codes "NotBool"
-row_kind_name row.Utf8 = codes "Utf8"
-
--- the name of each kind of fault of a script
-abbrev pub script_kind_name : ScriptKind → List ℕ
-script_kind_name script.Utf8 = codes "Utf8"
-script_kind_name script.Token = codes "Token"
-script_kind_name script.Syntax = codes "Syntax"
-script_kind_name script.TooDeep = codes "TooDeep"
-script_kind_name script.TooLong = codes "TooLong"
-script_kind_name script.TooMany = codes "TooMany"
-script_kind_name script.Unknown = codes "Unknown"
-script_kind_name script.Twice = codes "Twice"
-script_kind_name script.Mistyped = codes "Mistyped"
-script_kind_name script.NotTable = codes "NotTable"
-script_kind_name script.NotFlat = codes "NotFlat"
-script_kind_name script.NoOutput = codes "NoOutput"
-script_kind_name script.BadNumber = codes "BadNumber"
-
--- the name of each kind of trap
-abbrev pub trap_kind_name : Kind → List ℕ
-trap_kind_name trap.Overflow = codes "Overflow"
-trap_kind_name trap.DivideByZero = codes "DivideByZero"
-trap_kind_name trap.BadIndex = codes "BadIndex"
-trap_kind_name trap.BadNumber = codes "BadNumber"
-trap_kind_name trap.NotOne = codes "NotOne"
+-- the name of each reason
+abbrev pub reason_name : Reason → List ℕ
+reason_name (reason.Script script.Utf8) = codes "Utf8"
+reason_name (reason.Script script.Token) = codes "Token"
+reason_name (reason.Script script.Syntax) = codes "Syntax"
+reason_name (reason.Script script.TooDeep) = codes "TooDeep"
+reason_name (reason.Script script.TooLong) = codes "TooLong"
+reason_name (reason.Script script.TooMany) = codes "TooMany"
+reason_name (reason.Script script.Unknown) = codes "Unknown"
+reason_name (reason.Script script.Twice) = codes "Twice"
+reason_name (reason.Script script.Mistyped) = codes "Mistyped"
+reason_name (reason.Script script.NotTable) = codes "NotTable"
+reason_name (reason.Script script.NotFlat) = codes "NotFlat"
+reason_name (reason.Script script.NoOutput) = codes "NoOutput"
+reason_name (reason.Script script.BadNumber) = codes "BadNumber"
+reason_name (reason.Input row.Header) = codes "Header"
+reason_name (reason.Input row.Width) = codes "Width"
+reason_name (reason.Input row.NotInt) = codes "NotInt"
+reason_name (reason.Input row.NotBool) = codes "NotBool"
+reason_name (reason.Input row.Utf8) = codes "Utf8"
+reason_name (reason.Trap trap.Overflow) = codes "Overflow"
+reason_name (reason.Trap trap.DivideByZero) = codes "DivideByZero"
+reason_name (reason.Trap trap.BadIndex) = codes "BadIndex"
+reason_name (reason.Trap trap.BadNumber) = codes "BadNumber"
+reason_name (reason.Trap trap.NotOne) = codes "NotOne"
+reason_name (reason.Plan plan.NotJson) = codes "NotJson"
+reason_name (reason.Plan plan.Shape) = codes "Shape"
+reason_name (reason.Plan plan.BadStep) = codes "BadStep"
+reason_name (reason.Plan plan.Differs) = codes "Differs"
 
 -- the name of each phase of a stage
 abbrev pub phase_name : Phase → List ℕ
 phase_name Map = codes "map"
 phase_name Reduce = codes "reduce"
 
--- the name of each kind of fault of a plan from outside
-abbrev pub plan_kind_name : PlanKind → List ℕ
-plan_kind_name plan.NotJson = codes "NotJson"
-plan_kind_name plan.Shape = codes "Shape"
-plan_kind_name plan.BadStep = codes "BadStep"
-plan_kind_name plan.Differs = codes "Differs"
-
 -- the line of a trap, whose node has that name
 abbrev pub trap_line : List ℕ → Kind → Value → List ℕ
 trap_line name kind element =
-    codes "trap at " ++ (name ++ (codes ": " ++ (trap_kind_name kind
+    codes "trap at " ++ (name ++ (codes ": " ++ (reason_name (reason.Trap kind)
     ++ (codes " on " ++ (printed element ++ codes "\n")))))
 
 -- the commands, for one who asks for none of them
@@ -84,10 +77,10 @@ line_of Usage = usage_line
 line_of (Trap origin kind element) = []
 line_of (ScriptRefused line kind) =
     codes "script refused at line " ++ (decimal line
-    ++ (codes ": " ++ (script_kind_name kind ++ codes "\n")))
+    ++ (codes ": " ++ (reason_name (reason.Script kind) ++ codes "\n")))
 line_of (InputRefused name row column kind) =
     codes "input refused: " ++ (quoted name ++ (codes " row " ++ (decimal row
-    ++ (codes " column " ++ (decimal column ++ (codes ": " ++ (row_kind_name kind
+    ++ (codes " column " ++ (decimal column ++ (codes ": " ++ (reason_name (reason.Input kind)
     ++ codes "\n")))))))
 line_of (ReadFault name) = codes "read fault: " ++ (quoted name ++ codes "\n")
 line_of (WriteFault place) = place_line place
@@ -100,4 +93,4 @@ line_of (TooLong name limit) =
 line_of (NoFile name) = codes "no file: " ++ (quoted name ++ codes "\n")
 line_of (PlanRefused step kind) =
     codes "plan refused at step " ++ (decimal step
-    ++ (codes ": " ++ (plan_kind_name kind ++ codes "\n")))
+    ++ (codes ": " ++ (reason_name (reason.Plan kind) ++ codes "\n")))

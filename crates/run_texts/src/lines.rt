@@ -1,6 +1,6 @@
 // The line of a refusal, which is written piece by piece and takes no memory.
 ghost use Rattle.std.specs.Prelude.{◌≡◌, ◌≤◌, ◌++◌, codes, decimal};
-ghost use Rattle.run_texts.specs.Lines.{line_of, phase_name, place_line, plan_kind_name, row_kind_name, script_kind_name, trap_kind_name, trap_line};
+ghost use Rattle.run_texts.specs.Lines.{line_of, phase_name, place_line, reason_name, trap_line};
 ghost use Rattle.outside.specs.Says.{HasLine, Says};
 ghost use Rattle.printing.specs.Printed.{printed};
 
@@ -12,6 +12,15 @@ use itoa::{Buffer, Integer};
 use outside::{Failed, Phase, Screen, say, say_all};
 use plan_faults::PlanKind;
 use printing::{say_named, say_value};
+
+/// Why a call has no answer: what a script, an input or a plan is refused for, and what traps.
+#[derive(Clone, Copy)]
+pub enum Reason {
+    Script(ScriptKind),
+    Input(RowKind),
+    Trap(Kind),
+    Plan(PlanKind),
+}
 
 /// Writes the line of a refusal as far as the screen takes it.
 pub fn tell<P: Screen>(screen: &mut P, status: &Status)
@@ -46,7 +55,7 @@ fn say_line<P: Screen>(screen: &mut P, status: &Status) -> Result<(), Failed>
                 screen,
                 b"script refused at line ",
                 *line,
-                script_kind(*kind),
+                reason_text(Reason::Script(*kind)),
             )
         }
         Status::InputRefused {
@@ -62,7 +71,12 @@ fn say_line<P: Screen>(screen: &mut P, status: &Status) -> Result<(), Failed>
         Status::TooLong { name, limit } => say_too_long(screen, name.as_bytes(), *limit),
         Status::NoFile { name } => say_named(screen, b"no file: ", name.as_bytes(), &[b"\n"]),
         Status::PlanRefused { step, kind } => {
-            say_at(screen, b"plan refused at step ", *step, plan_kind(*kind))
+            say_at(
+                screen,
+                b"plan refused at step ",
+                *step,
+                reason_text(Reason::Plan(*kind)),
+            )
         }
     }
 }
@@ -83,22 +97,22 @@ fn say_trap<P: Screen>(
 
 // Why a call traps, and its element.
 fn say_why<P: Screen>(screen: &mut P, kind: Kind, element: &Value) -> Result<(), Failed>
-    ensures { Says (codes ": " ++ (trap_kind_name kind ++ (codes " on "
+    ensures { Says (codes ": " ++ (reason_name (Reason.Trap kind) ++ (codes " on "
         ++ (printed element.now ++ codes "\n")))) (P.seen screen.old) (P.seen screen.new) result }
 {
-    say_all(screen, &[b": ", trap_kind(kind), b" on "])?;
+    say_all(screen, &[b": ", reason_text(Reason::Trap(kind)), b" on "])?;
     say_value(screen, element)?;
     say(screen, b"\n")
 }
 
-// The line of a refusal at this number, of this kind.
-fn say_at<P: Screen>(screen: &mut P, front: &[u8], number: u32, kind: &[u8]) -> Result<(), Failed>
-    ensures { Says (front.now ++ (decimal number ++ (codes ": " ++ (kind.now ++ codes "\n"))))
+// The line of a refusal at this number, for this reason.
+fn say_at<P: Screen>(screen: &mut P, front: &[u8], number: u32, reason: &[u8]) -> Result<(), Failed>
+    ensures { Says (front.now ++ (decimal number ++ (codes ": " ++ (reason.now ++ codes "\n"))))
         (P.seen screen.old) (P.seen screen.new) result }
 {
     let mut digits = Buffer::new();
     let number = digits_of(&mut digits, number);
-    say_all(screen, &[front, number, b": ", kind, b"\n"])
+    say_all(screen, &[front, number, b": ", reason, b"\n"])
 }
 
 // The decimal digits of a number.
@@ -128,7 +142,7 @@ fn say_input_refused<P: Screen>(
         b" column ",
         column,
         b": ",
-        row_kind(kind),
+        reason_text(Reason::Input(kind)),
         b"\n",
     ];
     say_named(screen, b"input refused: ", name, &behind)
@@ -187,57 +201,36 @@ fn phase_text(phase: Phase) -> &'static [u8]
     }
 }
 
-fn trap_kind(kind: Kind) -> &'static [u8]
-    ensures { result.now ≡ trap_kind_name kind }
+fn reason_text(reason: Reason) -> &'static [u8]
+    ensures { result.now ≡ reason_name reason }
 {
-    match kind {
-        Kind::Overflow => b"Overflow",
-        Kind::DivideByZero => b"DivideByZero",
-        Kind::BadIndex => b"BadIndex",
-        Kind::BadNumber => b"BadNumber",
-        Kind::NotOne => b"NotOne",
-    }
-}
-
-fn script_kind(kind: ScriptKind) -> &'static [u8]
-    ensures { result.now ≡ script_kind_name kind }
-{
-    match kind {
-        ScriptKind::Utf8 => b"Utf8",
-        ScriptKind::Token => b"Token",
-        ScriptKind::Syntax => b"Syntax",
-        ScriptKind::TooDeep => b"TooDeep",
-        ScriptKind::TooLong => b"TooLong",
-        ScriptKind::TooMany => b"TooMany",
-        ScriptKind::Unknown => b"Unknown",
-        ScriptKind::Twice => b"Twice",
-        ScriptKind::Mistyped => b"Mistyped",
-        ScriptKind::NotTable => b"NotTable",
-        ScriptKind::NotFlat => b"NotFlat",
-        ScriptKind::NoOutput => b"NoOutput",
-        ScriptKind::BadNumber => b"BadNumber",
-    }
-}
-
-fn plan_kind(kind: PlanKind) -> &'static [u8]
-    ensures { result.now ≡ plan_kind_name kind }
-{
-    match kind {
-        PlanKind::NotJson => b"NotJson",
-        PlanKind::Shape => b"Shape",
-        PlanKind::BadStep => b"BadStep",
-        PlanKind::Differs => b"Differs",
-    }
-}
-
-fn row_kind(kind: RowKind) -> &'static [u8]
-    ensures { result.now ≡ row_kind_name kind }
-{
-    match kind {
-        RowKind::Header => b"Header",
-        RowKind::Width => b"Width",
-        RowKind::NotInt => b"NotInt",
-        RowKind::NotBool => b"NotBool",
-        RowKind::Utf8 => b"Utf8",
+    match reason {
+        Reason::Script(ScriptKind::Utf8) => b"Utf8",
+        Reason::Script(ScriptKind::Token) => b"Token",
+        Reason::Script(ScriptKind::Syntax) => b"Syntax",
+        Reason::Script(ScriptKind::TooDeep) => b"TooDeep",
+        Reason::Script(ScriptKind::TooLong) => b"TooLong",
+        Reason::Script(ScriptKind::TooMany) => b"TooMany",
+        Reason::Script(ScriptKind::Unknown) => b"Unknown",
+        Reason::Script(ScriptKind::Twice) => b"Twice",
+        Reason::Script(ScriptKind::Mistyped) => b"Mistyped",
+        Reason::Script(ScriptKind::NotTable) => b"NotTable",
+        Reason::Script(ScriptKind::NotFlat) => b"NotFlat",
+        Reason::Script(ScriptKind::NoOutput) => b"NoOutput",
+        Reason::Script(ScriptKind::BadNumber) => b"BadNumber",
+        Reason::Input(RowKind::Header) => b"Header",
+        Reason::Input(RowKind::Width) => b"Width",
+        Reason::Input(RowKind::NotInt) => b"NotInt",
+        Reason::Input(RowKind::NotBool) => b"NotBool",
+        Reason::Input(RowKind::Utf8) => b"Utf8",
+        Reason::Trap(Kind::Overflow) => b"Overflow",
+        Reason::Trap(Kind::DivideByZero) => b"DivideByZero",
+        Reason::Trap(Kind::BadIndex) => b"BadIndex",
+        Reason::Trap(Kind::BadNumber) => b"BadNumber",
+        Reason::Trap(Kind::NotOne) => b"NotOne",
+        Reason::Plan(PlanKind::NotJson) => b"NotJson",
+        Reason::Plan(PlanKind::Shape) => b"Shape",
+        Reason::Plan(PlanKind::BadStep) => b"BadStep",
+        Reason::Plan(PlanKind::Differs) => b"Differs",
     }
 }

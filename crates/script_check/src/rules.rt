@@ -9,8 +9,8 @@ ghost use Rattle.script_rules.specs.Rules as spec;
 use crate::inputs::{rows_for, rows_of};
 use crate::outputs::{output_of, read_for};
 use crate::signatures::checked;
-use flume_grammar::{Form, Function as Written, Operation, ScriptFault, Statement, Type};
-use flume_value::{Pile, Str};
+use flume_grammar::{Form, Function as Written, ScriptFault, Statement, TurnLet, Type};
+use flume_value::Str;
 use let_check::{add_let, fresh, room, rule_repeat};
 use operation_check::written_types::shallow;
 use script_program::MOST_COLLECTIONS;
@@ -36,11 +36,7 @@ pub fn rule(alloc: Global, statement: Statement, state: &mut State) -> Result<()
             ruled
         }
         Form::Function(function) => rule_function(alloc, line, function, state),
-        Form::Let(names, by) => {
-            let ruled = rule_let(alloc, line, names, &by, state);
-            drop(by);
-            ruled
-        }
+        Form::Let(names, by) => rule_let(alloc, TurnLet { line, names, by }, state),
         Form::Repeat(names, written) => rule_repeat(alloc, line, names, written, state),
         Form::Output(name, file) => rule_output(alloc, line, name, file, state),
     }
@@ -117,18 +113,22 @@ fn rule_function(
     }
 }
 
-fn rule_let(
-    alloc: Global,
-    line: u32,
-    names: Pile<Str>,
-    by: &Operation,
-    state: &mut State,
-) -> Result<(), ScriptFault>
+fn rule_let(alloc: Global, it: TurnLet, state: &mut State) -> Result<(), ScriptFault>
     ensures { Gives (λ _. state.new.state) result
-        (spec.rule_let line names by.now state.old.state) }
+        (spec.rule_let it.line it.names it.by state.old.state) }
 {
-    room(line, names.len(), state.node_count(), MOST_COLLECTIONS)?;
-    add_let(alloc, line, names, by, state)
+    match room(
+        it.line,
+        it.names.len(),
+        state.node_count(),
+        MOST_COLLECTIONS,
+    ) {
+        Ok(()) => add_let(alloc, it, state),
+        Err(fault) => {
+            drop(it);
+            Err(fault)
+        }
+    }
 }
 
 fn rule_output(

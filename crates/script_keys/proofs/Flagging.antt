@@ -21,17 +21,3 @@ module _ (name : List ℕ) (outlines : List Outline) (number next : ℕ) (it : O
       → defines it name || found ≡ is_defined name (drop number outlines)
   found_next found e =
       ap (λ b. defines it name || b) e ∙ sym (ap (is_defined name) opened)
-
-  pub flags_next : (flags : List Bool) (names : Names) (found flag : Bool)
-      → number < length flags → names ≡ rested_on name (drop next outlines)
-      → found ≡ is_defined name (drop next outlines)
-      → drop next flags ≡ flags_from name (drop next outlines) → flag ≡ belongs_by names found it
-      → drop number (set flags number flag) ≡ flags_from name (drop number outlines)
-  flags_next flags names found flag few e f g h =
-      let own : flag ≡ belongs name (drop next outlines) it
-      = h ∙ (λ i. belongs_by (e i) (f i) it) in
-      let same : number + 1 ≡ next = omega (arith, after) in
-      drop-set flags number flag few
-      ∙ ap (λ n. flag ∷ drop n flags) same
-      ∙ (λ i. own i ∷ g i)
-      ∙ sym (ap (flags_from name) opened)

@@ -4,23 +4,8 @@ use Rattle.std.specs.Prelude.{if◌then◌else◌}
 use Rattle.std.specs.List.{Contains, filter, list_any}
 use Rattle.body_check.specs.of_written_types.Named.{Named}
 use Rattle.script_program.specs.declared.made.Made.{Made}
-use Rattle.script_program.specs.declared.made.Made.TheVariants as made
+pub use Rattle.script_program.specs.Kinds.{operands}
 use Rattle.script_program.specs.Script.{Node, Script}
-
--- the numbers of the collections that one is made from, in order
-abbrev pub operands : Made → List ℕ
-operands (made.Input file columns) = []
-operands (made.Do source function output) = source ∷ []
-operands (made.Group source) = source ∷ []
-operands (made.Combine source by) = source ∷ []
-operands (made.Flatten sources) = sources
-operands (made.Count source) = source ∷ []
-operands (made.Join left right) = left ∷ right ∷ []
-operands (made.Top number source) = source ∷ []
-operands (made.CombineAll source by) = source ∷ []
-operands (made.Operate objects function) = objects
-operands (made.DoWith source function object) = source ∷ object ∷ []
-operands (made.Saved is_object call) = []
 
 -- how a script's collections are made, in order
 abbrev pub made_of : Script → List Made

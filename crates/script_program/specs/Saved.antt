@@ -16,16 +16,19 @@ saved_as how = made.Saved (gives_object how) (emitted_as how)
 abbrev pub saved_node : Node → Node
 saved_node node = record node { made = saved_as node.made }
 
--- the collection of that number, which is kept where the number is among those found
-abbrev pub saved_at : List ℕ → ℕ → List ℕ × Node → List ℕ × Node
-saved_at found number entry =
-    if has found number then (entry.0, saved_node entry.1) else entry
+-- the collection of that number, which is a kept one where the number is among those found
+abbrev pub kept_at : {N : Type 0} → (N → N) → List ℕ → ℕ → List ℕ × N → List ℕ × N
+kept_at kept found number entry =
+    if has found number then (entry.0, kept entry.1) else entry
 
 -- the collections from a number on
+abbrev pub kept_from : {N : Type 0} → (N → N) → List ℕ → ℕ → Named N → Named N
+kept_from kept found number [] = []
+kept_from kept found number (entry ∷ nodes) =
+    kept_at kept found number entry ∷ kept_from kept found (suc number) nodes
+
 abbrev pub saved_from : List ℕ → ℕ → Named Node → Named Node
-saved_from found number [] = []
-saved_from found number (entry ∷ nodes) =
-    saved_at found number entry ∷ saved_from found (suc number) nodes
+saved_from found number nodes = kept_from saved_node found number nodes
 
 -- the script in which the collections of these numbers are kept ones; what alone they read is not
 -- needed any more

@@ -25,12 +25,20 @@ is_beside source object = not source.is_object && object.is_object
 abbrev pub takes_members : Operand → Ty → Bool
 takes_members source takes = not source.is_object && type_eq source.type takes
 
+-- as many of the one as of the other, and each fits the other of its place
+abbrev pub pairwise : {A B : Type 0} → (A → B → Bool) → List A → List B → Bool
+pairwise fits [] [] = true
+pairwise fits [] (other ∷ others) = false
+pairwise fits (one ∷ ones) [] = false
+pairwise fits (one ∷ ones) (other ∷ others) = fits one other && pairwise fits ones others
+
+-- an operand of a field's type
+abbrev pub fits_field : Operand → Field Ty → Bool
+fits_field one field = type_eq one.type field.ty
+
 -- as many operands as fields, each of its field's type
 abbrev pub each_fits : List Operand → List (Field Ty) → Bool
-each_fits [] [] = true
-each_fits [] (field ∷ fields) = false
-each_fits (one ∷ others) [] = false
-each_fits (one ∷ others) (field ∷ fields) = type_eq one.type field.ty && each_fits others fields
+each_fits operands fields = pairwise fits_field operands fields
 
 -- a level of a type that is a record of fields of these types, in order
 abbrev pub is_record_of : List Operand → Ty-F Ty → Bool

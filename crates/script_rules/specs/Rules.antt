@@ -32,6 +32,7 @@ use Rattle.script_program.specs.Script.{Making, Operand, Script, Signature, Stat
 use Rattle.script_program.specs.Script.{nothing, script_from, with_copies, with_front}
 use Rattle.script_program.specs.Script.{with_function, with_given, with_hidden, with_node}
 use Rattle.script_program.specs.Script.{with_nodes, with_output, with_statement, with_type}
+use Rattle.script_rules.specs.Arguments.{pairwise}
 use Rattle.script_rules.specs.Operations.{collection, collections_behind, made_by, numbers}
 use Rattle.script_rules.specs.Repeats.{Repeat, last_gives, unrolled}
 
@@ -174,10 +175,7 @@ is_like one other = type_eq one.type other.type && same_kind one.is_object other
 
 -- as many collections, each like the other
 abbrev pub alike : List Operand → List Operand → Bool
-alike [] [] = true
-alike [] (other ∷ given) = false
-alike (one ∷ from) [] = false
-alike (one ∷ from) (other ∷ given) = is_like one other && alike from given
+alike from given = pairwise is_like from given
 
 -- the repeat of what enters it and of what its body gives: so many collections stand outside it,
 -- and so many in front of the body's lets

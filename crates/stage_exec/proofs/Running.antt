@@ -313,13 +313,6 @@ module _ (s : RunSettings) (called : ℕ → Value → Called) (takes : ℕ → 
         (sym none_left)
         ∙ a.lists
 
-    pub end_sizes : HaveGrown (counted_on s World_ 1 stages (source_lists World_)) first sizes
-    end_sizes =
-        grown_as a.counted (counted_on s World_ 1 stages (source_lists World_)) first sizes
-        (λ i. let none : counted_on s World_ (suc k) (drop k stages) (table rows results) i ≡ 0
-        = ap (λ ss. counted_on s World_ (suc k) ss (table rows results) i) none_left in
-        let whole = a.counts i in omega (arith, none, whole)) a.grown
-
     pub end_run : HaveRun s.tries s.drill World_
         (phases_on s World_ 1 stages (source_lists World_)) us vs before told
     end_run =

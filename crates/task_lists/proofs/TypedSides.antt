@@ -16,8 +16,9 @@ use Rattle.exec_plan.specs.of_exec_graph.Typing.{EmitsTyped, IsRecord, IsWorldTy
 use Rattle.exec_plan.specs.of_exec_graph.World.{World}
 use Rattle.exec_plan.specs.of_exec_graph.Meaning.{place}
 use Rattle.exec_plan.specs.of_exec_graph.declared.graph.Place.{Place}
+use Rattle.exec_plan.specs.of_exec_graph.declared.step.Does.TheVariants as does
 use Rattle.exec_plan.proofs.of_exec_graph.Barriers.{AllGood}
-use Rattle.exec_plan.proofs.of_exec_graph.StepFacts.{call_answers}
+use Rattle.exec_plan.proofs.of_exec_graph.StepFacts.{called_is}
 use Rattle.exec_plan.specs.declared.plan.PlanPlace.{PlanPlace}
 use Rattle.exec_plan.specs.Typing.{IsSideTyped}
 use Rattle.task_lists.specs.Lists.{calm}
@@ -83,7 +84,7 @@ module _ (s : Signatures) (w : World) (world : IsWorldTyped s w) (outs : Place �
       let pair : Value = value.Rec (x ∷ (v ∷ [])) in
       let same : emitted b typed.label x ≡ emissions 0 (b.called typed.function x) =
       (λ i. emissions (typed.first i) (called b (typed.calls i) x))
-      ∙ ap (emissions 0) (call_answers b typed.function x) in
+      ∙ ap (emissions 0) (called_is (does.Call typed.function) b x) in
       let answers : EmitsTyped (u ∷ []) (w.called typed.function pair) =
       subst (λ (us : List Ty). EmitsTyped us (w.called typed.function pair)) typed.typed.1
       (world.called typed.function pair (side_takes x h)) in

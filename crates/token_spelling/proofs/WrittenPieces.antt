@@ -115,7 +115,7 @@ module _ (read : (k : Keyword) → keyword_of (keyword_spelling k) ≡ Some k) w
   written_piece (kind.Keyword k) bs h =
       word_piece (keyword_spelling k) bs (keyword_word k)
       ∙ ap (λ o. piece.Token (word_kind (keyword_spelling k) o)
-          (length (keyword_spelling k))) (read k)
+      (length (keyword_spelling k))) (read k)
   written_piece (kind.Number d) bs h = number_piece d bs h
   written_piece (kind.Text x) bs h = text_piece_of x bs
   written_piece (kind.Sign s) bs h = sign_piece_of s bs

@@ -1,5 +1,6 @@
 // A case: the calls that are made, over what world.
-use outside::{At, Fail};
+use memory_outside::Fail;
+use outside::At;
 use std::alloc::{AllocError, Global};
 
 /// A case.

@@ -2,7 +2,8 @@
 use crate::cases::{Faults, HostDown, When};
 use crate::mistakes::{Mistake, Unread};
 use crate::numbers::{cut, first_word, number_of, parts};
-use outside::{At, Fail, Phase};
+use memory_outside::Fail;
+use outside::{At, Phase};
 use std::alloc::Global;
 
 /// What fails in one more call.

@@ -109,13 +109,6 @@ module _ (line : ℕ) (fields : List (Field Ty)) (names : List (List ℕ)) (type
         → Fails e rest
     name-fails e h = Fails-same e rest _ taken (Fails-first e _ _ h)
 
-    pub type-fails : (e : ScriptFault) → unless line Twice (not (has_field name fields)) ≡ Ok tt
-        → Fails e (written line type known) → Fails e rest
-    type-fails e new h =
-        Fails-same e rest _
-        (taken ∙ ap (λ r. r >>= λ new. (written line type known >>= after)) new)
-        (Fails-first e _ _ h)
-
     pub goes-on : (t : Ty) → unless line Twice (not (has_field name fields)) ≡ Ok tt
         → written line type known ≡ Ok t
         → rest

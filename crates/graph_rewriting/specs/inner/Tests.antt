@@ -1,9 +1,6 @@
 -- Whether rewrites may be made, as tests.
 use Rattle.std.specs.Prelude.{ℕ, ◌==◌, Bool, true, false, List, [], ◌∷◌, Option, Some, None}
-use Rattle.combine_table.specs.declared.comb.Comb.{Comb}
-use Rattle.exec_graph.specs.Meaning.{has_out, node_at}
-use Rattle.exec_graph.specs.Wellformed.{comb_at}
-use Rattle.exec_graph.specs.declared.graph.Entry.{Entry}
+use Rattle.exec_graph.specs.Meaning.{has_out}
 use Rattle.exec_graph.specs.declared.graph.Node.{Node}
 use Rattle.exec_graph.specs.declared.graph.Node.TheVariants.{Pdo, Gbk}
 
@@ -16,10 +13,6 @@ abbrev pub only : List ℕ → Option ℕ
 only [] = None
 only (n ∷ []) = Some n
 only (n ∷ (m ∷ ns)) = None
-
-abbrev pub comb_of_only : List Entry → Option ℕ → Option Comb
-comb_of_only es None = None
-comb_of_only es (Some q) = comb_at (node_at es q)
 
 -- those that were found, as a list
 abbrev pub found_list : Option ℕ → List ℕ

@@ -1,5 +1,5 @@
 -- What is in memory: types under numbers, and names with numbers of types.
-use Rattle.std.specs.Prelude.{ℕ, suc, ◌<◌, ◌≤◌, List, [], ◌∷◌, length, map, if◌then◌else◌}
+use Rattle.std.specs.Prelude.{ℕ, ◌<◌, ◌≤◌, List, length, map}
 use Rattle.std.specs.List.{All}
 use Rattle.flume_types.specs.declared.types.Ty.{Ty}
 use Rattle.body_check.specs.of_written_types.Named.{Named}
@@ -8,8 +8,7 @@ use Rattle.script_program.specs.declared.made.Function.{Function as HeldFunction
 use Rattle.script_program.specs.declared.made.Node.{Node as HeldNode}
 use Rattle.script_program.specs.declared.made.Output.{Output}
 use Rattle.script_program.specs.Script.{Function, Node}
-use Rattle.script_program.specs.Needed.{has}
-use Rattle.script_program.specs.Saved.{saved_as}
+use Rattle.script_program.specs.Saved.{kept_at, kept_from, saved_as}
 use Rattle.script_program.specs.Program.{Numbered, HasTypes, function_in, node_in, DoesAsWritten}
 
 abbrev pub function_of : Known → List ℕ × HeldFunction → List ℕ × Function
@@ -55,10 +54,7 @@ held_saved held = record held { made = saved_as held.made }
 
 -- the collection in memory of that number, which is kept where the number is among those found
 abbrev pub held_saved_at : List ℕ → ℕ → List ℕ × HeldNode → List ℕ × HeldNode
-held_saved_at found number entry =
-    if has found number then (entry.0, held_saved entry.1) else entry
+held_saved_at found number entry = kept_at held_saved found number entry
 
 abbrev pub held_saved_from : List ℕ → ℕ → Named HeldNode → Named HeldNode
-held_saved_from found number [] = []
-held_saved_from found number (entry ∷ nodes) =
-    held_saved_at found number entry ∷ held_saved_from found (suc number) nodes
+held_saved_from found number nodes = kept_from held_saved found number nodes

@@ -8,7 +8,8 @@ use Rattle.exec_graph.specs.declared.graph.Node.TheVariants.{Pdo}
 use Rattle.flatten_sink.proofs.Standing.{ascends_with}
 use Rattle.flatten_sink.specs.of_sink_laws.Chain.{forest_of}
 use Rattle.graph_laws.specs.Joining.{set_node, without}
-use Rattle.graph_joining.proofs.Commuting.{node_set, without_one}
+use Rattle.graph_laws.proofs.Setting.{node_set}
+use Rattle.graph_joining.proofs.Commuting.{without_one}
 use Rattle.graph_joining.specs.inner.Refits.{graph_of}
 use Rattle.graph_joining.proofs.refits.take_apart.Goals as goal
 

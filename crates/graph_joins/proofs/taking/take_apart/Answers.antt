@@ -8,8 +8,8 @@ use Rattle.exec_graph.specs.declared.graph.Node.TheVariants.{Flatten, Pdo}
 use Rattle.exec_graph.specs.declared.graph.Place.{Place}
 use Rattle.flatten_sink.proofs.Standing.{ascends_with}
 use Rattle.flatten_sink.specs.of_sink_laws.Chain.{forest_of}
-use Rattle.graph_joining.proofs.Commuting.{node_set}
 use Rattle.graph_laws.specs.Joining.{set_node}
+use Rattle.graph_laws.proofs.Setting.{node_set}
 use Rattle.graph_states.specs.States.{taken_in}
 use Rattle.graph_states.specs.of_graph_rewrites.Rewrites.{input_at}
 use Rattle.graph_joins.proofs.PresentLemmas.{forest_present, taken_shown}

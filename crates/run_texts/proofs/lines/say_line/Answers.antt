@@ -4,7 +4,7 @@ pub returns-in-Usage : goal.returns-in-Usage
 returns-in-Usage g c = rw c.in-Usage.is c.say.ensures
 
 pub returns-in-ScriptRefused : goal.returns-in-ScriptRefused
-returns-in-ScriptRefused g c = rw (c.in-ScriptRefused.is, ← c.script_kind.ensures) c.say_at.ensures
+returns-in-ScriptRefused g c = rw (c.in-ScriptRefused.is, ← c.reason_text.ensures) c.say_at.ensures
 
 pub returns-in-InputRefused : goal.returns-in-InputRefused
 returns-in-InputRefused g c = rw (c.in-InputRefused.is, ← c.as_bytes.ensures)
@@ -26,4 +26,5 @@ returns-in-GaveUp g c = rw c.in-GaveUp.is c.say_gave_up.ensures
 
 pub returns-in-PlanRefused : goal.returns-in-PlanRefused
 returns-in-PlanRefused g c =
-    rw (c.in-PlanRefused.is, ← c.plan_kind.ensures) c.say_at-in-PlanRefused.ensures
+    rw (c.in-PlanRefused.is, ← c.reason_text-in-PlanRefused.ensures)
+    c.say_at-in-PlanRefused.ensures

@@ -9,11 +9,11 @@ returns-clause-emissions g c =
     let self = c.args.self.now in
     emits_beside (g.F.Functions.called self.functions.now c.args.number) c.args.element.now
     (value.Rec (c.args.element.now ∷ (self.object.now ∷ []))) c.in_ok-both.both
-    c.in_ok-both.ensures lists_of c.call.result c.call.ensures.emissions
+    c.in_ok-both.ensures lists_of c.call-answer.result c.call-answer.ensures.emissions
 
 pub returns-clause-trap : goal.returns-clause-trap
 returns-clause-trap g c =
     let self = c.args.self.now in
     traps_beside (g.F.Functions.called self.functions.now c.args.number) c.args.element.now
     (value.Rec (c.args.element.now ∷ (self.object.now ∷ []))) c.in_ok-both.both
-    c.in_ok-both.ensures c.call.result c.call.ensures.trap
+    c.in_ok-both.ensures c.call-answer.result c.call-answer.ensures.trap

@@ -1,6 +1,0 @@
-use Rattle.std.proofs.Common.{All}
-use Rattle.bag_groups.specs.Pairs.{IsPair}
-use Rattle.bag_step_tests.proofs.bags.table.Given as goal
-
-abbrev pub invariant-loop-member : goal.invariant-loop-member
-invariant-loop-member l = All IsPair l.bag.items

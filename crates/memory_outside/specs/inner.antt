@@ -1,0 +1,3 @@
+pub mod CacheRoom
+pub mod Entries
+pub mod Room
