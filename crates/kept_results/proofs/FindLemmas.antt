@@ -10,7 +10,7 @@ use Rattle.flume_value.specs.declared.value.Value.{Value}
 use Rattle.cache_store.specs.declared.entry.CacheEntry.{CacheEntry}
 use Rattle.saved_results.specs.Saved.{saved_value}
 use Rattle.saved_results.specs.declared.saved.Saved.{Saved}
-use Rattle.outside.specs.Cause.{Rose}
+use Rattle.outside.specs.Cause.{Rose, RoseBy, raised}
 use Rattle.script_program.specs.Script.{Script}
 use Rattle.value_reading.specs.Written.{IsCanonical}
 use Rattle.saved_meaning.proofs.of_direct_meaning.PlaceLemmas.{zip_more}
@@ -81,6 +81,16 @@ module _ (script : Script) (asked : List (ℕ × List ℕ)) (i : ℕ) (it : ℕ 
       (here (λ rose. calm (omega (arith, rose, since))))
       (so_far (λ rose. calm (omega (arith, rose, later))))
 
+pub found_start : (script : Script) (told : Option (List CacheEntry))
+    → IfSome told (λ entries. AreFound script entries [] [])
+found_start script None = tt
+found_start script (Some entries) = tt
+
+pub finds_start : (script : Script) (first : ℕ) (told : Option (List CacheEntry))
+    → IfSome told (λ entries. (Rose first first → ⊥) → FindsEach script entries [] [])
+finds_start script first None = tt
+finds_start script first (Some entries) = λ calm. tt
+
 -- ---- but for those for which the cache has failed
 
 -- so far just what may be kept was found, but for some: with what is found of those that are left
@@ -88,7 +98,7 @@ module _ (script : Script) (asked : List (ℕ × List ℕ)) (i : ℕ) (it : ℕ 
 abbrev pub Looks : ℕ → ℕ → Script → List CacheEntry → List (ℕ × List ℕ) → List (ℕ × List ℕ)
     → List (Option Saved) → Type 0
 Looks first last script entries asked left looked =
-    (lost : ℕ) × (first + lost ≤ last)
+    (lost : ℕ) × RoseBy lost first last
     × ((rest : List (Option Saved)) (more : ℕ) → FindsBut more script entries left rest
     → FindsBut (lost + more) script entries asked (looked ++ rest))
 
@@ -117,8 +127,8 @@ found_or_failed : (script : Script) (it : ℕ × List ℕ) (entries : List Cache
 found_or_failed script it entries (Some saved) old now is finds =
     inl (record { some = is; none = tt })
 found_or_failed script it entries None old now is finds =
-    ⊎_elim (λ rose. inr (refl, rose))
-    (λ past. inl (finds (λ (rose : old < now). omega (arith, rose, past)))) (cases_lt old now)
+    ⊎_elim (λ past. inl (finds (λ rose. omega (arith, rose, past))))
+    (λ rose. inr (refl, rose)) (cases_lt now (raised old))
 
 looks_on : (script : Script) (entries : List CacheEntry) (asked left : List (ℕ × List ℕ))
     (it : ℕ × List ℕ) (looked : List (Option Saved)) (found : Option Saved) (first old now : ℕ)
@@ -134,7 +144,7 @@ looks_on script entries asked left it looked found first old now later (inl find
       (so_far.2 (found ∷ rest) more (inl (finds, is))),
 )
 looks_on script entries asked left it looked found first old now later (inr failed) so_far =
-    let rose : old < now = failed.1 in (
+    let rose : Rose old now = failed.1 in (
       suc so_far.0,
       omega (arith, so_far.1, rose),
       λ rest more is.

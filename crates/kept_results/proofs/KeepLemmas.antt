@@ -6,7 +6,7 @@ use Rattle.std.specs.Prelude.{IfSome, is_ok, is_some}
 use Rattle.std.specs.Option.{option_map}
 use Rattle.cache_store.specs.Entries.{with_entries, with_entry}
 use Rattle.cache_store.specs.declared.entry.CacheEntry.{CacheEntry}
-use Rattle.outside.specs.Cause.{HasCause, Rose}
+use Rattle.outside.specs.Cause.{HasCause, Rose, RoseBy}
 use Rattle.kept_results.specs.Keeping.{KeptUnlessFailed, WereKept}
 
 abbrev Told : Type 0
@@ -30,7 +30,7 @@ told_same told false entry = refl
 abbrev pub Puts : ℕ → ℕ → List CacheEntry → List CacheEntry → List CacheEntry → List CacheEntry
     → Type 0
 Puts first last entries kept left now =
-    (lost : ℕ) × (first + lost ≤ last)
+    (lost : ℕ) × RoseBy lost first last
     × ((after : List CacheEntry) (more : ℕ) → WereKept more now left after
     → WereKept (lost + more) entries kept after)
 
@@ -79,6 +79,12 @@ some_next (Some entries) told new first old now r entry left kept cause is h =
     (some_on told first old now r entry left kept entries cause h)
 
 -- ---- all of them, where it has not failed
+
+pub all_start : (first : ℕ) (kept : List CacheEntry) (told : Told)
+    → IfSome told (λ entries. (Rose first first → ⊥)
+    → IfSome told (λ so_far. with_entries so_far kept ≡ with_entries entries kept))
+all_start first kept None = tt
+all_start first kept (Some entries) = λ calm. refl
 
 all_on : (told : Told) (entry : CacheEntry) (left : List CacheEntry) (whole : List CacheEntry)
     → IfSome told (λ now. with_entries now (entry ∷ left) ≡ whole)

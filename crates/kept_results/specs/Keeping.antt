@@ -1,7 +1,8 @@
 -- What a cache has where values were to be kept.
-use Rattle.std.specs.Prelude.{◌≡◌, ◌≤◌, ◌+◌, ◌⊎◌, ℕ, suc, List, [], ◌∷◌}
+use Rattle.std.specs.Prelude.{◌≡◌, ◌⊎◌, ℕ, suc, List, [], ◌∷◌}
 use Rattle.cache_store.specs.Entries.{with_entry}
 use Rattle.cache_store.specs.declared.entry.CacheEntry.{CacheEntry}
+use Rattle.outside.specs.Cause.{RoseBy}
 
 -- these entries were put, one after the other, but for so many
 abbrev pub WereKept : ℕ → List CacheEntry → List CacheEntry → List CacheEntry → Type 0
@@ -14,4 +15,4 @@ WereKept lost before (entry ∷ kept) after =
 -- that were not put
 abbrev pub KeptUnlessFailed : ℕ → ℕ → List CacheEntry → List CacheEntry → List CacheEntry → Type 0
 KeptUnlessFailed first last before kept after =
-    (lost : ℕ) × (first + lost ≤ last) × WereKept lost before kept after
+    (lost : ℕ) × RoseBy lost first last × WereKept lost before kept after

@@ -1,7 +1,16 @@
-use Rattle.std.proofs.Common.{◌∙◌, ap, arith}
+use Rattle.std.proofs.Common.{◌∙◌, ap, arith, refl}
 use Rattle.std.specs.Prelude.{is_ok, is_some}
-use Rattle.kept_results.proofs.KeepLemmas.{all_end, all_more, some_end, some_more, told_same}
+use Rattle.kept_results.proofs.KeepLemmas.{all_end, all_more, all_start, some_end, some_more, some_start, told_same}
 use Rattle.kept_results.proofs.keeping.keep_each.Goals as goal
+
+pub loop-entry-init : goal.loop-entry-init
+loop-entry-init g c =
+    let seen = g.C.Cache.seen c.args.cache.now in record {
+      later = omega arith;
+      told = refl;
+      all = all_start seen.faults c.args.kept.now seen.entries;
+      some = some_start seen.faults c.args.kept.now seen.entries;
+    }
 
 pub loop-entry-preserved : goal.loop-entry-preserved
 loop-entry-preserved g c =
