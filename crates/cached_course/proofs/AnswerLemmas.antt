@@ -5,8 +5,8 @@ use Rattle.cache_store.specs.Entries.{with_entries}
 use Rattle.cache_store.specs.declared.entry.CacheEntry.{CacheEntry}
 use Rattle.cache_store.specs.Seen.{SeenCache}
 use Rattle.outside.specs.Accounts.{Account}
-use Rattle.kept_results.specs.Keeping.{WereKept}
-use Rattle.kept_results.specs.Kept.{FindsEach}
+use Rattle.kept_results.specs.Keeping.{KeptUnlessFailed}
+use Rattle.kept_results.specs.Kept.{FindsEach, FindsUnlessFailed}
 use Rattle.outside.specs.Cause.{Rose}
 use Rattle.outside.specs.Says.{HasLine}
 use Rattle.outside.specs.Seen.{SeenScreen, SeenShelf, SeenSource}
@@ -57,14 +57,30 @@ delivered_for words source source' files text kept shelf shelf' screen screen' c
 
 -- ---- a cache that was to keep some entries
 
-where_kept : (kept : List CacheEntry) (before after : Option (List CacheEntry))
+abbrev TellsKept : ℕ → ℕ → List CacheEntry → Option (List CacheEntry) → Option (List CacheEntry)
+    → Type 0
+TellsKept first last kept before after =
+    WhereTold before after (λ old new. KeptUnlessFailed first last old kept new)
+
+where_kept : (first last : ℕ) (kept : List CacheEntry) (before after : Option (List CacheEntry))
     → is_some after ≡ is_some before
-    → IfSome before (λ entries. IfSome after (WereKept entries kept))
-    → WhereTold before after (λ old new. WereKept old kept new)
-where_kept kept None None same some = tt
-where_kept kept None (Some new) same some = absurd (true≢false same)
-where_kept kept (Some old) None same some = absurd (true≢false (sym same))
-where_kept kept (Some old) (Some new) same some = some
+    → IfSome before (λ entries. IfSome after (KeptUnlessFailed first last entries kept))
+    → TellsKept first last kept before after
+where_kept first last kept None None same some = tt
+where_kept first last kept None (Some new) same some = absurd (true≢false same)
+where_kept first last kept (Some old) None same some = absurd (true≢false (sym same))
+where_kept first last kept (Some old) (Some new) same some = some
+
+-- a cache that had failed less often before
+kept_from : (first middle last : ℕ) (kept : List CacheEntry)
+    (before after : Option (List CacheEntry)) → first ≤ middle
+    → TellsKept middle last kept before after
+    → TellsKept first last kept before after
+kept_from first middle last kept None None less is = tt
+kept_from first middle last kept None (Some new) less is = absurd is
+kept_from first middle last kept (Some old) None less is = absurd is
+kept_from first middle last kept (Some old) (Some new) less is =
+    (is.0, omega (arith, less, is.1), is.2)
 
 all_kept : (kept : List CacheEntry) (before after : Option (List CacheEntry))
     → is_some after ≡ is_some before
@@ -84,12 +100,13 @@ calm_all kept first last (Some old) after all calm = all calm
 
 pub has_kept : (kept : List CacheEntry) (before after : SeenCache)
     → is_some after.entries ≡ is_some before.entries
-    → IfSome before.entries (λ entries. IfSome after.entries (WereKept entries kept))
+    → IfSome before.entries (λ entries. IfSome after.entries
+    (KeptUnlessFailed before.faults after.faults entries kept))
     → IfSome before.entries (λ entries. (Rose before.faults after.faults → ⊥)
     → after.entries ≡ Some (with_entries entries kept))
     → HasKept kept before after
 has_kept kept before after same some all = record {
-  some = where_kept kept before.entries after.entries same some;
+  some = where_kept before.faults after.faults kept before.entries after.entries same some;
   all = λ calm.
       all_kept kept before.entries after.entries same
       (calm_all kept before.faults after.faults before.entries after.entries all calm);
@@ -116,6 +133,16 @@ module _ (cache middle later : SeenCache) (same : middle.entries ≡ cache.entri
   finds_then script asked looked (Some entries) finds =
       λ calm. finds (λ rose. calm (rose_then rose))
 
+  failed_then : (script : Script) (asked : List (ℕ × List ℕ)) (looked : List (Option Saved))
+      (o : Option (List CacheEntry))
+      → IfSome o (λ entries. FindsUnlessFailed cache.faults middle.faults script entries asked
+      looked)
+      → IfSome o (λ entries. FindsUnlessFailed cache.faults later.faults script entries asked
+      looked)
+  failed_then script asked looked None failed = tt
+  failed_then script asked looked (Some entries) failed =
+      (failed.0, omega (arith, failed.1, second), failed.2)
+
   abbrev looked_then : (words : List (List ℕ)) (told : Option (List NamedBytes))
       → HasLooked words told cache middle → HasLooked words told cache later
   looked_then words told it = record {
@@ -130,14 +157,17 @@ module _ (cache middle later : SeenCache) (same : middle.entries ≡ cache.entri
       kept = it.was.kept;
       found = it.was.found;
       finds = finds_then it.script it.asked it.looked cache.entries it.was.finds;
+      failed = failed_then it.script it.asked it.looked cache.entries it.was.failed;
     };
   }
 
   kept_since : (kept : List CacheEntry) → HasKept kept middle later → HasKept kept cache later
   kept_since kept has = record {
-    some = subst
+    some = kept_from cache.faults middle.faults later.faults kept cache.entries later.entries
+        first
+        (subst
         (λ (o : Option (List CacheEntry)).
-        WhereTold o later.entries (λ old new. WereKept old kept new)) same has.some;
+        TellsKept middle.faults later.faults kept o later.entries) same has.some);
     all = λ calm.
         subst
         (λ (o : Option (List CacheEntry)).

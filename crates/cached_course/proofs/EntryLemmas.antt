@@ -6,7 +6,7 @@ use Rattle.std.specs.Str.{bytes_eq}
 use Rattle.std.proofs.lemmas.Slice.Eq.{bytes_eq-Decides}
 use Rattle.cache_store.specs.Entries.{found_in, with_entry}
 use Rattle.cache_store.specs.declared.entry.CacheEntry.{CacheEntry}
-use Rattle.kept_results.specs.Keeping.{WereKept}
+use Rattle.kept_results.specs.Keeping.{KeptUnlessFailed, WereKept}
 use Rattle.kept_results.proofs.FoundLemmas.{firsts}
 use Rattle.key_meaning.specs.Keyed.{Keyed, key}
 use Rattle.outside.specs.Told.{WhereTold}
@@ -84,21 +84,22 @@ with_sound : (entries : List CacheEntry) (entry : CacheEntry) → AreSound entri
 with_sound entries entry sound own = λ it.
     value_with entries entry sound own it (found_behind entry.key entry.value (key it) entries)
 
-kept_sound : (entries kept after : List CacheEntry) → AreSound entries → Each IsSoundEntry kept
-    → WereKept entries kept after → AreSound after
-kept_sound entries [] after sound own are = subst AreSound (sym are) sound
-kept_sound entries (entry ∷ kept) after sound own (inl are) =
-    kept_sound (with_entry entries entry.key entry.value) kept after
+kept_sound : (lost : ℕ) (entries kept after : List CacheEntry) → AreSound entries
+    → Each IsSoundEntry kept → WereKept lost entries kept after → AreSound after
+kept_sound lost entries [] after sound own are = subst AreSound (sym are) sound
+kept_sound lost entries (entry ∷ kept) after sound own (inl are) =
+    kept_sound lost (with_entry entries entry.key entry.value) kept after
     (with_sound entries entry sound own.0) own.1 are
-kept_sound entries (entry ∷ kept) after sound own (inr are) =
-    kept_sound entries kept after sound own.1 are
+kept_sound lost entries (entry ∷ kept) after sound own (inr are) =
+    kept_sound are.0 entries kept after sound own.1 are.2
 
-pub told_sound : (kept entries : List CacheEntry) → AreSound entries → Each IsSoundEntry kept
-    → (o : Option (List CacheEntry)) → WhereTold (Some entries) o (λ old new. WereKept old kept new)
+pub told_sound : (first last : ℕ) (kept entries : List CacheEntry) → AreSound entries
+    → Each IsSoundEntry kept → (o : Option (List CacheEntry))
+    → WhereTold (Some entries) o (λ old new. KeptUnlessFailed first last old kept new)
     → IsSomeAnd o AreSound
-told_sound kept entries sound own None are = absurd are
-told_sound kept entries sound own (Some after) are =
-    kept_sound entries kept after sound own are
+told_sound first last kept entries sound own None are = absurd are
+told_sound first last kept entries sound own (Some after) are =
+    kept_sound are.0 entries kept after sound own are.2
 
 -- what holds of numbers holds of what stands beside them
 pub each_first : (P : ℕ → Type 0) (asked : List (ℕ × List ℕ)) → Each P (firsts asked)

@@ -10,7 +10,7 @@ use Rattle.flume_value.specs.Canonical.{canonical}
 use Rattle.flume_value.specs.Ranges.{IsHeld}
 use Rattle.flume_value.specs.declared.value.Value.{Value}
 use Rattle.kept_results.specs.Asked.{asked_nodes}
-use Rattle.kept_results.specs.Keeping.{WereKept}
+use Rattle.kept_results.specs.Keeping.{KeptUnlessFailed}
 use Rattle.kept_results.specs.Kept.{AreFound, AreKept}
 use Rattle.kept_results.specs.Lists.{HasMembers, found_of, given_to, later_of}
 use Rattle.kept_results.specs.of_direct_meaning.Direct.{made_at, meaning, traps_of}
@@ -265,10 +265,11 @@ module _ (laws : Laws) (words : List (List ℕ)) (told : List File) (cache later
         → HasKept (entries_kept script it.asked it.looked table) cache later
         → TellsSoundEntries later
     left_sound held kept =
-        told_sound (entries_kept script it.asked it.looked table) entries sound (all_right held)
-        later.entries (subst (λ (o : Option (List CacheEntry)).
+        told_sound cache.faults later.faults (entries_kept script it.asked it.looked table) entries
+        sound (all_right held) later.entries (subst (λ (o : Option (List CacheEntry)).
         WhereTold o later.entries
-        (λ old new. WereKept old (entries_kept script it.asked it.looked table) new)) tells
+        (λ old new. KeptUnlessFailed cache.faults later.faults old
+        (entries_kept script it.asked it.looked table) new)) tells
         kept.some)
 
 -- ---- whatever is told

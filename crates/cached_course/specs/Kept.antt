@@ -6,7 +6,7 @@ use Rattle.cache_store.specs.Seen.{SeenCache}
 use Rattle.kept_results.specs.of_direct_meaning.Direct.{made_at}
 use Rattle.flume_value.specs.Canonical.{canonical}
 use Rattle.flume_value.specs.declared.value.Value.{Value}
-use Rattle.kept_results.specs.Keeping.{WereKept}
+use Rattle.kept_results.specs.Keeping.{KeptUnlessFailed}
 use Rattle.kept_results.specs.Lists.{found_of}
 use Rattle.kept_results.specs.Sizes.{rested_nodes, to_keep}
 use Rattle.outside.specs.Cause.{Rose}
@@ -38,8 +38,10 @@ entries_kept script asked looked table =
     (λ it. record { key = it.1; value = bytes_kept script (found_of asked looked) table it.0 })
     (not_found asked looked)
 
--- The cache has its entries with these, one after the other; where it failed, with some of them.
+-- The cache has its entries with these, one after the other; where it failed, without some, and not
+-- more of them than it failed.
 pub record HasKept (kept : List CacheEntry) (before after : SeenCache) : Type 0 where
-  pub some : WhereTold before.entries after.entries (λ old new. WereKept old kept new)
+  pub some : WhereTold before.entries after.entries
+      (λ old new. KeptUnlessFailed before.faults after.faults old kept new)
   pub all : (Rose before.faults after.faults → ⊥) →
       WhereTold before.entries after.entries (λ old new. new ≡ with_entries old kept)

@@ -5,7 +5,7 @@ use Rattle.cache_store.specs.Seen.{SeenCache}
 use Rattle.key_meaning.specs.Keyed.{HasKeyLength}
 use Rattle.kept_results.specs.of_direct_meaning.Inputs.{inputs_of}
 use Rattle.kept_results.specs.Keyed.{keyed_nodes}
-use Rattle.kept_results.specs.Kept.{AreFound, AreKept, FindsEach}
+use Rattle.kept_results.specs.Kept.{AreFound, AreKept, FindsEach, FindsUnlessFailed}
 use Rattle.keyed_loading.specs.Files.{AreFilesOf}
 use Rattle.keyed_loading.specs.Keyed.{LoadsKeyed}
 use Rattle.outside.specs.Cause.{Rose}
@@ -29,13 +29,15 @@ pub record AreKeyedOutputs (told : Option (List File)) (name : List ℕ) (script
   pub names_short : AllByRecursion (λ output. HasKeyLength output.1.name) script.outputs
 
 -- What was found of each: nothing but what may be kept of it and stands under its key; and just
--- that, where the cache did not fail.
+-- that, where the cache did not fail, and else for all but as many as it failed for.
 pub record WereLooked (script : Script) (asked : List (ℕ × List ℕ)) (looked : List (Option Saved))
     (before after : SeenCache) : Type 0 where
   pub kept : AreKept script asked looked
   pub found : IfSome before.entries (λ entries. AreFound script entries asked looked)
   pub finds : IfSome before.entries (λ entries. (Rose before.faults after.faults → ⊥) →
       FindsEach script entries asked looked)
+  pub failed : IfSome before.entries (λ entries.
+      FindsUnlessFailed before.faults after.faults script entries asked looked)
 
 -- one that is asked for, where nothing was found of it
 abbrev pub missing_as : ℕ × List ℕ → Option Saved → List (ℕ × List ℕ)

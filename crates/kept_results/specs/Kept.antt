@@ -1,5 +1,5 @@
 -- What may be kept of a collection, and when it is found.
-use Rattle.std.specs.Prelude.{◌≡◌, ℕ, true, List, Option, Some, IfNone, IfSome, length, map, slice_get}
+use Rattle.std.specs.Prelude.{◌≡◌, ◌⊎◌, ℕ, suc, true, List, [], ◌∷◌, Option, Some, None, IfNone, IfSome, ⊤, length, map, slice_get}
 use Rattle.std.specs.List.{AllZip}
 use Rattle.std.specs.List.Sorted.{IsSorted}
 use Rattle.flume_types.specs.Typing.{AllHave}
@@ -7,6 +7,7 @@ use Rattle.flume_value.specs.Order.{value_cmp}
 use Rattle.flume_value.specs.declared.value.Value.{Value}
 use Rattle.cache_store.specs.Entries.{found_in}
 use Rattle.cache_store.specs.declared.entry.CacheEntry.{CacheEntry}
+use Rattle.outside.specs.Cause.{RoseBy}
 use Rattle.saved_results.specs.Saved.{AreCounts, saved_value}
 use Rattle.saved_results.specs.declared.saved.Saved.{Saved}
 use Rattle.script_program.specs.Kinds.{gives_object}
@@ -59,3 +60,20 @@ abbrev pub FindsEach : Script → List CacheEntry → List (ℕ × List ℕ) →
     → Type 0
 FindsEach script entries asked looked =
     AllZip (λ it found. Finds script it.0 it.1 entries found) asked looked
+
+-- the same, but for so many of which nothing is found
+abbrev pub FindsBut : ℕ → Script → List CacheEntry → List (ℕ × List ℕ) → List (Option Saved)
+    → Type 0
+FindsBut lost script entries [] [] = ⊤
+FindsBut lost script entries [] (found ∷ looked) = ⊥
+FindsBut lost script entries (it ∷ asked) [] = ⊥
+FindsBut lost script entries (it ∷ asked) (found ∷ looked) =
+    (Finds script it.0 it.1 entries found × FindsBut lost script entries asked looked)
+    ⊎ ((others : ℕ) × (lost ≡ suc others) × (found ≡ None)
+    × FindsBut others script entries asked looked)
+
+-- the same of a cache whose failures were so many before and after: it failed for each of those
+abbrev pub FindsUnlessFailed : ℕ → ℕ → Script → List CacheEntry → List (ℕ × List ℕ)
+    → List (Option Saved) → Type 0
+FindsUnlessFailed first last script entries asked looked =
+    (lost : ℕ) × RoseBy lost first last × FindsBut lost script entries asked looked

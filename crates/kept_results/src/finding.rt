@@ -1,6 +1,6 @@
 // What is found of a collection in a cache.
 ghost use Rattle.std.specs.Prelude.{◌≡◌, ◌≤◌, ◌<◌, All, IfNone, IfOk, IfSome, length};
-ghost use Rattle.kept_results.specs.Kept.{AreFound, AreKept, Finds, FindsEach, IsFound, IsKeptOf};
+ghost use Rattle.kept_results.specs.Kept.{AreFound, AreKept, Finds, FindsEach, FindsUnlessFailed, IsFound, IsKeptOf};
 ghost use Rattle.outside.specs.Cause.{Rose};
 ghost use Rattle.saved_results.specs.Saved.{saved_value};
 ghost use Rattle.saved_results.specs.declared.saved.Saved.{Saved as Kept};
@@ -41,7 +41,8 @@ pub fn find_saved<C: Cache>(
     }
 }
 
-/// The same of each collection that is asked for, by its number and its key.
+/// The same of each collection that is asked for, by its number and its key. Where the cache fails
+/// for one, the others are looked for.
 pub fn find_each<C: Cache>(
     alloc: Global,
     program: &Program,
@@ -58,6 +59,9 @@ pub fn find_each<C: Cache>(
     ensures finds { IfSome (C.seen cache.old).entries (λ entries.
         (Rose (C.seen cache.old).faults (C.seen cache.new).faults → ⊥) → IfOk result (λ looked.
         FindsEach program.now.script entries asked.now looked.items)) }
+    ensures failed { IfSome (C.seen cache.old).entries (λ entries. IfOk result (λ looked.
+        FindsUnlessFailed (C.seen cache.old).faults (C.seen cache.new).faults program.now.script
+        entries asked.now looked.items)) }
 {
     let mut looked = Vec::new(alloc);
     for one in asked {

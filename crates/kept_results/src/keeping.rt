@@ -6,7 +6,7 @@ ghost use Rattle.flume_value.specs.Canonical.{canonical};
 ghost use Rattle.flume_value.specs.Ranges.{IsHeld};
 ghost use Rattle.outside.specs.Cause.{HasCause, Rose};
 ghost use Rattle.saved_results.specs.Saved.{saved_value};
-ghost use Rattle.kept_results.specs.Keeping.{WereKept};
+ghost use Rattle.kept_results.specs.Keeping.{KeptUnlessFailed};
 ghost use Rattle.kept_results.specs.Sizes as spec;
 
 use crate::sizes::to_keep;
@@ -41,7 +41,7 @@ pub fn keep_each<C: Cache>(kept: &[CacheEntry], cache: &mut C)
         (Rose (C.seen cache.old).faults (C.seen cache.new).faults → ⊥) →
         (C.seen cache.new).entries ≡ Some (with_entries entries kept.now)) }
     ensures some { IfSome (C.seen cache.old).entries (λ entries. IfSome (C.seen cache.new).entries
-        (WereKept entries kept.now)) }
+        (KeptUnlessFailed (C.seen cache.old).faults (C.seen cache.new).faults entries kept.now)) }
 {
     for entry in kept {
         let _ = keep_one(entry, cache);

@@ -35,6 +35,7 @@ returns-clause-seen g c =
         kept = c.in_ok-looked.ensures.kept;
         found = c.in_ok-looked.ensures.found;
         finds = c.in_ok-looked.ensures.finds;
+        failed = c.in_ok-looked.ensures.failed;
       };
       goes = goes;
     }))

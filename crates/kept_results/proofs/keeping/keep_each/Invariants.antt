@@ -1,9 +1,8 @@
-use Rattle.std.proofs.Common.{◌≡◌, ◌≤◌, List, drop}
+use Rattle.std.proofs.Common.{◌≡◌, ◌≤◌, drop}
 use Rattle.std.specs.Prelude.{IfSome, is_some}
 use Rattle.cache_store.specs.Entries.{with_entries}
-use Rattle.cache_store.specs.declared.entry.CacheEntry.{CacheEntry}
 use Rattle.outside.specs.Cause.{Rose}
-use Rattle.kept_results.specs.Keeping.{WereKept}
+use Rattle.kept_results.proofs.KeepLemmas.{TellsPuts}
 use Rattle.kept_results.proofs.keeping.keep_each.Given as goal
 
 abbrev pub invariant-loop-entry : goal.invariant-loop-entry
@@ -16,7 +15,6 @@ invariant-loop-entry g l =
       all : IfSome started (λ entries.
           (Rose (g.C.Cache.seen l.fn.cache).faults (g.C.Cache.seen l.cache).faults → ⊥)
           → IfSome now (λ so_far. with_entries so_far left ≡ with_entries entries l.kept));
-      some : IfSome started (λ entries. IfSome now (λ so_far.
-          (after : List CacheEntry) → WereKept so_far left after
-          → WereKept entries l.kept after));
+      some : TellsPuts (g.C.Cache.seen l.fn.cache).faults (g.C.Cache.seen l.cache).faults l.kept
+          left started now;
     }
