@@ -48,10 +48,25 @@ pub(crate) fn drop_inputs(
         sources.new.items results.new.items }
 {
     for input in inputs.as_slice() {
-        drop_unread(alloc, sources, results, input.reads, later, outputs);
-        if let Some(object) = input.beside {
-            drop_unread(alloc, sources, results, object, later, outputs);
-        }
+        drop_input(alloc, sources, results, input, later, outputs);
+    }
+}
+
+// Drops what an input channel has read, and the object beside it.
+fn drop_input(
+    alloc: Global,
+    sources: &mut Vec<Items>,
+    results: &mut Vec<Pile<Items>>,
+    input: &InChannel,
+    later: &[Stage],
+    outputs: &[PlanPlace],
+)
+    ensures kept { KeepsLater later.now outputs.now sources.old.items results.old.items
+        sources.new.items results.new.items }
+{
+    drop_unread(alloc, sources, results, input.reads, later, outputs);
+    if let Some(object) = input.beside {
+        drop_unread(alloc, sources, results, object, later, outputs);
     }
 }
 
