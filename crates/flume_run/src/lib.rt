@@ -9,7 +9,7 @@
 //! text. Each command takes every accepted script.
 //!
 //! The contract of `flume` is `Promises` (specs/Promises.antt): for words of `make` it is `Makes`
-//! of made_course, and for the others `Promises` of run_course, each with a field for each answer.
+//! of made_course, for the others `ScriptPromises` of run_course, with a field for each answer.
 //! `done` of the latter is the headline: each output file holds the sorted text of the script's
 //! direct meaning, and the screen has the text of its command; for `run` each task of the plan was
 //! run. Each other field gives the cause of its answer, and what stands afterwards. Their words

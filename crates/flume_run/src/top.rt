@@ -47,9 +47,9 @@ use std::thread::Threads;
 /// answer.
 ///
 /// What is promised is `CachedPromises` (specs/Cached.antt): for words with that flag the
-/// `Promises` of cached_course, and for all others `Promises` (specs/Promises.antt), with the cache
-/// untouched: for `make` the fields of `Makes` (specs/Makes.antt of made_course), and for the
-/// others those of the `Promises` of run_course. Hosts that are not lent are as they were.
+/// `ReusePromises` of cached_course, and for all others `Promises` (specs/Promises.antt), with the
+/// cache untouched: for `make` the fields of `Makes` (specs/Makes.antt of made_course), and for the
+/// others those of `ScriptPromises` of run_course. Hosts that are not lent are as they were.
 pub fn flume_cached<X: Threads + Sync, R: Source, H: Host + Send, K: Shelf, P: Screen, C: Cache>(
     rt: &X,
     alloc: Global,

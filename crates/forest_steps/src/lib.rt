@@ -36,4 +36,4 @@ pub use fault::StepFault;
 pub use functions::Functions;
 pub use outputs::{Outputs, no_counts};
 pub use sizes::sizes_of;
-pub use visit::{visit_one, visit_steps};
+pub use visit::{next_list, visit_one, visit_steps};

@@ -345,8 +345,9 @@ fn visit_kids<F: Functions>(
     Ok(())
 }
 
-/// The list for the next output. Where a step has more outputs than it answered to, they get none.
-fn next_list(alloc: Global, answers: &mut IntoIter<Items>) -> Items
+/// The next list, or none where there are no more: where a step has more outputs than it answered
+/// to, they get nothing.
+pub fn next_list(alloc: Global, answers: &mut IntoIter<Items>) -> Items
     ensures next { result ≡ or_none (slice_get answers.old.rest.items 0) }
     ensures rest { answers.new.rest.items ≡ drop 1 answers.old.rest.items }
 {

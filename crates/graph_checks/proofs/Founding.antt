@@ -96,9 +96,9 @@ none_given (d ∷ ds) c n a e = by (eqb c.node d.number) refl (none_given ds c n
         let s : c.node ≡ d.number = eqb-true c.node d.number q in absurd (omega arith)
     by false q i = i
 
-pub or_none : (a : Bool) → (a || false) ≡ a
-or_none true = refl
-or_none false = refl
+pub or_false : (a : Bool) → (a || false) ≡ a
+or_false true = refl
+or_false false = refl
 
 given_there : (es : List Entry) (c : Place) → Ascends es
     → is_given es c ≡ gives_at (node_at es c.node) c.out
@@ -111,7 +111,7 @@ given_there (e ∷ es) c a = ap (λ (b : Bool). (b && gives e.node c.out) || is_
         ≡ gives_at (cond b (Some e.node) (node_at es c.node)) c.out
     by true q i = ap (λ (r : Bool). gives e.node c.out || r)
         (none_given es c e.number a.0 (sym (eqb-true e.number c.node q)))
-        ∙ or_none (gives e.node c.out)
+        ∙ or_false (gives e.node c.out)
     by false q i = i
 
 all_true : (p : Place → Bool) (cs : List Place) → list_all p cs ≡ true

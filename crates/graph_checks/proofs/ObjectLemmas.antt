@@ -7,7 +7,7 @@ use Rattle.exec_graph.specs.Meaning.{node_at}
 use Rattle.exec_graph.specs.Wellformed.{Ascends, is_object}
 use Rattle.graph_checks.specs.inner.Objects.{has_object}
 use Rattle.graph_checks.proofs.Spotting.{swap}
-use Rattle.graph_checks.proofs.Founding.{or_none}
+use Rattle.graph_checks.proofs.Founding.{or_false}
 
 -- ---- where objects stand
 no_object : (es : List Entry) (n k : ℕ) → Each (λ d. k < d.number) es → n ≡ k
@@ -33,5 +33,5 @@ object_there (e ∷ es) n a =
         ≡ is_object (cond b (Some e.node) (node_at es n))
     by true q i = ap (λ (r : Bool). is_object (Some e.node) || r)
         (no_object es n e.number a.0 (sym (eqb-true e.number n q)))
-        ∙ or_none (is_object (Some e.node))
+        ∙ or_false (is_object (Some e.node))
     by false q i = i

@@ -22,7 +22,7 @@ use Rattle.forest_steps.specs.Safety.{SafeOf}
 use Rattle.task_safety.proofs.of_forest_courses.Worlds.{same_counts, same_gives, same_traps}
 use Rattle.task_safety.specs.Taking.{taking}
 use Rattle.task_safety.proofs.Taken.{same_beside}
-use Rattle.map_shard.specs.Work.{Work, CanWork, CanRunShard, IsWorkValue, lists_of, shard_task, split_of, task_at, work_count}
+use Rattle.map_shard.specs.Work.{Work, CanWork, CanRunShard, IsWorkValue, lists_of, shard_task, work_split, task_at, work_count}
 use Rattle.map_shard.specs.declared.legs.Steps.{Steps}
 use Rattle.map_shard.specs.inner.Legs.{CanRunIn, IsWholeOr}
 use Rattle.map_shard.specs.inner.Sending.{CanSend}
@@ -55,7 +55,7 @@ same_given_to v w same task m =
 
 module _ {F : Type 0} (work : Work F) (m i : ℕ) where
   abbrev IsValue : World → Result MapOut Trap → Type 0
-  IsValue w out = IsMapValue w (split_of work) (lists_of work) work.stage m i out
+  IsValue w out = IsMapValue w (work_split work) (lists_of work) work.stage m i out
 
   same_out : (v w : World) → v.called ≡ w.called → (out : Result MapOut Trap) → IsValue v out
       → IsValue w out
@@ -76,9 +76,9 @@ module _ {F : Type 0} (work : Work F) (m i : ℕ) where
       (same_for v w same task) task.does task.elements)) ∙ is
 
   of_channel : (c : InChannel) → slice_get work.stage.inputs m ≡ Some c
-      → shard_task work m i ≡ map_task (split_of work) (lists_of work) c i
+      → shard_task work m i ≡ map_task (work_split work) (lists_of work) c i
   of_channel c is =
-      ap (λ o. option_map_or (λ d. map_task (split_of work) (lists_of work) d i) o no_task) is
+      ap (λ o. option_map_or (λ d. map_task (work_split work) (lists_of work) d i) o no_task) is
 
 -- ---- task k
 -- what holds of the task as it was read holds of it by its number

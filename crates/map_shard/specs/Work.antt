@@ -64,18 +64,18 @@ work_of functions sources results stage shards partitions = record {
 }
 
 module _ {F : Type 0} where
-  abbrev pub split_of : Work F → Split
-  split_of w = split w.shards w.partitions
+  abbrev pub work_split : Work F → Split
+  work_split w = split w.shards w.partitions
 
   abbrev pub lists_of : Work F → Lists
   lists_of w = table w.sources w.results
 
   -- shard i of input channel m
   abbrev pub shard_task : Work F → ℕ → ℕ → Task
-  shard_task w m i = map_task_of (split_of w) (lists_of w) w.stage.inputs m i
+  shard_task w m i = map_task_of (work_split w) (lists_of w) w.stage.inputs m i
 
   abbrev pub work_count : Work F → ℕ
-  work_count w = map_count (split_of w) w.stage
+  work_count w = map_count (work_split w) w.stage
 
   -- task k is shard k % shards of input channel k / shards
   abbrev pub task_at : Work F → ℕ → Task
@@ -119,5 +119,5 @@ abbrev pub IsWorkValue : {F : Type 0} → (ℕ → Value → Called) → Work F 
     → Result MapOut Trap → Type 0
 IsWorkValue called work k out =
     (w : World) → w.called ≡ called
-    → IsMapValue w (split_of work) (lists_of work) work.stage (k / work.shards) (k % work.shards)
+    → IsMapValue w (work_split work) (lists_of work) work.stage (k / work.shards) (k % work.shards)
     out

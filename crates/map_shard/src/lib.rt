@@ -26,6 +26,7 @@ mod single;
 mod takes;
 mod tasks;
 
+pub use forest_steps;
 pub use laws::map_tasks_law;
 pub use lists::list_of;
 pub use moving::take_list;

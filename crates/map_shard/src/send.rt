@@ -148,13 +148,13 @@ fn joined(
 {
     let mut values = Emitted::new(alloc);
     for _take in takes {
-        values = values.with_more(alloc, next_list(alloc, given))?;
+        values = values.with_more(alloc, next_emitted(alloc, given))?;
     }
     Ok(values)
 }
 
-// The next list, or an empty one.
-fn next_list(alloc: Global, given: &mut IntoIter<Emitted>) -> Emitted
+// What was emitted next, or nothing.
+fn next_emitted(alloc: Global, given: &mut IntoIter<Emitted>) -> Emitted
     ensures next { result ≡ or_none (slice_get given.old.rest.items 0) }
     ensures rest { given.new.rest.items ≡ drop 1 given.old.rest.items }
 {

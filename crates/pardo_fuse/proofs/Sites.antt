@@ -117,19 +117,19 @@ parts_collect : (q : Place) (k n : ℕ) (d : Place) (f : Forest)
 parts_collect q k n d Bare = refl
 parts_collect q k n d (Grow l kids rest) = parts_collect q k n d rest
 
-or_none : (b : Bool) → (b || false) ≡ b
-or_none true = refl
-or_none false = refl
+or_false : (b : Bool) → (b || false) ≡ b
+or_false true = refl
+or_false false = refl
 
 node_collects : (g : Graph) (q : Place) (t : Place → Bool) → Tells g q t → (n : ℕ) (x : Node)
     → AllByRecursion (IsThere g.nodes) (reads x)
     → any_node (collects q) (parts_of g.next n (reread (part_place g) x)) ≡ collects_by t x
 node_collects g q t h n (Source r) a = refl
-node_collects g q t h n (Flatten ins) a = or_none (among q (map (part_place g) ins))
+node_collects g q t h n (Flatten ins) a = or_false (among q (map (part_place g) ins))
     ∙ among_by g q t h ins a
 node_collects g q t h n (Pdo d f) a = parts_collect q g.next n (part_place g d) f
-node_collects g q t h n (Gbk d o l k) a = or_none (same_place q (part_place g d)) ∙ h d a.0
-node_collects g q t h n (Barrier ins o l d) a = or_none (among q (map (part_place g) ins))
+node_collects g q t h n (Gbk d o l k) a = or_false (same_place q (part_place g d)) ∙ h d a.0
+node_collects g q t h n (Barrier ins o l d) a = or_false (among q (map (part_place g) ins))
     ∙ among_by g q t h ins a
 
 pub collects_all : (g : Graph) (q : Place) (t : Place → Bool) → Tells g q t → (es : List Entry)

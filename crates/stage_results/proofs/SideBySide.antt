@@ -2,12 +2,13 @@
 use Rattle.std.proofs.Common.{◌≡◌, ℕ, zero, suc, ◌<◌, ◌≤◌, List, [], ◌∷◌, ◌++◌, length, get_or, Option, Some, None, refl, sym, ap, ◌∙◌, subst, arith, slice_get, drop, append-nil}
 use Rattle.std.specs.Prelude.{IsSome, option_and_then, slice_set}
 use Rattle.std.proofs.lemmas.Option.{same_Some}
+use Rattle.exec_graph.specs.of_flume_collection.Calls.{or_none}
 use Rattle.shuffle_parts.specs.Outs.{all_passed, passed_at, passed_in}
 use Rattle.shuffle_parts.proofs.Finding.{ComesTo, begins, first_there, found_next}
 use Rattle.shuffle_parts.specs.declared.out.MapOut.{MapOut}
 use Rattle.shuffle_parts.specs.declared.out.Sent.{Sent}
 use Rattle.flume_value.specs.declared.value.Value.{Value}
-use Rattle.stage_results.specs.inner.Channels.{each_joined, or_none, passed_by}
+use Rattle.stage_results.specs.inner.Channels.{each_joined, passed_by}
 
 pub none_joined : {A : Type 0} (xs : List (List A)) → each_joined xs [] ≡ xs
 none_joined [] = refl

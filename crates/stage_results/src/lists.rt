@@ -1,6 +1,7 @@
 // The results of a stage.
 ghost use Rattle.std.specs.Prelude.{◌≡◌, ◌<◌, ◌∷◌, ◌++◌, [], ℕ, List, slice_get, drop, sum, IfOk, OnOk};
 ghost use Rattle.std.specs.Vec.Iter.{into_iter_items};
+ghost use Rattle.exec_graph.specs.of_flume_collection.Calls.{or_none};
 ghost use Rattle.exec_graph.specs.World.{World};
 ghost use Rattle.exec_plan.specs.declared.plan.InChannel.{InChannel};
 ghost use Rattle.exec_plan.specs.declared.plan.Stage.TheVariants as stages;
@@ -12,13 +13,14 @@ ghost use Rattle.task_lists.specs.Lists.{given_lists, result_lists};
 ghost use Rattle.task_lists.specs.Plans.{task_counts};
 ghost use Rattle.task_lists.specs.Tasks.{Lists, reduce_phase};
 ghost use Rattle.stage_results.specs.inner.Channels.{AreOutsAt, HavePassed, StartsWith};
-ghost use Rattle.stage_results.specs.inner.Channels.{channel_counts, or_none};
+ghost use Rattle.stage_results.specs.inner.Channels.{channel_counts};
 
 use crate::channel::channel_lists;
 use crate::passed::passed_lists;
 use exec_plan::{Mscr, OutChannel};
-use flume_value::{Items, Pile};
+use flume_value::Items;
 use shuffle_parts::MapOut;
+use stage_phases::map_shard::forest_steps::next_list;
 use stage_phases::reduce_part::ReduceOut;
 use std::alloc::{AllocError, Global};
 use std::vec::IntoIter;
@@ -54,17 +56,6 @@ pub fn stage_lists(
         lists.append(&mut given)?;
     }
     Ok(lists)
-}
-
-// The next list, where there is one.
-fn next_list(alloc: Global, lists: &mut IntoIter<Items>) -> Items
-    ensures next { result ≡ or_none (slice_get (into_iter_items lists.old) 0) }
-    ensures rest { into_iter_items lists.new ≡ drop 1 (into_iter_items lists.old) }
-{
-    match lists.next() {
-        Some(list) => list,
-        None => Pile::new(alloc),
-    }
 }
 
 // The results of an output channel, whose outs are the next, and through which these have passed.

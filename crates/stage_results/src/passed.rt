@@ -1,8 +1,9 @@
 // What passes through the channels of a stage.
 ghost use Rattle.std.specs.Prelude.{◌≡◌, ℕ, List, Some, slice_get, IfOk, OnOk};
+ghost use Rattle.exec_graph.specs.of_flume_collection.Calls.{or_none};
 ghost use Rattle.flume_value.specs.declared.value.Value.{Value};
 ghost use Rattle.shuffle_parts.specs.Outs.{all_passed, passed_in};
-ghost use Rattle.stage_results.specs.inner.Channels.{each_joined, or_none, passed_by};
+ghost use Rattle.stage_results.specs.inner.Channels.{each_joined, passed_by};
 
 use crate::joining::join_at;
 use flume_value::{Items, Pile};

@@ -1,6 +1,7 @@
 -- The outs of reduce tasks, channel by channel.
 use Rattle.std.specs.Prelude.{◌≡◌, ℕ, ◌<◌, List, [], ◌∷◌, ◌++◌, length, map, Option, Some, None, slice_get}
 use Rattle.std.specs.Option.{IsSomeAnd}
+use Rattle.exec_graph.specs.of_flume_collection.Calls.{or_none}
 use Rattle.flume_value.specs.declared.value.Value.{Value}
 use Rattle.shards.specs.Shards.{joined}
 use Rattle.exec_graph.specs.World.{World}
@@ -23,11 +24,6 @@ abbrev pub each_joined : {A : Type 0} → List (List A) → List (List A) → Li
 each_joined [] ys = ys
 each_joined (x ∷ xs) [] = x ∷ xs
 each_joined (x ∷ xs) (y ∷ ys) = (x ++ y) ∷ each_joined xs ys
-
--- a list that may be missing
-abbrev pub or_none : {A : Type 0} → Option (List A) → List A
-or_none None = []
-or_none (Some xs) = xs
 
 -- what is moved of what a map task gives each channel: nothing of one through which no values pass
 abbrev pub passed_by : List Sent → List (List Value)

@@ -1,10 +1,10 @@
 use Rattle.std.proofs.Common.{◌≡◌, ◌+◌, ◌≤◌, ◌∙◌, List, Some, ap, arith, length, refl, slice_get, subst, suc, sym}
 use Rattle.std.proofs.lemmas.Option.{slice_get_read}
 use Rattle.std.specs.Vec.Iter.{into_iter_items}
+use Rattle.exec_graph.specs.of_flume_collection.Calls.{or_none}
 use Rattle.stage_phases.specs.of_map_shard.Tables.{split}
 use Rattle.flume_value.specs.declared.value.Value.{Value}
 use Rattle.shuffle_parts.specs.Outs.{all_passed}
-use Rattle.stage_results.specs.inner.Channels.{or_none}
 use Rattle.stage_results.proofs.SideBySide.{behind_first}
 use Rattle.stage_results.proofs.Staging.{along_more, along_none, channel_outs, end_grown, end_lists, stage_outs}
 use Rattle.stage_results.proofs.lists.stage_lists.Goals as goal

@@ -1,5 +1,6 @@
 use Rattle.std.proofs.Common.{◌≡◌, ℕ, ◌+◌, ◌<◌, List, Some, slice_get}
 use Rattle.std.specs.Vec.Iter.{into_iter_items}
+use Rattle.exec_graph.specs.of_flume_collection.Calls.{or_none}
 use Rattle.exec_graph.specs.World.{World}
 use Rattle.stage_phases.specs.of_map_shard.Tables.{split}
 use Rattle.flume_value.specs.declared.value.Value.{Value}
@@ -8,7 +9,6 @@ use Rattle.stage_phases.specs.Outs.{AreReduceOuts}
 use Rattle.task_lists.specs.Outs.{AreMapOuts}
 use Rattle.task_lists.specs.Tasks.{Lists}
 use Rattle.stage_results.specs.inner.Along.{AreAlong}
-use Rattle.stage_results.specs.inner.Channels.{or_none}
 use Rattle.stage_results.proofs.lists.stage_lists.Given as goal
 
 abbrev pub invariant-loop-channel : goal.invariant-loop-channel

@@ -1,7 +1,7 @@
 use Rattle.std.proofs.Common.{◌≡◌, Some, arith, length, slice_get, subst, sym}
+use Rattle.exec_graph.specs.of_flume_collection.Calls.{or_none}
 use Rattle.shuffle_parts.specs.Outs.{passed_at}
 use Rattle.shuffle_parts.proofs.Finding.{ComesTo}
-use Rattle.stage_results.specs.inner.Channels.{or_none}
 use Rattle.stage_results.proofs.SideBySide.{passed_more, passed_none, passed_whole}
 use Rattle.stage_results.proofs.passed.passed_lists.Goals as goal
 

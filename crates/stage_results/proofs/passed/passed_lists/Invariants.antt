@@ -1,8 +1,8 @@
 use Rattle.std.proofs.Common.{◌≡◌, ℕ, List, Some, slice_get}
+use Rattle.exec_graph.specs.of_flume_collection.Calls.{or_none}
 use Rattle.flume_value.specs.declared.value.Value.{Value}
 use Rattle.shuffle_parts.specs.Outs.{all_passed, passed_at}
 use Rattle.shuffle_parts.proofs.Finding.{ComesTo}
-use Rattle.stage_results.specs.inner.Channels.{or_none}
 use Rattle.stage_results.proofs.passed.passed_lists.Given as goal
 
 abbrev pub invariant-loop-out : goal.invariant-loop-out
