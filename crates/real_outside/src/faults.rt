@@ -1,7 +1,8 @@
 // How often the outside has failed, and which answer of the system is a failure.
-ghost use Rattle.std.specs.Prelude.{◌≡◌, ◌≤◌, ◌<◌, ◌↔◌, length, Ok, IfOk, IfErr, IfSome, IsOk, OnOk, OnErr};
+ghost use Rattle.std.specs.Prelude.{◌≡◌, ◌≤◌, ◌<◌, ◌↔◌, length, take, is_ok, Ok, IfOk, IfErr, IfSome, IsErrOf, IsOk, OnOk, OnErr, if◌then◌else◌};
+ghost use Rattle.std.specs.Io.KnownBytes.{Appends};
 ghost use Rattle.std.specs.IoError.{error_kind};
-ghost use Rattle.outside.specs.Cause.{HasBeginCause, HasStrictCause, Rose};
+ghost use Rattle.outside.specs.Cause.{HasBeginCause, HasStrictCause, raised};
 ghost use Rattle.real_outside.specs.Errors as spec;
 
 use outside::{BeginFault, Failed};
@@ -25,7 +26,7 @@ impl FaultCount {
     /// Counts a failure, and names it.
     pub fn raise(&mut self) -> Failed
         ensures later { self.old.count ≤ self.new.count }
-        ensures rose { Rose self.old.count self.new.count }
+        ensures counted { self.new.count ≡ raised self.old.count }
     {
         self.count = self.count.saturating_add(1);
         Failed
@@ -35,6 +36,8 @@ impl FaultCount {
     pub fn told<T: Drop>(&mut self, answer: io::Result<T>) -> Result<T, Failed>
         ensures same { IfOk result (λ x. answer ≡ Ok x) }
         ensures ok { IsOk result ↔ IsOk answer }
+        ensures counted { self.new.count
+            ≡ (if is_ok result then self.old.count else raised self.old.count) }
         ensures cause { HasStrictCause self.old.count self.new.count result }
     {
         match answer {
@@ -50,6 +53,9 @@ impl FaultCount {
         ensures ok { IsOk result ↔ IsOk answer }
         ensures fault { IfErr result (λ fault.
             IfErr answer (λ e. fault ≡ spec.fault_of (error_kind e))) }
+        ensures failed { IsErrOf result BeginFault.Failed →
+            self.new.count ≡ raised self.old.count }
+        ensures kept { (IsErrOf result BeginFault.Failed → ⊥) → self.new.count ≡ self.old.count }
         ensures cause { HasBeginCause self.old.count self.new.count result }
     {
         match answer {
@@ -70,6 +76,8 @@ impl FaultCount {
 pub fn write_some<W: Write>(out: &mut W, piece: &[u8]) -> Option<usize>
     ensures bound { IfSome result (λ n. n ≤ length piece.now) }
     ensures some { IfSome result (λ n. 0 < length piece.now → 0 < n) }
+    ensures bytes { IfSome result (λ n.
+        Appends (W.contents out.old) (W.contents out.new) (take n piece.now)) }
 {
     match out.write(piece) {
         Ok(count) if count > 0 || piece.is_empty() => Some(count),
