@@ -26,7 +26,7 @@ level_is (Value-F.Rec (k ∷ v ∷ [])) parts e =
 level_is _ parts e = cc e
 
 -- a value that has parts is the pair of them
-pub pair_is : (p : Value) (parts : Parts) → parts_of p ≡ Some parts → p ≡ packed parts
+pair_is : (p : Value) (parts : Parts) → parts_of p ≡ Some parts → p ≡ packed parts
 pair_is p parts e =
     sym (roll-out-Value p)
     ∙ ap roll-Value (level_is (out-Value p) parts e

@@ -14,7 +14,7 @@ use Rattle.flume_value.proofs.BagLemmas.{NotBelow, Rises}
 use Rattle.bag_groups.specs.Pairs.{pair}
 use Rattle.bag_groups.proofs.PairLemmas.{Parts, packed}
 
-pub value_cmp-pairs : (k v j w : Value) → value_cmp (pair k v) (pair j w)
+value_cmp-pairs : (k v j w : Value) → value_cmp (pair k v) (pair j w)
     ≡ ordering_then (value_cmp k j) (ordering_then (value_cmp v w) Equal)
 value_cmp-pairs k v j w =
     value_cmp-step (pair k v) (pair j w)

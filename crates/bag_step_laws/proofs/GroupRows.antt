@@ -35,7 +35,7 @@ group_of-pair k vs =
 
 -- what is made of each group, where a key has the values F
 module _ {B : Type 0} (F : Value → List Value) (made : Group → List B) where
-  pub flat_map-groups : (ks : List Value)
+  flat_map-groups : (ks : List Value)
       → flat_map made (groups_in (map (λ k. pair k (value.List (F k))) ks))
       ≡ flat_map (λ k. made (k, F k)) ks
   flat_map-groups [] = refl

@@ -55,7 +55,7 @@ module _ (k : Value) (ps run rest : List Parts) (b : BeginsWith k ps run rest) w
       ap (values_of j) b.joins
       ∙ ap (λ l. bag_of (map held l)) (filter-append (of_key j) run rest)
 
-  pub values_of-run : values_of k ps ≡ map held run
+  values_of-run : values_of k ps ≡ map held run
   values_of-run =
       values_split k
       ∙ ap (λ l. bag_of (map held (filter (of_key k) run ++ l)))
@@ -71,7 +71,7 @@ module _ (k : Value) (ps run rest : List Parts) (b : BeginsWith k ps run rest) w
       ∙ bag_of-settled (map held run)
       (sorted_from (map held run) (Rises-values k run run_keyed b.rises))
 
-  pub values_of-rest : (j : Value) → (j ≡ k → ⊥) → values_of j ps ≡ values_of j rest
+  values_of-rest : (j : Value) → (j ≡ k → ⊥) → values_of j ps ≡ values_of j rest
   values_of-rest j h =
       values_split j
       ∙ ap (λ l. bag_of (map held (l ++ filter (of_key j) rest)))
@@ -133,7 +133,7 @@ module _ (k : Value) (ps run rest : List Parts) (b : BeginsWith k ps run rest)
       (Each-append P (map key rest) (map key rest') b.other c.other)))
 
   -- what is made of each key
-  pub rows-begin : (F G : Value → Value) → ((j : Value) → (j ≡ k → ⊥) → F j ≡ G j)
+  rows-begin : (F G : Value → Value) → ((j : Value) → (j ≡ k → ⊥) → F j ≡ G j)
       → map F (keys_of (ps ++ qs)) ≡ F k ∷ map G (keys_of (rest ++ rest'))
   rows-begin F G same =
       ap (map F) keys_of-begin

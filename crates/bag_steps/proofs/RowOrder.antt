@@ -72,7 +72,7 @@ module _ (given : Value → Result Value Kind) where
         | Err kind ↦ rows-above k v ks e.1
       ]
 
-  pub Rises-rows : (ks : List Value) → Climbs ks → Rises (flat_map row ks)
+  Rises-rows : (ks : List Value) → Climbs ks → Rises (flat_map row ks)
   Rises-rows [] c = tt
   Rises-rows (k ∷ ks) c =
       elim (given k) as (λ r. Rises (combined_pair k r ++ flat_map row ks)) [

@@ -75,7 +75,7 @@ module _ (limits : Limits) where
         let (s, h, w) = expression_filled z (on r) in
         (on s, _, g.pick u v w)
 
-    pub fields_filled : {ts us : List Token} {s : Parts Expr} → g.AreFields limits ts us s
+    fields_filled : {ts us : List Token} {s : Parts Expr} → g.AreFields limits ts us s
         → (p : Plan) → FilledParts (λ xs ys r. g.AreFields limits xs ys r) p ts us s
     fields_filled (g.first {w} {x} {a} i z) p =
         let (y, f) = word_filled w.kind (p 0) x i in
@@ -92,7 +92,7 @@ module _ (limits : Limits) where
           g.next j f v,
         )
 
-    pub members_filled : {a : ℕ} {ts us : List Token} {es : List Expr}
+    members_filled : {a : ℕ} {ts us : List Token} {es : List Expr}
         → g.AreMembers limits ts us es a → (p : Plan)
         → FilledList (λ xs ys fs. g.AreMembers limits xs ys fs a) p ts us es
     members_filled (g.one x) p = let (q, e, y) = expression_filled x p in

@@ -22,7 +22,7 @@ module _ (limits : Limits) where
       (g.record_ h (subst (λ k. k ≤ limits.fields) (sym e) l))
 
   mutual
-    pub type_filled : {ts us : List Token} {t : Tree} {a : ℕ} → g.IsType limits ts us t a
+    type_filled : {ts us : List Token} {t : Tree} {a : ℕ} → g.IsType limits ts us t a
         → (p : Plan) → Filled (λ xs ys x. g.IsType limits xs ys x a) p ts us
     type_filled g.int p = (on p, _, g.int)
     type_filled g.bool p = (on p, _, g.bool)
@@ -41,7 +41,7 @@ module _ (limits : Limits) where
         let (q, r, d, n, y) = field_types_filled f (on p) in
         (on q, type_tree.Record r.names r.parts, record_like r s d n l y)
 
-    pub field_types_filled : {ts us : List Token} {s : Parts Tree}
+    field_types_filled : {ts us : List Token} {s : Parts Tree}
         → g.AreFieldTypes limits ts us s → (p : Plan)
         → FilledParts (λ xs ys r. g.AreFieldTypes limits xs ys r) p ts us s
     field_types_filled (g.first {w} {x} {a} e z) p =

@@ -42,7 +42,7 @@ module _ (known : Named Ty) (argument : List ℕ) (takes : Ty) (gives : List Ty)
     pub same : (outputs : ℕ) (x : Value)
         → means known outputs argument takes body x ≡ slots_mean outputs ks x
 
-  pub function_is : (ks : List Stmt) → slots ≡ Ok ks → IsFunction ks
+  function_is : (ks : List Stmt) → slots ≡ Ok ks → IsFunction ks
   function_is ks e =
       let h = subst IsWhole e (right_block known gives body start refl) in
       record {

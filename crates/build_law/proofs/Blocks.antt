@@ -222,7 +222,7 @@ module _ (script : Script) (gives : ℕ → Place) where
         (subst (λ xs. Contains xs x) (flat_map-append f here rest) is))
 
     -- nodes that add nothing
-    pub no_block : (source n : ℕ) (ws : List (Option Built))
+    no_block : (source n : ℕ) (ws : List (Option Built))
         → ((t : ℕ) (it : Built) → get_or ws t None ≡ Some it
         → flat_map f (block source n ws t it) ≡ [])
         → flat_map f (all_nodes source n ws) ≡ []

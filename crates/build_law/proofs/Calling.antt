@@ -52,7 +52,7 @@ if_some false own x h = cc
 module _ (script : Script) where
   -- ---- what is needed, as it is made
 
-  pub how_needed : (j : ℕ) (how : Made) → get_or (wanted script) j None ≡ Some how
+  how_needed : (j : ℕ) (how : Made) → get_or (wanted script) j None ≡ Some how
       → needed_at script j ≡ true
   how_needed j how found = ap is_some found
 

@@ -13,7 +13,7 @@ use Rattle.exec_graph.specs.declared.graph.Graph.{Graph}
 use Rattle.exec_graph.specs.declared.graph.Place.{Place}
 use Rattle.exec_graph.specs.declared.step.Does.{Does}
 use Rattle.graph_build.specs.Calls.{emitted_at, names_needed, needed_from, other_names}
-use Rattle.graph_build.specs.Nodes.{barrier, before_last, call_branch, entry, first_of, groups, last_step, made_nodes, one_step, step}
+use Rattle.graph_build.specs.Nodes.{barrier, before_last, call_branch, entry, first_of, groups, made_nodes, one_step}
 use Rattle.combine_table.specs.declared.comb.Comb.{Comb}
 use Rattle.combine_table.specs.declared.comb.Comb.TheVariants as by
 use Rattle.exec_graph.specs.declared.graph.Act.TheVariants.{Singleton}
@@ -25,6 +25,7 @@ use Rattle.graph_build.specs.of_script_program.declared.made.Made.TheVariants as
 use Rattle.graph_build.specs.of_script_program.Script.{Script}
 use Rattle.build_law.proofs.Outputs.{buds, in_order}
 use Rattle.build_law.proofs.Reading.{any_behind, any_uses, or_left, or_right, same_self}
+use Rattle.build_law.proofs.Steps.{last_step, step}
 
 -- a step has its first output alone
 first_only : (j : ℕ) (b : Bool) → (0 == j) ≡ b → (b || (false || false)) ≡ true → 0 ≡ j

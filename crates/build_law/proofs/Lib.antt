@@ -1,3 +1,4 @@
+pub mod Steps
 pub mod Passing
 pub mod Counting
 pub mod Topping

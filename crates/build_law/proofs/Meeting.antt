@@ -15,7 +15,7 @@ use Rattle.exec_graph.specs.declared.graph.Place.{Place}
 use Rattle.exec_graph.specs.declared.step.Does.TheVariants as does
 use Rattle.exec_graph.proofs.Barriers.{barrier_operate, barrier_side_input}
 use Rattle.graph_build.specs.Calls.{emitted_at, names_needed, needed_from, other_names}
-use Rattle.graph_build.specs.Nodes.{barrier, call_branch, entry, first_of, groups, last_step, made_nodes, source_number, step}
+use Rattle.graph_build.specs.Nodes.{barrier, call_branch, entry, first_of, groups, made_nodes, source_number}
 use Rattle.graph_build.specs.of_script_program.Needed.{operands}
 use Rattle.graph_build.specs.of_script_program.declared.made.Made.{Made}
 use Rattle.graph_build.specs.of_script_program.declared.made.Made.TheVariants as made
@@ -31,6 +31,7 @@ use Rattle.build_law.proofs.Sourcing.{next_wanted, wanted_source}
 use Rattle.build_law.proofs.Topping.{top_is}
 use Rattle.build_law.proofs.Values.{inner_rows, ones, tagged, zeros, greatest_of, whole_of}
 use Rattle.build_law.proofs.Wholes.{whole_is}
+use Rattle.build_law.proofs.Steps.{last_step, step}
 
 -- a bag and a set
 pub record IsSettled (c : Collection) : Type 0 where
@@ -190,8 +191,8 @@ module _ (script : Script) (w : World) (at : ℕ → Collection) (m : Place → 
         let spread = only_label origin true does.Spread in
         let third : m (first_of (n + 2)) ≡ greatest_of w origin many (at input) = fact 2 0 in
         let fourth : m (first_of (n + 3)) ≡ at origin = fact 3 0 in
-        combined_holds input (by.Top many) (last_step origin does.Spread (first_of (n + 2))) read
-        (at_first (fact 0 0)) (fact 1 0) third (
+        combined_holds input (by.Top many) (last_step origin does.Spread (first_of (n + 2)))
+        read (at_first (fact 0 0)) (fact 1 0) third (
           fourth ∙ is
               ∙ sym (top_is w origin many (at input) (settled input).set (settled input).bag)
               ∙ ap (through w spread) (sym third),

@@ -26,7 +26,7 @@ use Rattle.build_law.proofs.Calling.{needed_as, slice_seam, wanted_here}
 pub some_same : {A : Type 0} (x y : A) → Some x ≡ Some y → x ≡ y
 some_same x y h = cc
 
-pub some_and : {A : Type 0} (P : A → Type 0) (o : Option A) → IsSomeAnd o P
+some_and : {A : Type 0} (P : A → Type 0) (o : Option A) → IsSomeAnd o P
     → (x : A) × (o ≡ Some x) × P x
 some_and P None h = absurd h
 some_and P (Some x) h = (x, refl, h)
@@ -34,7 +34,7 @@ some_and P (Some x) h = (x, refl, h)
 -- ---- names of a call
 
 -- the output of a call that a name is
-pub name_emission : (source f k : ℕ) (how : Made) → IsNameOf source f k how
+name_emission : (source f k : ℕ) (how : Made) → IsNameOf source f k how
     → emitted_as how ≡ Some (emission f k)
 name_emission source f k (made.Do input g o) h = ap emitted_as h
 name_emission source f k (made.Saved is_object call) h = h

@@ -85,7 +85,7 @@ module _ (es : List Entry) (script : Script) (gives : ℕ → Place) (origin sou
   operate_objects f [] some h = absurd (omega arith)
   operate_objects f (j ∷ js) some h = (all_true (is_object_at es) gives (j ∷ js) h, tt)
 
-  pub block_objects : (mk : Made) → AreAt (made_nodes script gives origin source n mk)
+  block_objects : (mk : Made) → AreAt (made_nodes script gives origin source n mk)
       → ReadsObjects mk
       → Each (λ e. has_objects es e.node ≡ true) (made_nodes script gives origin source n mk)
   block_objects (made.Count input) at h = (refl, (refl, (refl, tt)))

@@ -8,12 +8,13 @@ use Rattle.flume_collection.proofs.Members.{head_or_tail}
 use Rattle.exec_graph.specs.Readers.{among, same_place, uses}
 use Rattle.exec_graph.specs.declared.graph.Entry.{Entry}
 use Rattle.exec_graph.specs.declared.graph.Place.{Place}
-use Rattle.graph_build.specs.Nodes.{made_nodes, step}
+use Rattle.graph_build.specs.Nodes.{made_nodes}
 use Rattle.exec_graph.specs.declared.step.Does.TheVariants as does
 use Rattle.graph_build.specs.of_script_program.Needed.{operands}
 use Rattle.graph_build.specs.of_script_program.declared.made.Made.{Made}
 use Rattle.graph_build.specs.of_script_program.declared.made.Made.TheVariants as made
 use Rattle.graph_build.specs.of_script_program.Script.{Script}
+use Rattle.build_law.proofs.Steps.{step}
 
 -- ---- tests of lists
 

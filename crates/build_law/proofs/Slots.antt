@@ -253,7 +253,7 @@ module _ (script : Script) (well : IsWellFormed script) where
 
   -- ---- what is built of a call
 
-  pub call_node : (t number source f o : ℕ)
+  call_node : (t number source f o : ℕ)
       → get_or (built script) t None ≡ Some (built_of number (made.Do source f o))
       → IsCallNode t number (made.Do source f o)
   call_node t number source f o found =

@@ -275,7 +275,7 @@ module _ (script : Script) where
       (is_needed script (length table)) (length table, entry)
       (filter (λ it. is_needed script it.0) (numbered (suc (length table)) nodes))))
 
-  pub lists_counted : (lists : List (List Value)) (all : List (Option Collection))
+  lists_counted : (lists : List (List Value)) (all : List (Option Collection))
       → meaning script lists ≡ Some all → length lists ≡ length (source_kinds script)
   lists_counted lists all means =
       sym (order_size script lists)

@@ -116,7 +116,7 @@ module _ (script : Script) (well : IsWellFormed script) where
         let both = length-append own rest in
         ap before_wanted e ∙ others ∙ omega (arith, step, both)
 
-    pub names_wanted : (k : ℕ) → k ≤ many
+    names_wanted : (k : ℕ) → k ≤ many
         → before_wanted (first + k)
         ≡ before_wanted first + length (kept_from script first k)
     names_wanted k low =

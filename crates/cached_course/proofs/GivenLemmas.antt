@@ -88,10 +88,10 @@ module _ (script : Script) (asked : List (ℕ × List ℕ)) (looked : List (Opti
     (program : later ≡ with_saved apart.numbers.items script)
     (are : numbers ≡ input_numbers script)
     (given : lists ≡ given_lists later numbers rows apart.members.items) where
-  pub script_given : later ≡ later_of script (found_of asked looked)
+  script_given : later ≡ later_of script (found_of asked looked)
   script_given = program ∙ ap (λ l. with_saved l script) found.numbers
 
-  pub lists_given : lists ≡ given_to script (found_of asked looked) rows
+  lists_given : lists ≡ given_to script (found_of asked looked) rows
   lists_given = given ∙ (λ i. given_lists (script_given i) (are i) rows (found.members i))
 
   pub inputs_given : AreInputs (later_of script (found_of asked looked))

@@ -260,7 +260,7 @@ module _ (laws : Laws) (words : List (List ℕ)) (told : List File) (cache later
         (each_first (IsRead script.outputs) it.asked reads)))
         held)
 
-    pub left_sound : Each (λ (x : ℕ × List ℕ). IsHeld (value_kept script (found it) table x.0))
+    left_sound : Each (λ (x : ℕ × List ℕ). IsHeld (value_kept script (found it) table x.0))
         (not_found it.asked it.looked)
         → HasKept (entries_kept script it.asked it.looked table) cache later
         → TellsSoundEntries later

@@ -43,7 +43,7 @@ module _ (told : Option (List File)) (script : Script) (asked : List (ℕ × Lis
   abbrev pub lists_here : List (List Value)
   lists_here = given_to script found_here rows
 
-  pub means_here : (table : CollectionTable) → meaning given.program.script given.lists ≡ Some table
+  means_here : (table : CollectionTable) → meaning given.program.script given.lists ≡ Some table
       → meaning script_here lists_here ≡ Some table
   means_here table means = (λ i. meaning (sym is.program i) (sym is.lists i)) ∙ means
 

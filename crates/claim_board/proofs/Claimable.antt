@@ -14,7 +14,7 @@ use Rattle.std.proofs.lemmas.List.Sums.{sum_by_push}
 use Rattle.claim_board.proofs.Totals.{one_if_ne, times-cons}
 
 module _ (b : Board) (p : PassState) (d : Drawn) (h : IsOpenDraw b p d) where
-  pub claimable_after_draw : (most m n : ℕ) → IsOpenDraw b (drawn most p m n) d
+  claimable_after_draw : (most m n : ℕ) → IsOpenDraw b (drawn most p m n) d
   claimable_after_draw most m n =
       let c = h.claimable in
       let more = sum_by_push (λ (x : ℕ). one_if (eqb x d.number)) p.draws n in
@@ -25,14 +25,14 @@ module _ (b : Board) (p : PassState) (d : Drawn) (h : IsOpenDraw b p d) where
             h.attempt;
       }
 
-  pub claimable_after_look : (m t x : ℕ) → IsOpenDraw b (looked p m t x) d
+  claimable_after_look : (m t x : ℕ) → IsOpenDraw b (looked p m t x) d
   claimable_after_look m t x = record {
     claimable = h.claimable;
     task = h.task;
     attempt = h.attempt;
   }
 
-  pub claimable_after_win : (m n : ℕ) → n ≢ d.number → IsOpenDraw b (winning p m n) d
+  claimable_after_win : (m n : ℕ) → n ≢ d.number → IsOpenDraw b (winning p m n) d
   claimable_after_win m n other =
       let c = h.claimable in
       let more = sum_by_push (λ (x : ℕ). one_if (eqb x d.number)) p.won n in
@@ -44,7 +44,7 @@ module _ (b : Board) (p : PassState) (d : Drawn) (h : IsOpenDraw b p d) where
             h.attempt;
       }
 
-  pub claimable_after_loss : (m n x : ℕ) → n ≢ d.number → IsOpenDraw b (losing p m n x) d
+  claimable_after_loss : (m n x : ℕ) → n ≢ d.number → IsOpenDraw b (losing p m n x) d
   claimable_after_loss m n x other =
       let c = h.claimable in
       let more = sum_by_push (λ (y : ℕ × ℕ). one_if (eqb y.0 d.number)) p.lost (n, x) in

@@ -22,7 +22,7 @@ stay_set words t a empty u full =
     get_or-set_other words t u a 0 (λ e. full (ap (λ (k : ℕ). get_or words k 0) e ∙ empty))
 
 module _ (tasks tries : ℕ) where
-  pub pass_stays : (old new : List ℕ) (v : PassState) → Stay old new → IsGoodPass tasks tries old v
+  pass_stays : (old new : List ℕ) (v : PassState) → Stay old new → IsGoodPass tasks tries old v
       → IsGoodPass tasks tries new v
   pass_stays old new v stay h = record {
     ends = h.ends;
@@ -44,7 +44,7 @@ module _ (tasks tries : ℕ) where
     own = h.own;
   }
 
-  pub draw_pass : (words : List ℕ) (v : PassState) (n d : ℕ) → v.ended ≡ false
+  draw_pass : (words : List ℕ) (v : PassState) (n d : ℕ) → v.ended ≡ false
       → IsGoodPass tasks tries words v → IsGoodPass tasks tries words (drawn (tasks * tries) v n d)
   draw_pass words v n d may h = record {
     ends = (let p = sum_by_push (λ (x : ℕ). one_if (leb (tasks * tries) x)) v.draws d in
@@ -56,7 +56,7 @@ module _ (tasks tries : ℕ) where
         omega arith;
   }
 
-  pub look_pass : (words : List ℕ) (v : PassState) (n t : ℕ) → t < tasks
+  look_pass : (words : List ℕ) (v : PassState) (n t : ℕ) → t < tasks
       → IsGoodPass tasks tries words v
       → IsGoodPass tasks tries words (looked v n t (get_or words t 0))
   look_pass words v n t small h = record {
@@ -68,7 +68,7 @@ module _ (tasks tries : ℕ) where
     own = h.own;
   }
 
-  pub win_pass : (words : List ℕ) (v : PassState) (n d : ℕ) → IsOpen tasks tries v d
+  win_pass : (words : List ℕ) (v : PassState) (n d : ℕ) → IsOpen tasks tries v d
       → get_or words (d % tasks) 0 ≡ d / tasks + 1 → IsGoodPass tasks tries words v
       → IsGoodPass tasks tries words (winning v n d)
   win_pass words v n d may is h = record {
@@ -85,7 +85,7 @@ module _ (tasks tries : ℕ) where
         (λ n. omega arith) in omega arith;
   }
 
-  pub lose_pass : (words : List ℕ) (v : PassState) (n d : ℕ) → IsOpen tasks tries v d
+  lose_pass : (words : List ℕ) (v : PassState) (n d : ℕ) → IsOpen tasks tries v d
       → get_or words (d % tasks) 0 ≢ 0 → IsGoodPass tasks tries words v
       → IsGoodPass tasks tries words (losing v n d (get_or words (d % tasks) 0))
   lose_pass words v n d may full h = record {
@@ -103,7 +103,7 @@ module _ (tasks tries : ℕ) where
         (λ n. omega arith) in omega arith;
   }
 
-  pub draw_good : (s : BoardState) (p : ℕ) (v : PassState) → IsGood tasks tries s
+  draw_good : (s : BoardState) (p : ℕ) (v : PassState) → IsGood tasks tries s
       → get_elem? s.passes p
       ≡ some v → v.ended ≡ false
       → IsGood tasks tries record {
@@ -142,7 +142,7 @@ module _ (tasks tries : ℕ) where
       }
 
   -- a step that changes neither the draws nor the won ones, nor a word
-  pub still_good : (s : BoardState) (p : ℕ) (v w : PassState) → IsGood tasks tries s
+  still_good : (s : BoardState) (p : ℕ) (v w : PassState) → IsGood tasks tries s
       → get_elem? s.passes p ≡ some v → w.draws ≡ v.draws → w.won ≡ v.won
       → IsGoodPass tasks tries s.words w
       → IsInOrder tasks tries record { next = s.next; words = s.words; passes = set s.passes p w }
@@ -163,7 +163,7 @@ module _ (tasks tries : ℕ) where
     order = order;
   }
 
-  pub win_good : (s : BoardState) (p : ℕ) (v : PassState) (d : ℕ) → 0 < tasks → IsGood tasks tries s
+  win_good : (s : BoardState) (p : ℕ) (v : PassState) (d : ℕ) → 0 < tasks → IsGood tasks tries s
       → get_elem? s.passes p ≡ some v → IsOpen tasks tries v d → get_or s.words (d % tasks) 0 ≡ 0
       → IsGood tasks tries record {
         next = s.next;

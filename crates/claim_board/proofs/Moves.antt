@@ -242,7 +242,7 @@ module _ (k : Size) (slots id : ℕ) (me : Seated)
       (looks me.0.size (pass_in me.0) slots id t
       (subst (λ (j : Size). t < j.tasks) (sym of) small))))
 
-  pub commits_as : (d : ℕ) → IsOpen k.tasks k.tries (pass_in me.0) d → 0 < k.tasks
+  commits_as : (d : ℕ) → IsOpen k.tasks k.tries (pass_in me.0) d → 0 < k.tasks
       → Allows (Rule k) slots id me (d % k.tasks + 1) (λ n. either (eqb n 0) (d / k.tasks + 1) n)
       (commit_tells (step slots (d % k.tasks + 1) 0 (d / k.tasks + 1) none) me)
   commits_as d may some_task = subst

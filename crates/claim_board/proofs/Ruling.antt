@@ -21,7 +21,7 @@ Tab = TableState (Unit {0}) View
 
 -- where an element stands after a list that comes first
 module _ {A : Type 0} where
-  pub get_behind : (xs ys : List A) (k : ℕ) (a : A) → get_elem? ys k ≡ some a
+  get_behind : (xs ys : List A) (k : ℕ) (a : A) → get_elem? ys k ≡ some a
       → get_elem? (xs ++ ys) (length xs + k) ≡ some a
   get_behind [] ys k a e = subst (λ (j : ℕ). get_elem? ys j ≡ some a) (omega arith) e
   get_behind (x ∷ xs) ys k a e =

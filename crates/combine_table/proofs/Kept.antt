@@ -34,12 +34,12 @@ module _ (kept : List Value → List Value) (k : IsKept kept) where
   bag_of-kept xs = bag_of-settled (kept (bag_of xs))
       (sorted_from (kept (bag_of xs)) (k.rises (bag_of xs) (Rises-bag_of xs)))
 
-  pub kept-append_right : (xs ys : List Value) → kept (bag_of (xs ++ kept (bag_of ys)))
+  kept-append_right : (xs ys : List Value) → kept (bag_of (xs ++ kept (bag_of ys)))
       ≡ kept (bag_of (xs ++ ys))
   kept-append_right xs ys = kept-append_same xs (kept (bag_of ys)) ys
       (ap kept (bag_of-kept ys) ∙ k.twice (bag_of ys))
 
-  pub kept-append_left : (xs ys : List Value) → kept (bag_of (kept (bag_of xs) ++ ys))
+  kept-append_left : (xs ys : List Value) → kept (bag_of (kept (bag_of xs) ++ ys))
       ≡ kept (bag_of (xs ++ ys))
   kept-append_left xs ys =
       ap kept (bag_of-either_order ys (kept (bag_of xs))) ∙ kept-append_right ys xs

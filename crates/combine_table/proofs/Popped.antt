@@ -119,7 +119,7 @@ left_greatest ls ls' ys x y r u up e some h =
     bag_of-either_order ys ls ∙ right_greatest ys ls ls' y x r u up e some h
     ∙ ap (λ b. b ++ option_to_list r) (bag_of-either_order ls' ys)
 
-pub popped-IsSorted : (xs ys : List Value) (r : Option Value) → IsSorted value_cmp xs → xs
+popped-IsSorted : (xs ys : List Value) (r : Option Value) → IsSorted value_cmp xs → xs
     ≡ ys ++ option_to_list r → IsSorted value_cmp ys
 popped-IsSorted xs ys r up e =
     sorted_from ys (Rises-left ys (option_to_list r) (subst Rises e (rises_from xs up)))

@@ -79,7 +79,7 @@ module _ {X : Type 0} (p q : X → Bool) (a : X → ℕ) where
       ≡ one_if (p x && (q x && eqb (a x) n)) + just p q a n xs
   just-cons n x xs = sum_by-cons (λ (y : X). one_if (p y && (q y && eqb (a y) n))) x xs
 
-  pub first_step : (n : ℕ) (xs : List X)
+  first_step : (n : ℕ) (xs : List X)
       → first p q a n xs + just p q a (n + 1) xs ≤ first p q a (n + 1) xs
   first_step n [] = omega arith
   first_step n (x ∷ xs) =

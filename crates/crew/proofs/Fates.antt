@@ -99,7 +99,7 @@ module _ (tasks : ℕ) (s : Settings) (places : ℕ → ℕ) where
       WentDown (down (at_place (drawn_attempt tasks s t.draw) h.place) h.downs)
 
   -- each draw of a pass that was fresh has a fate
-  pub fates_of : (p q : PassState) (a b : Account) (ts : List Turn) → p.draws ≡ [] → p.seen ≡ []
+  fates_of : (p q : PassState) (a b : Account) (ts : List Turn) → p.draws ≡ [] → p.seen ≡ []
       → TookTurns tasks s places p q a b ts → All (Cause tasks s places q) ts
       → All (λ d. d < limit tasks s.tries → Fate tasks s (downed ts) q d) q.draws
   fates_of p q a b ts no_draw no_look w causes =
@@ -160,7 +160,7 @@ module _ (tasks : ℕ) (s : Settings) (places : ℕ → ℕ) where
       (downed ts) (all_stand ts (All-tail A t ts h)))
 
   -- where its host tells, it has refused a place of each down
-  pub downs_told : (p q : PassState) (a b : Account) (ts : List Turn)
+  downs_told : (p q : PassState) (a b : Account) (ts : List Turn)
       → TookTurns tasks s places p q a b ts
       → All (λ d. RefusedPlace a b (drawn_attempt tasks s d)) (downed ts)
   downs_told p q a b ts w =

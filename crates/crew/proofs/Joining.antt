@@ -107,7 +107,7 @@ module _ (tasks : ℕ) (s : Settings) {O : Type 0} (is_value : ℕ → O → Typ
   abbrev IsKeptBy : List Account → List Account → KeptOut O → Type 0
   IsKeptBy us vs k = IsOut is_value tasks s k × SomeHost (λ a b. RanOn places s a b k) us vs
 
-  pub phased_both : (ps qs : List Pass) (us vs xs ys : List Account) (ks ls : List (KeptOut O))
+  phased_both : (ps qs : List Pass) (us vs xs ys : List Account) (ks ls : List (KeptOut O))
       → AllZip Grew us vs → Phased tasks s is_value places ps us vs ks
       → Phased tasks s is_value places qs xs ys ls
       → Phased tasks s is_value places (ps ++ qs) (us ++ xs) (vs ++ ys) (ks ++ ls)
@@ -142,7 +142,7 @@ module _ (tasks : ℕ) (s : Settings) {O : Type 0} (is_value : ℕ → O → Typ
   phased_kept first last (Err e) ps qs us vs xs ys grew h k is = tt
 
   -- one worker, with a fresh pass
-  pub phased_one : (old : PassState) (q : Pass) (a b : Account) (ks : List (KeptOut O))
+  phased_one : (old : PassState) (q : Pass) (a b : Account) (ks : List (KeptOut O))
       → IsFresh old → Worked tasks s is_value places old q.state a b ks
       → q.state.ended ≡ true
       → Phased tasks s is_value places (q ∷ []) (a ∷ []) (b ∷ []) ks

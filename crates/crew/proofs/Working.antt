@@ -70,7 +70,7 @@ filter_out most d xs late =
     go false is = is
 
 module _ (tasks : ℕ) (s : Settings) (places : ℕ → ℕ) where
-  pub took_not : (old : PassState) (a : Account) → TookTurns tasks s places old old a a []
+  took_not : (old : PassState) (a : Account) → TookTurns tasks s places old old a a []
   took_not old a = record {
     gained = [];
     draws = sym (append-nil old.draws);
@@ -116,7 +116,7 @@ module _ (tasks : ℕ) (s : Settings) (places : ℕ → ℕ) where
       (only_turns old mid a b ts w none) here)
 
   -- one turn more
-  pub took_more : (old mid next new : PassState) (a b c : Account) (ts : List Turn) (t : Turn)
+  took_more : (old mid next new : PassState) (a b c : Account) (ts : List Turn) (t : Turn)
       (m d : ℕ) (w : TookTurns tasks s places old mid a b ts) → w.past ≡ [] → AreBefore m mid
       → d < limit tasks s.tries → next ≡ drawn (limit tasks s.tries) mid m d
       → TookTurn tasks s places d next new b c t
@@ -178,7 +178,7 @@ module _ (tasks : ℕ) (s : Settings) (places : ℕ → ℕ) where
   }
 
   -- a cause stays one after later steps of the pass
-  pub cause_later : (p q : PassState) (t : Turn) (w : List ℕ) (l : List (ℕ × ℕ))
+  cause_later : (p q : PassState) (t : Turn) (w : List ℕ) (l : List (ℕ × ℕ))
       → q.won ≡ p.won ++ w → q.lost ≡ p.lost ++ l
       → Cause tasks s places p t → Cause tasks s places q t
   cause_later p q t w l ew el (Taken full passed downs commit) = Taken full passed downs commit

@@ -186,7 +186,7 @@ module _ {script : Script} {inputs left : List (List Value)} {number : ℕ}
 
   -- ---- collections together
 
-  pub flatten_read : (sources : List ℕ)
+  flatten_read : (sources : List ℕ)
       → (here : Here script inputs left number kept traps (made.Flatten sources))
       → (source : ℕ)
       → Contains sources source → Source kept here.stands.table source here.node.entry.1.type

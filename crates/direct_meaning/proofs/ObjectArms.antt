@@ -81,7 +81,7 @@ zip_each R (m ∷ numbers) (t ∷ types) zipped n is =
 module _ {script : Script} {inputs left : List (List Value)} {number : ℕ}
     {kept : List (Option Kept)} {traps : List Trap} where
   -- behind a node of which a step comes to what is kept
-  pub comes_so : (m : Made) (here : Here script inputs left number kept traps m)
+  comes_so : (m : Made) (here : Here script inputs left number kept traps m)
       (given : Option Collection) → made_as script number m left here.stands.table ≡ given
       → (result : Kept) (after : List Trap) → Comes here.stands.table given result traps after
       → Stands script inputs (number + 1) (inputs_behind m left) (kept ++ Some result ∷ []) after

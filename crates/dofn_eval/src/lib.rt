@@ -2,10 +2,11 @@
 //!
 //! A function's body is a `Block` of `Stmt`s over `Expr`s, in which every name is a slot: a
 //! variable is its place among the values in scope, the newest first, and a field is its place
-//! in its record. `means` says what a body emits to each output on an argument, form by form, or
-//! why it traps. `Fun` keeps in its type that its body is well typed, at some types of its argument
-//! and its outputs. So a call of one on a value of its argument's type meets no operand of another
-//! type, and what it emits to an output has that output's type. dofn_calls carries calls out.
+//! in its record. `slots_mean` says what a body emits to each output on an argument, form by form,
+//! or why it traps. `Fun` keeps in its type that its body is well typed, at some types of its
+//! argument and its outputs. So a call of one on a value of its argument's type meets no operand of
+//! another type, and what it emits to an output has that output's type. dofn_calls carries calls
+//! out.
 #![tactic(auto)]
 
 mod expr;

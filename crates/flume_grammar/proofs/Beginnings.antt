@@ -92,7 +92,7 @@ module _ (limits : Limits) (fair : IsFair limits) where
         (m.always [] tt),
   )
 
-  pub swallowed : (ts : List Token) → Swallows (p ts) → IsBeginning limits ts
+  swallowed : (ts : List Token) → Swallows (p ts) → IsBeginning limits ts
   swallowed ts h = by (p ts) refl h
     where
       nil : (us : List Token) → us ++ [] ≡ us

@@ -29,7 +29,7 @@ use Rattle.flume_grammar.proofs.Comes.{Comes, comes_at, comes_end, comes_on, or_
 
 module _ (limits : Limits) (fair : IsFair limits) where
   mutual
-    pub complete_expr : {r d : ℕ} {ts us : List Token} {e : Expr} → IsExpr limits r ts us e d
+    complete_expr : {r d : ℕ} {ts us : List Token} {e : Expr} → IsExpr limits r ts us e d
         → (m least : ℕ) → d ≤ suc m → least ≤ r → least ≤ 7 → Fits limits fair r us → Comes limits
         fair m least ts us e d r
     complete_expr (g.above {r} {a} {ts} {us} {e} x) m least h l k f =

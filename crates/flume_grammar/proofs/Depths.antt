@@ -37,7 +37,7 @@ Each {A} P p = (ts : List Token) (a : A) (us : List Token) → p ts ≡ Ok (a, u
 pub each_give : {A : Type 0} (P : A → Type 0) (a : A) → P a → Each P (give a)
 each_give P a h ts b us e = subst P (gave a b ts us e).0 h
 
-pub each_bind : {A B : Type 0} (V : A → Type 0) (P : B → Type 0) (p : List Token → Out A) (f : A
+each_bind : {A B : Type 0} (V : A → Type 0) (P : B → Type 0) (p : List Token → Out A) (f : A
     → List Token → Out B) → Each V p → ((a : A) → V a → Each P (f a)) → Each P (λ ts. bind (p ts) f)
 each_bind V P p f h g ts b us e = let x = bound (p ts) f b us e in
     g x.got (h ts x.got x.rest x.part) x.rest b us x.after
@@ -46,7 +46,7 @@ pub each_after : {A B : Type 0} (P : B → Type 0) (p : List Token → Out A) (f
     → Out B) → ((a : A) → Each P (f a)) → Each P (λ ts. bind (p ts) f)
 each_after P p f g ts b us e = let x = bound (p ts) f b us e in g x.got x.rest b us x.after
 
-pub each_loop : {A : Type 0} (more : A → List Token → Bool) (part : A → List Token → Out A) (P : A
+each_loop : {A : Type 0} (more : A → List Token → Bool) (part : A → List Token → Out A) (P : A
     → Type 0) → ((a : A) → P a → Each P (part a)) → (a : A) → P a → Each P (all_of more part a)
 each_loop more part P h a i ts b us q =
     kept_all more part (λ x vs. P x) (λ x vs y ws m k r. h x k vs y ws r) a ts b us i q
@@ -59,13 +59,13 @@ module _ (limits : Limits) (fair : IsFair limits) where
   -- ---- types
 
   module _ (n : ℕ) (inner : t.Inner) (h : Each (λ x. x.1 ≤ n) inner) where
-    pub d_list : Each (λ x. x.1 ≤ suc n) (t.list_type inner)
+    d_list : Each (λ x. x.1 ≤ suc n) (t.list_type inner)
     d_list =
         each_after _ (one _) _
         (λ _. each_bind _ _ inner _ h
         (λ x i. each_after _ (one _) _ (λ _. each_give _ _ (omega (arith, i)))))
 
-    pub d_pair : Each (λ x. x.2 ≤ suc n) (t.pair_type inner)
+    d_pair : Each (λ x. x.2 ≤ suc n) (t.pair_type inner)
     d_pair =
         each_after _ (one _) _
         (λ _. each_bind _ _ inner _ h
@@ -73,13 +73,13 @@ module _ (limits : Limits) (fair : IsFair limits) where
         (λ _. each_bind _ _ inner _ h
         (λ y j. each_after _ (one _) _ (λ _. each_give _ _ (omega (arith, i, j)))))))
 
-    pub d_field : (p : Parts Tree) → p.depth ≤ n → Each (λ q. q.depth ≤ n) (t.field_type inner p)
+    d_field : (p : Parts Tree) → p.depth ≤ n → Each (λ q. q.depth ≤ n) (t.field_type inner p)
     d_field p k =
         each_after _ (one _) _
         (λ w. each_after _ (one _) _
         (λ _. each_bind _ _ inner _ h (λ x i. each_give _ _ (omega (arith, i, k)))))
 
-    pub d_record : Each (λ x. x.1 ≤ suc n) (t.record_type limits inner)
+    d_record : Each (λ x. x.1 ≤ suc n) (t.record_type limits inner)
     d_record =
         each_bind _ _ (t.field_type inner none) _ (d_field none (omega arith)) (λ p i.
         each_bind _ _ (all_of t.at_comma (t.next_field_type limits inner) p) _
@@ -87,7 +87,7 @@ module _ (limits : Limits) (fair : IsFair limits) where
         (λ q k. each_after _ (one _) _ (λ _. d_field q k)) p i) (λ q j.
         each_after _ (one _) _ (λ _. each_give _ _ (omega (arith, j)))))
 
-    pub d_type : (s : TypeStart) → Each (λ x. x.1 ≤ suc n) (t.after_start limits inner s)
+    d_type : (s : TypeStart) → Each (λ x. x.1 ≤ suc n) (t.after_start limits inner s)
     d_type (typed.Leaf x) = each_give _ _ (omega arith)
     d_type typed.List = d_list
     d_type typed.Either = each_bind _ _ (t.pair_type inner) _ d_pair (λ x i. each_give _ _ i)
@@ -107,7 +107,7 @@ module _ (limits : Limits) (fair : IsFair limits) where
         → Each (Deep limit) (give (e.so_far r x d))
     so limit r x d i j = each_give (Deep limit) (e.so_far r x d) (i, j)
 
-    pub d_extend : (x : SoFar) → x.depth ≤ n → (s : Suffix)
+    d_extend : (x : SoFar) → x.depth ≤ n → (s : Suffix)
         → Each (Deep (suc n)) (e.extend inner x s)
     d_extend x k suffix.Field =
         each_after _ (one _) _ (λ w. so (suc n) _ _ _ (omega arith) (omega (arith, k)))
@@ -121,7 +121,7 @@ module _ (limits : Limits) (fair : IsFair limits) where
     not_deep [] us y q = cc
     not_deep (u ∷ ts) us y q = cc
 
-    pub d_with : (x : SoFar) → Deep (suc n) x → (o : Option Suffix)
+    d_with : (x : SoFar) → Deep (suc n) x → (o : Option Suffix)
         → Each (Deep (suc n)) (e.with_suffix (suc n) inner x o)
     d_with x k None ts y us q = each_give (Deep (suc n)) x k ts y us q
     d_with x k (Some s) ts y us q = by (nat_lt x.depth (suc n)) refl q
@@ -138,18 +138,18 @@ module _ (limits : Limits) (fair : IsFair limits) where
         → Each (Deep (suc n)) (e.next_suffix (suc n) inner least x)
     d_suffix least x k ts y us q = d_with x k (e.suffix_of (next ts) x.rank least) ts y us q
 
-    pub d_loop : (least : ℕ) (x : SoFar) → Deep (suc n) x
+    d_loop : (least : ℕ) (x : SoFar) → Deep (suc n) x
         → Each (Deep (suc n)) (all_of (e.goes_on least) (e.next_suffix (suc n) inner least) x)
     d_loop least x k = each_loop (e.goes_on least) (e.next_suffix (suc n) inner least)
         (Deep (suc n)) (λ y i. d_suffix least y i) x k
 
-    pub d_continued : (least : ℕ) (x : SoFar) → Deep (suc n) x
+    d_continued : (least : ℕ) (x : SoFar) → Deep (suc n) x
         → Each (λ y. (1 ≤ y.1) × (y.1 ≤ suc n)) (e.continued (suc n) inner least x)
     d_continued least x k =
         each_bind (Deep (suc n)) _ (all_of (e.goes_on least) (e.next_suffix (suc n) inner least) x)
         _ (d_loop least x k) (λ y i. each_give _ _ i)
 
-    pub d_argument : (end : Sign) → Each (λ x. x.1 ≤ n) (e.argument inner end)
+    d_argument : (end : Sign) → Each (λ x. x.1 ≤ n) (e.argument inner end)
     d_argument end =
         each_bind _ _ (inner 1) _ (h 1) (λ x i. each_after _ (one _) _ (λ _. each_give _ _ i))
 
@@ -159,7 +159,7 @@ module _ (limits : Limits) (fair : IsFair limits) where
         (λ w. each_after _ (one _) _
         (λ _. each_bind _ _ (inner 1) _ (h 1) (λ x i. each_give _ _ (omega (arith, i, k)))))
 
-    pub d_after : (s : Start) → Each (Deep (suc n)) (e.after_start limits inner s)
+    d_after : (s : Start) → Each (Deep (suc n)) (e.after_start limits inner s)
     d_after (start.Leaf x) = so (suc n) _ _ _ (omega arith) (omega arith)
     d_after start.Empty =
         each_after _ (one _) _ (λ _. each_after _ (t.whole_type limits) _
@@ -201,10 +201,10 @@ module _ (limits : Limits) (fair : IsFair limits) where
         each_bind _ _ (e.argument inner sign.Close) _ (d_argument sign.Close)
         (λ z k. so (suc n) _ _ _ (omega arith) (omega (arith, i, j, k))))))
 
-    pub d_bare : (least : ℕ) → Each (Deep (suc n)) (e.bare limits (suc n) inner least)
+    d_bare : (least : ℕ) → Each (Deep (suc n)) (e.bare limits (suc n) inner least)
     d_bare least = each_after _ (one (e.operand_start (suc n) least)) _ d_after
 
-    pub d_enclosed : (x : SoFar) → Deep (suc n) x → Each (Deep (suc n)) (e.enclosed (suc n) inner x)
+    d_enclosed : (x : SoFar) → Deep (suc n) x → Each (Deep (suc n)) (e.enclosed (suc n) inner x)
     d_enclosed x k = each_bind _ _ (e.continued (suc n) inner 1 x) _ (d_continued 1 x k)
         (λ y i. each_after _ (one _) _ (λ _. so (suc n) _ _ _ i.0 i.1))
 
@@ -221,7 +221,7 @@ module _ (limits : Limits) (fair : IsFair limits) where
             d_enclosed a.got (m a.got a.rest a.part) a.rest x us a.after
         by m false p = d_bare least (u ∷ ts) x us p
 
-    pub d_layer : (least : ℕ)
+    d_layer : (least : ℕ)
         → Each (λ y. y.1 ≤ suc n) (e.expression_layer limits (suc n) inner least)
     d_layer least = each_bind (Deep (suc n)) _ (e.operand limits (suc n) inner least) _
         (d_operand least) (λ x k ts y us q. (d_continued least x k ts y us q).1)
@@ -238,11 +238,11 @@ module _ (limits : Limits) (fair : IsFair limits) where
     pub less_one : suc n - 1 ≡ n
     less_one = omega arith
 
-    pub d_value : Each (λ x. x.1 ≤ n) (b.value limits (suc n))
+    d_value : Each (λ x. x.1 ≤ n) (b.value limits (suc n))
     d_value = subst (λ m. Each (λ x. x.1 ≤ n) (e.expression_within limits m 1)) (sym less_one)
         (expression_depth n 1)
 
-    pub d_otherwise : Each (λ x. x.1 ≤ n) (b.otherwise inner)
+    d_otherwise : Each (λ x. x.1 ≤ n) (b.otherwise inner)
     d_otherwise ts x us q = by _ q
       where
         by : (c : Bool)
@@ -251,12 +251,12 @@ module _ (limits : Limits) (fair : IsFair limits) where
         by true p = each_after (λ y. y.1 ≤ n) (one _) _ (λ _. h) ts x us p
         by false p = each_give (λ y. y.1 ≤ n) ([], 0) (omega arith) ts x us p
 
-    pub d_side : (k : Keyword) → Each (λ x. x.2 ≤ n) (b.side inner k)
+    d_side : (k : Keyword) → Each (λ x. x.2 ≤ n) (b.side inner k)
     d_side k =
         each_after _ (one _) _
         (λ _. each_after _ (one _) _ (λ x. each_bind _ _ inner _ h (λ y i. each_give _ _ i)))
 
-    pub d_start : (s : BodyStart) (line : ℕ)
+    d_start : (s : BodyStart) (line : ℕ)
         → Each (λ x. x.1 ≤ suc n) (b.after_start limits (suc n) inner s line)
     d_start begin.Let line =
         each_after _ (one _) _
@@ -279,10 +279,10 @@ module _ (limits : Limits) (fair : IsFair limits) where
         (λ l j. each_bind _ _ (b.side inner keyword.Right) _ (d_side keyword.Right) (λ r k.
         each_give _ _ (omega (arith, i, j, k)))))
 
-    pub d_body : Each (λ x. x.1 ≤ suc n) (b.body limits (suc n) inner)
+    d_body : Each (λ x. x.1 ≤ suc n) (b.body limits (suc n) inner)
     d_body = each_after _ (one (b.body_start (suc n))) _ (λ s. d_start s.0 s.1)
 
-    pub d_block : Each (λ x. x.1 ≤ suc n) (b.block_layer limits (suc n) inner)
+    d_block : Each (λ x. x.1 ≤ suc n) (b.block_layer limits (suc n) inner)
     d_block =
         each_after _ (one _) _
         (λ _. each_bind _ _ (all_of b.at_body (b.next_body limits (suc n) inner) ([], 0)) _

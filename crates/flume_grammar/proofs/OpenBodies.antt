@@ -96,7 +96,7 @@ module _ {A : Type 0} (k : Keyword) (f : Unit {0} → List Token → Out A) (a :
 abbrev pub other_than : Keyword → Class
 other_than k j = is_keyword k j ≡ false
 
-pub behind_other : (k : Keyword) (ts : List Token) → is_at_keyword k (next ts) ≡ false
+behind_other : (k : Keyword) (ts : List Token) → is_at_keyword k (next ts) ≡ false
     → Behind (other_than k) ts
 behind_other k [] e = tt
 behind_other k (t ∷ ts) e = e
@@ -152,7 +152,7 @@ module _ (limits : Limits) (fair : IsFair limits) where
     pub less_one : suc n - 1 ≡ n
     less_one = omega arith
 
-    pub o_value : 1 ≤ n → IsComplete any quiet (value limits (suc n))
+    o_value : 1 ≤ n → IsComplete any quiet (value limits (suc n))
     o_value i = subst (λ m. IsComplete any quiet (expression_within limits m 1)) (sym less_one)
         ((complete_expression limits fair) n i 1)
 
@@ -169,7 +169,7 @@ module _ (limits : Limits) (fair : IsFair limits) where
     pub anywhere : 1 ≤ n → IsComplete any any inner
     anywhere i = wider opening any any inner (free opening) (h i)
 
-    pub o_otherwise : 1 ≤ n → IsComplete no_else no_else (b.otherwise inner)
+    o_otherwise : 1 ≤ n → IsComplete no_else no_else (b.otherwise inner)
     o_otherwise i =
         let x = closer any no_else any inner (free no_else) (anywhere i) in
         optional keyword.Else (λ _ us. inner us) ([], 0)
@@ -181,14 +181,14 @@ module _ (limits : Limits) (fair : IsFair limits) where
         (λ _. then_ any quiet after_body (value limits (suc n)) _ (o_value i)
         (λ e _. given quiet after_body _ (within after_body quiet (λ k j. j.0)))))
 
-    pub o_emit : 1 ≤ n → (line : ℕ) → IsComplete any after_body (b.emit_body limits (suc n) line)
+    o_emit : 1 ≤ n → (line : ℕ) → IsComplete any after_body (b.emit_body limits (suc n) line)
     o_emit i line =
         wider no_to any after_body _ (free no_to)
         (then_ no_to no_to after_body (numbered keyword.To) _ (o_numbered keyword.To) (λ o _.
         then_ no_to quiet after_body (value limits (suc n)) _ (o_value_behind i)
         (λ e _. given quiet after_body _ (within after_body quiet (λ k j. j.0)))))
 
-    pub o_if : 1 ≤ n → (line : ℕ)
+    o_if : 1 ≤ n → (line : ℕ)
         → IsComplete any after_body (b.if_body limits (suc n) inner line)
     o_if i line =
         then_ any quiet after_body (value limits (suc n)) _ (o_value i)
@@ -197,7 +197,7 @@ module _ (limits : Limits) (fair : IsFair limits) where
         (then_ no_else no_else after_body (b.otherwise inner) _ (o_otherwise i)
         (λ y _. given no_else after_body _ (within after_body no_else (λ k j. j.1))))))
 
-    pub o_for : 1 ≤ n → (line : ℕ)
+    o_for : 1 ≤ n → (line : ℕ)
         → IsComplete any after_body (b.for_body limits (suc n) inner line)
     o_for i line =
         name_then any after_body _ tt (λ x. keyword_then any after_body keyword.In _ tt
@@ -205,14 +205,14 @@ module _ (limits : Limits) (fair : IsFair limits) where
         (λ e _. then_ quiet any after_body inner _ (at_quiet i) (λ y _.
         given any after_body _ (free after_body)))))
 
-    pub o_side : (c : Class) → 1 ≤ n → (k : Keyword) → c (kind.Keyword k)
+    o_side : (c : Class) → 1 ≤ n → (k : Keyword) → c (kind.Keyword k)
         → IsComplete c any (b.side inner k)
     o_side c i k q =
         keyword_then c any k _ q
         (λ _. name_then any any _ tt (λ x. then_ any any any inner _ (anywhere i)
         (λ y _. given any any _ (free any))))
 
-    pub o_case : 1 ≤ n → (line : ℕ)
+    o_case : 1 ≤ n → (line : ℕ)
         → IsComplete any after_body (b.case_body limits (suc n) inner line)
     o_case i line =
         then_ any quiet after_body (value limits (suc n)) _ (o_value i)
@@ -245,17 +245,17 @@ module _ (limits : Limits) (fair : IsFair limits) where
         (λ x us e. (begun x (record { source = ts; left = us; is = e })).open_ us)
         (λ x g. (begun x g).starts) (λ x g. (begun x g).follows)
 
-    pub t_body : Takes (b.body limits (suc n) inner)
+    t_body : Takes (b.body limits (suc n) inner)
     t_body = takes_given after_body (b.body_start (suc n)) _ (λ x g. (begun x g).open_)
 
-    pub o_next : (x : Block) → IsOpen after_body (b.next_body limits (suc n) inner x)
+    o_next : (x : Block) → IsOpen after_body (b.next_body limits (suc n) inner x)
     o_next x ts =
         let f = given after_body after_body in
         binds_at after_body after_body (b.body limits (suc n) inner) _ ts (o_body ts)
         (λ y us e. (f _ (λ rs i. i)).open_ us) (λ y g. (f _ (λ rs i. i)).starts)
         (λ y g. (f _ (λ rs i. i)).follows)
 
-    pub t_next : (x y : Block) (ts us : List Token)
+    t_next : (x y : Block) (ts us : List Token)
         → b.next_body limits (suc n) inner x ts ≡ Ok (y, us) → length us < length ts
     t_next x y ts us e =
         let a = bound (b.body limits (suc n) inner ts) _ y us e in

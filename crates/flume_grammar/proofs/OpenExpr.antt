@@ -49,13 +49,13 @@ module _ (limits : Limits) (fair : IsFair limits) where
     o_after start.Pick i = whole (o_pick limits fair inner
         (h (one_more limits fair n inner h deep i)))
 
-    pub name_starts : (least : ℕ)
+    name_starts : (least : ℕ)
         → operand_start (suc n) least a_name ≡ Ok (start.Leaf (tree.Name (97 ∷ [])))
     name_starts least =
         ap (λ b. if b then Ok (start.Leaf (tree.Name (97 ∷ []))) else Err (at a_name TooDeep))
         (or_true (nat_lt 1 (suc n)))
 
-    pub o_bare : (least : ℕ) → Quiet (bare limits (suc n) inner least)
+    o_bare : (least : ℕ) → Quiet (bare limits (suc n) inner least)
     o_bare least =
         then_ any any quiet (one (operand_start (suc n) least)) (after_start limits inner)
         (token any (operand_start (suc n) least)
@@ -88,7 +88,7 @@ module _ (limits : Limits) (fair : IsFair limits) where
     is_opened least t us q =
         ap (λ b. if b then inside us else (bare limits) (suc n) inner least (t ∷ us)) q
 
-    pub bare_takes : (least : ℕ) → Takes (bare limits (suc n) inner least)
+    bare_takes : (least : ℕ) → Takes (bare limits (suc n) inner least)
     bare_takes least ts x us e =
         let y = bound (one (operand_start (suc n) least) ts) (after_start limits inner) x us e in
         let z = one_token (operand_start (suc n) least) ts y.got y.rest y.part in
@@ -99,7 +99,7 @@ module _ (limits : Limits) (fair : IsFair limits) where
         omega (arith, i, j)
 
     -- from nothing: a name
-    pub operand_starts : (least : ℕ) → Starts any quiet (operand limits (suc n) inner least)
+    operand_starts : (least : ℕ) → Starts any quiet (operand limits (suc n) inner least)
     operand_starts least = record {
       others = a_name ∷ [];
       got = so_far 8 (tree.Name (97 ∷ [])) 1;
@@ -109,7 +109,7 @@ module _ (limits : Limits) (fair : IsFair limits) where
     }
 
     -- one in parentheses: a name, and the end
-    pub inside_starts : Starts any quiet inside
+    inside_starts : Starts any quiet inside
     unfolding operand_starts
     inside_starts =
         let x = so_far 8 (tree.Name (97 ∷ [])) 1 in
@@ -176,7 +176,7 @@ module _ (limits : Limits) (fair : IsFair limits) where
     o_operand least [] = wanting quiet (operand limits (suc n) inner least) refl
     o_operand least (t ∷ ts) = first least t ts (o_operand 1 ts)
 
-    pub operand_takes : (least : ℕ) → Takes (operand limits (suc n) inner least)
+    operand_takes : (least : ℕ) → Takes (operand limits (suc n) inner least)
     operand_takes least [] x us e = cc
     operand_takes least (t ∷ ts) x us e = by (is_sign sign.Open t.kind) refl
       where

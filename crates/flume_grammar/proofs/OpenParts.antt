@@ -45,12 +45,12 @@ module _ (limits : Limits) (fair : IsFair limits) where
         then_ any any quiet (one passing) _
         (token any passing (λ t. owns_ok t tt) a_name tt refl tt) (λ _ _. o_extend x s)
 
-    pub o_field : (p : Parts Expr) → Quiet (field inner p)
+    o_field : (p : Parts Expr) → Quiet (field inner p)
     o_field p =
         word_then any quiet _ tt (λ w. sign_then any quiet sign.Colon _ tt
         (λ _. then_ any quiet quiet (inner 1) _ (h 1) (λ x _. quiet_given _)))
 
-    pub o_fields : (p : Parts Expr)
+    o_fields : (p : Parts Expr)
         → IsComplete ending ending (all_of at_comma (next_field limits inner) p)
     o_fields =
         commas ending quiet (next_field limits inner) quieter (λ k i. i.1)
@@ -73,12 +73,12 @@ module _ (limits : Limits) (fair : IsFair limits) where
     pub o_record : Whole (record_ limits inner)
     o_record = then_ any quiet any (field inner none) _ (o_field none) (λ p _. at_quiet p)
 
-    pub o_member : (m : Members)
+    o_member : (m : Members)
         → Quiet {A = Members}
         (λ ts. bind (inner 1 ts) (λ x vs. give (m.0 ++ x.0 ∷ [], max m.1 x.1) vs))
     o_member m = then_ any quiet quiet (inner 1) _ (h 1) (λ x _. quiet_given _)
 
-    pub o_members : (m : Members)
+    o_members : (m : Members)
         → IsComplete ending ending (all_of at_comma (next_member limits inner) m)
     o_members =
         commas ending quiet (next_member limits inner) quieter (λ k i. i.1)
@@ -94,7 +94,7 @@ module _ (limits : Limits) (fair : IsFair limits) where
         sign_then ending any sign.CloseBracket _ (λ own least. refl, refl)
         (λ _. given any any _ (free any)))))
 
-    pub o_argument : (end : Sign) → quiet (kind.Sign end) → Whole (argument inner end)
+    o_argument : (end : Sign) → quiet (kind.Sign end) → Whole (argument inner end)
     o_argument end i =
         then_ any quiet any (inner 1) _ (h 1)
         (λ x _. sign_then quiet any end _ i (λ _. given any any x (free any)))

@@ -90,7 +90,7 @@ o_apply =
 abbrev pub in_turn : Class
 in_turn k = other_than keyword.Let k × settled k
 
-pub no_let : (ls : List TurnLet) (ts : List Token) → Behind in_turn ts → s.at_let ls ts ≡ false
+no_let : (ls : List TurnLet) (ts : List Token) → Behind in_turn ts → s.at_let ls ts ≡ false
 no_let ls [] i = refl
 no_let ls (t ∷ ts) i = i.0
 
@@ -130,11 +130,11 @@ told begin on own t a e h =
 module _ (limits : Limits) (fair : IsFair limits) where
   -- ---- operations
 
-  pub o_combiner : (k : CombinerStart) → IsComplete any any (s.after_combiner k)
+  o_combiner : (k : CombinerStart) → IsComplete any any (s.after_combiner k)
   o_combiner (combining.Whole c) = given any any c (free any)
   o_combiner combining.Top = number_then any any _ tt (λ n. given any any _ (free any))
 
-  pub o_combined : IsComplete any any s.by_combiner
+  o_combined : IsComplete any any s.by_combiner
   o_combined =
       name_then any any _ tt (λ c. keyword_then any any keyword.By _ tt
       (λ _. then_ any any any s.combiner_at _
@@ -143,7 +143,7 @@ module _ (limits : Limits) (fair : IsFair limits) where
       (key keyword.Sum 1) _ refl tt) (λ k _. o_combiner k))
       (λ k _. given any any _ (free any))))
 
-  pub o_inputs : IsComplete any no_comma (s.inputs limits)
+  o_inputs : IsComplete any no_comma (s.inputs limits)
   o_inputs =
       name_then any no_comma _ tt (λ x. wider no_comma any no_comma _ (free no_comma)
       (commas no_comma any (s.next_input limits) (free no_comma) (λ k i. i)
@@ -151,7 +151,7 @@ module _ (limits : Limits) (fair : IsFair limits) where
       (λ _. (o_name xs).open_))
       (λ xs. comma_then any (length xs) limits.inputs _ (λ _. o_name xs)) (x ∷ [])))
 
-  pub o_begin : (o : OperationStart) → IsComplete any settled (s.after_begin limits o)
+  o_begin : (o : OperationStart) → IsComplete any settled (s.after_begin limits o)
   o_begin starting.Do = o_apply
   o_begin starting.Group = name_then any settled _ tt (λ c. given any settled _ (free settled))
   o_begin starting.Combine = then_ any any settled s.by_combiner _ o_combined
@@ -172,14 +172,14 @@ module _ (limits : Limits) (fair : IsFair limits) where
       (λ xs _. keyword_then no_comma settled keyword.By _ refl
       (λ _. name_then any settled _ tt (λ f. given any settled _ (free settled))))
 
-  pub o_operation : IsComplete any settled (s.operation_at limits)
+  o_operation : IsComplete any settled (s.operation_at limits)
   o_operation =
       told s.operation_start _ (λ t. owns_option t (of_keyword s.keyword_operation t.kind))
       (key keyword.Group 1) _ refl o_begin
 
   -- ---- repeats
 
-  pub o_own : (n : ℕ)
+  o_own : (n : ℕ)
       → IsComplete {A = TurnLet} any settled
       (λ ts. bind (s.names ts) (λ xs us. bind (one (sign_at sign.Assign) us)
       (λ _ vs. bind (s.operation_at limits vs)
@@ -190,7 +190,7 @@ module _ (limits : Limits) (fair : IsFair limits) where
       (λ _. then_ any settled settled (s.operation_at limits) _ o_operation
       (λ o _. given settled settled _ (λ rs i. i))))
 
-  pub o_turn_let : IsComplete any settled (s.turn_let limits)
+  o_turn_let : IsComplete any settled (s.turn_let limits)
   o_turn_let = told s.line_of_let _ owns_let (key keyword.Let 1) 1 refl o_own
 
   pub let_turns : Turns in_turn settled s.at_let (s.next_let limits) (λ ls. Unit {0})
@@ -199,11 +199,11 @@ module _ (limits : Limits) (fair : IsFair limits) where
       (λ ls ts us e. ap (is_at_keyword keyword.Let) e)
       (takes_token settled s.line_of_let _ (λ n. (o_own n).open_)) o_turn_let
 
-  pub o_lets : (ls : List TurnLet)
+  o_lets : (ls : List TurnLet)
       → IsComplete in_turn in_turn (all_of s.at_let (s.next_let limits) ls)
   o_lets ls = loops in_turn settled s.at_let (s.next_let limits) (λ rs. Unit {0}) let_turns ls tt
 
-  pub o_inside : IsComplete no_comma any (s.repeat_body limits)
+  o_inside : IsComplete no_comma any (s.repeat_body limits)
   o_inside =
       sign_then no_comma any sign.OpenBrace _ refl
       (λ _. wider in_turn any any _ (free in_turn)
@@ -213,7 +213,7 @@ module _ (limits : Limits) (fair : IsFair limits) where
       (λ xs _. sign_then no_comma any sign.CloseBrace _ refl
       (λ _. given any any _ (free any)))))))
 
-  pub o_repeat : IsComplete any settled (s.repeat_at limits)
+  o_repeat : IsComplete any settled (s.repeat_at limits)
   o_repeat =
       then_ any no_comma settled s.repeat_head _ o_head
       (λ h _. then_ no_comma any settled (s.repeat_body limits) _ o_inside
@@ -228,24 +228,24 @@ module _ (limits : Limits) (fair : IsFair limits) where
 
   -- ---- statements
 
-  pub o_scale : IsComplete unscaled unscaled (numbered keyword.Scale)
+  o_scale : IsComplete unscaled unscaled (numbered keyword.Scale)
   o_scale =
       optional_in keyword.Scale (λ _ us. bind (one number_at us) (λ n vs. give (Some n) vs)) None
       unscaled (within unscaled (other_than keyword.Scale) (λ k i. i.0)) (o_numbered keyword.Scale)
 
-  pub o_type : (types : List Tree)
+  o_type : (types : List Tree)
       → IsComplete any any (λ us. bind (whole_type limits us) (λ t vs. give (types ++ t ∷ []) vs))
   o_type types = then_ any any any (whole_type limits) _ (complete_whole limits fair)
       (λ t _. given any any _ (free any))
 
-  pub o_more_types : IsComplete no_comma no_comma (s.more_types limits)
+  o_more_types : IsComplete no_comma no_comma (s.more_types limits)
   o_more_types =
       commas no_comma any (s.next_type limits) (free no_comma) (λ k i. i)
       (λ types. takes_token any (comma_at (1 + length types) limits.outputs) _
       (λ _. (o_type types).open_))
       (λ types. comma_then any (1 + length types) limits.outputs _ (λ _. o_type types)) []
 
-  pub o_signature : IsComplete any no_comma (s.signature limits)
+  o_signature : IsComplete any no_comma (s.signature limits)
   o_signature =
       sign_then any no_comma sign.Open _ tt
       (λ _. name_then any no_comma _ tt
@@ -258,7 +258,7 @@ module _ (limits : Limits) (fair : IsFair limits) where
       (then_ no_comma no_comma no_comma (s.more_types limits) _ o_more_types
       (λ cs _. given no_comma no_comma _ (λ rs i. i))))))))))
 
-  pub o_function : IsComplete any settled (s.function_form limits)
+  o_function : IsComplete any settled (s.function_form limits)
   o_function =
       name_then any settled _ tt
       (λ f. then_ any no_comma settled (s.signature limits) _ o_signature
@@ -268,7 +268,7 @@ module _ (limits : Limits) (fair : IsFair limits) where
       (wider opening unscaled any (whole_block limits) (within opening unscaled (λ k i. i.1))
       (complete_body limits fair)) (λ x _. given any settled _ (free settled))))))
 
-  pub o_form : (x : StatementStart) → IsComplete any settled (s.form_at limits x)
+  o_form : (x : StatementStart) → IsComplete any settled (s.form_at limits x)
   o_form stating.Type =
       name_then any settled _ tt (λ x. sign_then any settled sign.Assign _ tt
       (λ _. then_ any any settled (whole_type limits) _ (complete_whole limits fair)
@@ -292,13 +292,13 @@ module _ (limits : Limits) (fair : IsFair limits) where
   owns_statement t (Some x) = owns_ok t (x, t.line)
   owns_statement t None = owns_fault t Syntax
 
-  pub o_named : (x : StatementStart × ℕ)
+  o_named : (x : StatementStart × ℕ)
       → IsComplete {A = Statement} any settled
       (λ ts. bind (s.form_at limits x.0 ts) (λ f us. give (record { line = x.1; form = f }) us))
   o_named x = then_ any settled settled (s.form_at limits x.0) _ (o_form x.0)
       (λ f _. given settled settled _ (λ rs i. i))
 
-  pub o_statement : IsComplete any settled (s.statement_at limits)
+  o_statement : IsComplete any settled (s.statement_at limits)
   o_statement =
       told s.statement_start _
       (λ t. owns_statement t (of_keyword s.keyword_statement t.kind)) (key keyword.Output 1) _

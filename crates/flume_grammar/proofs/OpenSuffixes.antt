@@ -28,7 +28,7 @@ module _ (limits : Limits) (fair : IsFair limits) where
 
     -- ---- what goes on with an expression
 
-    pub o_with : (x : SoFar) (s : Suffix) (b : Bool) → nat_lt x.depth (suc n) ≡ b → Deep (suc n) x
+    o_with : (x : SoFar) (s : Suffix) (b : Bool) → nat_lt x.depth (suc n) ≡ b → Deep (suc n) x
         → IsOpen quiet (λ ts. if b then extended inner x s ts else one deep_at ts)
     o_with x s true q k ts = let l = ltb-true x.depth (suc n) q in
         (o_extended limits fair inner (h (let i = k.0 in omega (arith, l, i))) x s).open_ ts
@@ -39,7 +39,7 @@ module _ (limits : Limits) (fair : IsFair limits) where
     never [] y vs e = cc
     never (u ∷ us) y vs e = cc
 
-    pub t_with : (x : SoFar) (s : Suffix) (b : Bool) → nat_lt x.depth (suc n) ≡ b → Deep (suc n) x
+    t_with : (x : SoFar) (s : Suffix) (b : Bool) → nat_lt x.depth (suc n) ≡ b → Deep (suc n) x
         → (ts : List Token) (y : SoFar) (us : List Token)
         → (if b then extended inner x s ts else one deep_at ts) ≡ Ok (y, us) → length us < length ts
     t_with x s true q k ts y us e = let l = ltb-true x.depth (suc n) q in
@@ -56,7 +56,7 @@ module _ (limits : Limits) (fair : IsFair limits) where
         ap (λ o. with_suffix (suc n) inner x (suffix_of o x.rank least) us) e
         ∙ ap (λ o. with_suffix (suc n) inner x o us) q
 
-    pub o_suffix : (least : ℕ) (x : SoFar) (ts : List Token) → Deep (suc n) x
+    o_suffix : (least : ℕ) (x : SoFar) (ts : List Token) → Deep (suc n) x
         → goes_on least x ts ≡ true → IsOpenAt quiet (next_suffix (suc n) inner least x) ts
     o_suffix least x ts k e = by (suffix_of (next ts) x.rank least) refl
       where
@@ -70,7 +70,7 @@ module _ (limits : Limits) (fair : IsFair limits) where
             (λ y us i. t_with x s (nat_lt x.depth (suc n)) refl k ts y us i)
             (o_with x s (nat_lt x.depth (suc n)) refl k ts)
 
-    pub t_suffix : (least : ℕ) (x : SoFar) (ts : List Token) (y : SoFar) (us : List Token)
+    t_suffix : (least : ℕ) (x : SoFar) (ts : List Token) (y : SoFar) (us : List Token)
         → Deep (suc n) x → goes_on least x ts ≡ true
         → next_suffix (suc n) inner least x ts ≡ Ok (y, us) → length us < length ts
     t_suffix least x ts y us k m e = by (suffix_of (next ts) x.rank least) refl
@@ -96,7 +96,7 @@ module _ (limits : Limits) (fair : IsFair limits) where
       keeps = λ x ts y us k e. d_suffix limits fair n inner deep least x k ts y us e;
     }
 
-    pub o_loop : (least : ℕ) (x : SoFar) → Deep (suc n) x
+    o_loop : (least : ℕ) (x : SoFar) → Deep (suc n) x
         → IsComplete quiet quiet (all_of (goes_on least) (next_suffix (suc n) inner least) x)
     o_loop least = loops quiet quiet (goes_on least) (next_suffix (suc n) inner least)
         (Deep (suc n)) (suffix_turns least)

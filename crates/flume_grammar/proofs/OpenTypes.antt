@@ -31,26 +31,26 @@ use Rattle.flume_grammar.proofs.OpenTokens.{then_shallow, owns_ok, owns_fault, o
 
 module _ (limits : Limits) (fair : IsFair limits) where
   module _ (inner : Inner) (h : IsComplete any any inner) where
-    pub c_list : IsComplete any any (list_type inner)
+    c_list : IsComplete any any (list_type inner)
     c_list =
         sign_then any any sign.Less _ tt
         (λ _. then_ any any any inner _ h (λ x _. sign_then any any sign.Greater _ tt
         (λ _. given any any _ (free any))))
 
-    pub c_pair : IsComplete any any (pair_type inner)
+    c_pair : IsComplete any any (pair_type inner)
     c_pair =
         sign_then any any sign.Less _ tt
         (λ _. then_ any any any inner _ h (λ x _. sign_then any any sign.Comma _ tt
         (λ _. then_ any any any inner _ h (λ y _.
         sign_then any any sign.Greater _ tt (λ _. given any any _ (free any))))))
 
-    pub c_field : (p : Parts Tree) → IsComplete any any (field_type inner p)
+    c_field : (p : Parts Tree) → IsComplete any any (field_type inner p)
     c_field p =
         word_then any any _ tt
         (λ w. sign_then any any sign.Colon _ tt
         (λ _. then_ any any any inner _ h (λ x _. given any any _ (free any))))
 
-    pub c_fields : (p : Parts Tree)
+    c_fields : (p : Parts Tree)
         → IsComplete no_comma no_comma (all_of at_comma (next_field_type limits inner) p)
     c_fields =
         commas no_comma any (next_field_type limits inner) (free no_comma) (λ k i. i)
@@ -70,10 +70,10 @@ module _ (limits : Limits) (fair : IsFair limits) where
         (c_fields p) (λ q _. sign_then no_comma any sign.CloseBrace _ refl
         (λ _. given any any _ (free any))))
 
-    pub c_record : IsComplete any any (record_type limits inner)
+    c_record : IsComplete any any (record_type limits inner)
     c_record = then_ any any any (field_type inner none) _ (c_field none) (λ p _. c_fields_then p)
 
-    pub c_after : (s : TypeStart) → IsComplete any any (after_start limits inner s)
+    c_after : (s : TypeStart) → IsComplete any any (after_start limits inner s)
     c_after (start.Leaf t) = given any any _ (free any)
     c_after start.List = c_list
     c_after start.Either =
@@ -84,7 +84,7 @@ module _ (limits : Limits) (fair : IsFair limits) where
 
   -- ---- what begins deep has room
 
-  pub deep_room : (limit : ℕ) (t : Token) (s r : TypeStart) → deep_start limit t s ≡ Ok r
+  deep_room : (limit : ℕ) (t : Token) (s r : TypeStart) → deep_start limit t s ≡ Ok r
       → 2 ≤ limit
   deep_room limit t s r e = by (nat_lt 1 limit) refl e
     where
@@ -100,7 +100,7 @@ module _ (limits : Limits) (fair : IsFair limits) where
   room limit start.Table h = h
   room limit start.Record h = h
 
-  pub leaf_room : (limit : ℕ) (x : Tree) (s : TypeStart)
+  leaf_room : (limit : ℕ) (x : Tree) (s : TypeStart)
       → (let r : Result TypeStart Stop = Ok (start.Leaf x) in r) ≡ Ok s → HasRoom s limit
   leaf_room limit x (start.Leaf t) e = tt
   leaf_room limit x start.List e = cc
@@ -108,7 +108,7 @@ module _ (limits : Limits) (fair : IsFair limits) where
   leaf_room limit x start.Table e = cc
   leaf_room limit x start.Record e = cc
 
-  pub keyword_room : (k : Keyword) (limit : ℕ) (t : Token) (s : TypeStart)
+  keyword_room : (k : Keyword) (limit : ℕ) (t : Token) (s : TypeStart)
       → keyword_type k limit t ≡ Ok s → HasRoom s limit
   keyword_room keyword.Int limit t s e = leaf_room limit tree.Int s e
   keyword_room keyword.Bool limit t s e = leaf_room limit tree.Bool s e
@@ -118,7 +118,7 @@ module _ (limits : Limits) (fair : IsFair limits) where
   keyword_room keyword.Table limit t s e = room limit s (deep_room limit t start.Table s e)
   keyword_room _ limit t s e = cc
 
-  pub kind_room : (k : TokenKind) (limit : ℕ) (t : Token) (s : TypeStart)
+  kind_room : (k : TokenKind) (limit : ℕ) (t : Token) (s : TypeStart)
       → kind_type k limit t ≡ Ok s → HasRoom s limit
   kind_room (kind.Name x) limit t s e = leaf_room limit (tree.Named x) s e
   kind_room (kind.Keyword k) limit t s e = keyword_room k limit t s e
@@ -126,10 +126,10 @@ module _ (limits : Limits) (fair : IsFair limits) where
       room limit s (deep_room limit t start.Record s e)
   kind_room _ limit t s e = cc
 
-  pub owns_deep : (limit : ℕ) (t : Token) (s : TypeStart) → Owns t (deep_start limit t s)
+  owns_deep : (limit : ℕ) (t : Token) (s : TypeStart) → Owns t (deep_start limit t s)
   owns_deep limit t s = owns_if t (nat_lt 1 limit) _ _ (owns_ok t _) (owns_fault t TooDeep)
 
-  pub owns_keyword_type : (k : Keyword) (limit : ℕ) (t : Token) → Owns t (keyword_type k limit t)
+  owns_keyword_type : (k : Keyword) (limit : ℕ) (t : Token) → Owns t (keyword_type k limit t)
   owns_keyword_type keyword.Int limit t = owns_ok t _
   owns_keyword_type keyword.Bool limit t = owns_ok t _
   owns_keyword_type keyword.Text limit t = owns_ok t _
@@ -138,7 +138,7 @@ module _ (limits : Limits) (fair : IsFair limits) where
   owns_keyword_type keyword.Table limit t = owns_deep limit t start.Table
   owns_keyword_type _ limit t = owns_fault t Syntax
 
-  pub owns_kind_type : (k : TokenKind) (limit : ℕ) (t : Token) → Owns t (kind_type k limit t)
+  owns_kind_type : (k : TokenKind) (limit : ℕ) (t : Token) → Owns t (kind_type k limit t)
   owns_kind_type (kind.Name x) limit t = owns_ok t _
   owns_kind_type (kind.Keyword k) limit t = owns_keyword_type k limit t
   owns_kind_type (kind.Sign sign.OpenBrace) limit t = owns_deep limit t start.Record
@@ -160,7 +160,7 @@ module _ (limits : Limits) (fair : IsFair limits) where
   begins_type limit = token any (type_start limit) (λ t. owns_kind_type t.kind limit t) a_name _
       refl tt
 
-  pub c_layer : (limit : ℕ) (inner : Inner) → (2 ≤ limit → IsComplete any any inner)
+  c_layer : (limit : ℕ) (inner : Inner) → (2 ≤ limit → IsComplete any any inner)
       → IsComplete any any (type_layer limits limit inner)
   c_layer limit inner h = then_ any any any (one (type_start limit)) (after_start limits inner)
       (begins_type limit) (λ s g. c_room limit inner h s (given_room limit s g))

@@ -180,7 +180,7 @@ module _ (K : Kinds) (no_syntax : K Syntax → ⊥) where
           (single (r b) (owns_r b) ts) (raise_token K (s b) (r b) (limited b i) ts)
           (λ u us e. (h b u).raise us) (λ u e. (h b u).high_.open_ [])
 
-      pub pair_parts : (b : B) → P b
+      pair_parts : (b : B) → P b
           → IsPair K c c (all_of at_comma part b) (all_of at_comma more_part b)
       pair_parts = pair_loop K c d at_comma part more_part P (λ x. Unit {0})
           (comma_turns c d part sub other takes_part open_part P keeps)

@@ -201,7 +201,7 @@ module _ (limits : Limits) (fair : IsFair limits) where
         let a = bound (one (type_start limit) ts) _ x us q in
         s_after a.got ts a.rest x us (started limit a.got ts a.rest a.part) a.after
 
-  pub sound_type : (n : ℕ) → Sound (type_within limits n)
+  sound_type : (n : ℕ) → Sound (type_within limits n)
   unfolding type_within
   sound_type zero ts x us q = cc
   sound_type (suc n) ts x us q = s_layer (type_within limits n) (sound_type n) (suc n) ts x us q

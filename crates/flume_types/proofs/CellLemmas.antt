@@ -66,7 +66,7 @@ both_columns (Some own) (Some more) all e =
 
 -- ---- records of cells
 
-pub cells_under-are_filled : (prefix : List ℕ) (fields : List (Field Ty)) (columns : List Column)
+cells_under-are_filled : (prefix : List ℕ) (fields : List (Field Ty)) (columns : List Column)
     → cells_under prefix fields ≡ Some columns → (cells : List Value)
     → each_has has_type cells fields ≡ are_filled columns cells
 cells_under-are_filled prefix [] columns e [] =

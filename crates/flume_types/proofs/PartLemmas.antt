@@ -31,7 +31,7 @@ all_from_each : (t : Ty) (xs : List Value)
     → AllByRecursion (Has t) xs → list_all (λ v. has_type v t) xs ≡ true
 all_from_each t xs h = all_pass (λ v. has_type v t) xs h
 
-pub have_from_fields : (fields : List (Field Ty)) (xs : List Value)
+have_from_fields : (fields : List (Field Ty)) (xs : List Value)
     → each_has has_type xs fields ≡ true → HaveTypes (types_of fields) xs
 have_from_fields [] [] h = tt
 have_from_fields (f ∷ fs) [] h = cc

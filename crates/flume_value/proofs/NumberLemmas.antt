@@ -234,7 +234,7 @@ last_six : (xs : List ℕ) → length xs ≡ 22 → take 6 (drop 16 xs) ≡ drop
 last_six xs e =
     take_all 6 (drop 16 xs) (omega (arith, length-drop 16 xs)) ∙ drop_on xs (omega arith)
 
-pub then_equal : (o : Ordering) → ordering_then o Equal ≡ o
+then_equal : (o : Ordering) → ordering_then o Equal ≡ o
 then_equal Less = refl
 then_equal Equal = refl
 then_equal Greater = refl

@@ -18,6 +18,6 @@ pub Rises-left : (xs ys : List Value) → Rises (xs ++ ys) → Rises xs
 Rises-left [] ys r = tt
 Rises-left (x ∷ xs) ys r = (Each-left (NotBelow x) xs ys r.0, Rises-left xs ys r.1)
 
-pub Rises-right : (xs ys : List Value) → Rises (xs ++ ys) → Rises ys
+Rises-right : (xs ys : List Value) → Rises (xs ++ ys) → Rises ys
 Rises-right [] ys r = r
 Rises-right (x ∷ xs) ys r = Rises-right xs ys r.1

@@ -53,7 +53,7 @@ answer_traps V f h origin which (Ok answers) out at lists =
 answer_traps V f h origin which (Err trap) out at lists = refl
 
 module _ (w : World) (sizes : List ℕ) where
-  pub run_traps : (at : ℕ) (f : Forest) (x : Value) (lists : Given)
+  run_traps : (at : ℕ) (f : Forest) (x : Value) (lists : Given)
       → Traps (visits w (trapped w) f x) (run w sizes at f x lists)
   run_traps at Bare x lists = refl
   run_traps at (Grow l kids rest) x lists =

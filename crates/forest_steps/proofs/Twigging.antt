@@ -40,7 +40,7 @@ first_left (suc n) (x ∷ xs) = first_left n xs
 module _ (w : World) where
   module _ (sizes : List ℕ) where
     -- ---- a step that answered
-    pub twigs_run : (at : ℕ) (b : Branch) (n : ℕ) (ts : List Twig) (rest : Forest) (x : Value)
+    twigs_run : (at : ℕ) (b : Branch) (n : ℕ) (ts : List Twig) (rest : Forest) (x : Value)
         (answers : List (List Value)) (given : Given) → called w b.does x ≡ Ok answers
         → run w sizes at (twigs b n ts rest) x given
         ≡ and_then (run_twigs w sizes at (drop n answers) ts given)
@@ -96,7 +96,7 @@ module _ (w : World) where
 
   -- ---- what may be called
   module _ (takes : ℕ → Value → Type 0) where
-    pub twigs_safe : (b : Branch) (n : ℕ) (ts : List Twig) (rest : Forest) (x : Value)
+    twigs_safe : (b : Branch) (n : ℕ) (ts : List Twig) (rest : Forest) (x : Value)
         (answers : List (List Value)) → called w b.does x ≡ Ok answers
         → Safe w takes (twigs b n ts rest) x → SafeTwigs w takes (drop n answers) ts
     twigs_safe b n [] rest x answers e safe = tt

@@ -313,7 +313,7 @@ module _ (b : Blocked) (chain : CanChain b) where
   unfolding kids_last all_kids
   kids_inner = all_kids.inner
 
-  pub kids_by : ByKids (cut_graph (siblings_of b)) (fused_by (cut_of b)).graph
+  kids_by : ByKids (cut_graph (siblings_of b)) (fused_by (cut_of b)).graph
   unfolding fused_by
   kids_by = kids_last
 

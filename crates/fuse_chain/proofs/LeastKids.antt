@@ -113,7 +113,7 @@ module _ (b : Blocked) (chain : CanChain b) where
           (omega arith, behind d.number c ds under (u.0 under))
       by false i rest = rest i
 
-  pub begun_numbering : IsNumbering begun (λ n. n)
+  begun_numbering : IsNumbering begun (λ n. n)
   begun_numbering = record {
     least = λ m e f at lead.
         let g : AllGrown begun = all_grown begun (can_later b [] chain.can) in

@@ -103,7 +103,7 @@ module _ (a : Blocked) (can : CanMark a) where
   abbrev P : Cut
   P = cut_of (parted a)
 
-  pub levels_count : (k : ℕ) (ns : List ℕ) (m : ℕ) → Each (IsPdoAt g) ns
+  levels_count : (k : ℕ) (ns : List ℕ) (m : ℕ) → Each (IsPdoAt g) ns
       → least m (members (cut_of a) k ns) ≡ least m (numbers (trees P k (all_sites g ns)))
   unfolding members trees
   levels_count zero ns m p = refl

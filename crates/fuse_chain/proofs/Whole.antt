@@ -152,7 +152,7 @@ module _ (b : Blocked) (fu : IsFusible b) where
           ∙ ap (λ (y : Node). Some (whole_node b n y)) same
       by false q h f = f h
 
-  pub pdo_at : (n : ℕ) (c : Place) (f : Forest) → node_at es n ≡ Some (Pdo c f)
+  pdo_at : (n : ℕ) (c : Place) (f : Forest) → node_at es n ≡ Some (Pdo c f)
       → node_at hs n ≡ Some (Pdo (r c) (rooted (parted b) (sites g n)))
   pdo_at n c f at = whole_at es n (Pdo c f) at
 

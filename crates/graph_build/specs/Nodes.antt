@@ -51,15 +51,9 @@ abbrev pub is_last : Turn → Bool
 is_last Ahead = false
 is_last Last = true
 
-abbrev pub step_in : Turn → ℕ → Does → Place → Node
-step_in turn origin does input = Pdo input (one_step origin (is_last turn) does)
-
--- a step of a collection, and the step that gives it
-abbrev pub step : ℕ → Does → Place → Node
-step origin does input = Pdo input (one_step origin false does)
-
-abbrev pub last_step : ℕ → Does → Place → Node
-last_step origin does input = Pdo input (one_step origin true does)
+-- a step of a collection, ahead of the last or the last
+abbrev pub step_node : Turn → ℕ → Does → Place → Node
+step_node turn origin does input = Pdo input (one_step origin (is_last turn) does)
 
 -- an output on which no step is
 abbrev pub bud : Option ℕ → Twig
@@ -103,31 +97,31 @@ first_of n = place n 0
 -- all members under one key, in one group, combined
 abbrev pub combined_nodes : Comb → ℕ → ℕ → Place → List Entry
 combined_nodes comb origin n input =
-    entry n (step origin does.Solo input)
+    entry n (step_node Ahead origin does.Solo input)
     ∷ entry (n + 1) (groups origin (first_of n))
-    ∷ entry (n + 2) (step origin (does.Combine comb) (first_of (n + 1))) ∷ []
+    ∷ entry (n + 2) (step_node Ahead origin (does.Combine comb) (first_of (n + 1))) ∷ []
 
 -- each member with 1, in groups, with the sum of its ones
 abbrev pub count_nodes : ℕ → ℕ → Place → List Entry
 count_nodes origin n input =
-    entry n (step origin does.Pair input)
+    entry n (step_node Ahead origin does.Pair input)
     ∷ entry (n + 1) (groups origin (first_of n))
-    ∷ entry (n + 2) (last_step origin (does.Combine by.Sum) (first_of (n + 1))) ∷ []
+    ∷ entry (n + 2) (step_node Last origin (does.Combine by.Sum) (first_of (n + 1))) ∷ []
 
 -- the values of both sides told apart, together, in groups, with the sides of each group apart
 abbrev pub join_nodes : ℕ → ℕ → Place → Place → List Entry
 join_nodes origin n left right =
-    entry n (step origin does.TagLeft left)
-    ∷ entry (n + 1) (step origin does.TagRight right)
+    entry n (step_node Ahead origin does.TagLeft left)
+    ∷ entry (n + 1) (step_node Ahead origin does.TagRight right)
     ∷ entry (n + 2) (Flatten (first_of n ∷ first_of (n + 1) ∷ []))
     ∷ entry (n + 3) (groups origin (first_of (n + 2)))
-    ∷ entry (n + 4) (last_step origin does.Split (first_of (n + 3))) ∷ []
+    ∷ entry (n + 4) (step_node Last origin does.Split (first_of (n + 3))) ∷ []
 
 -- the greatest members in one list, and these alone
 abbrev pub top_nodes : ℕ → ℕ → ℕ → Place → List Entry
 top_nodes many origin n input =
     combined_nodes (by.Top many) origin n input
-    ++ entry (n + 3) (last_step origin does.Spread (first_of (n + 2))) ∷ []
+    ++ entry (n + 3) (step_node Last origin does.Spread (first_of (n + 2))) ∷ []
 
 -- all members combined, and the value of the one pair that there is; where there is none, what the
 -- combiner makes of nothing
@@ -162,7 +156,7 @@ made_nodes script gives origin source n (made.Do input function output) =
 made_nodes script gives origin source n (made.Group input) =
     entry n (Gbk (gives input) origin true None) ∷ []
 made_nodes script gives origin source n (made.Combine input by) =
-    entry n (last_step origin (does.Combine by) (gives input)) ∷ []
+    entry n (step_node Last origin (does.Combine by) (gives input)) ∷ []
 made_nodes script gives origin source n (made.Flatten inputs) =
     entry n (Flatten (map gives inputs)) ∷ []
 made_nodes script gives origin source n (made.Count input) = count_nodes origin n (gives input)

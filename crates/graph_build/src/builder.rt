@@ -4,7 +4,8 @@ ghost use Rattle.exec_graph.specs.declared.graph.Node.TheVariants.{Flatten, Gbk}
 ghost use Rattle.exec_graph.specs.declared.step.Does.TheVariants as does;
 ghost use Rattle.graph_build.specs.Built.{built, built_at as built_in};
 ghost use Rattle.graph_build.specs.Graphs as spec;
-ghost use Rattle.graph_build.specs.Nodes.{call_in, entry, last_step as last_step_of, made_nodes, source_number};
+ghost use Rattle.graph_build.specs.declared.nodes.Turn.TheVariants.{Last};
+ghost use Rattle.graph_build.specs.Nodes.{call_in, entry, made_nodes, source_number, step_node};
 ghost use Rattle.graph_build.specs.Nodes.{before_last as before_last_of, sources_made as inputs_in};
 ghost use Rattle.script_program.specs.Sources.{source_numbers as numbers_in};
 
@@ -246,7 +247,7 @@ fn push_combine(
 ) -> Result<(), AllocError>
     ensures { OnOk result (nodes.new ≡ nodes.old
         ++ entry start.node
-        (last_step_of start.origin (does.Combine by) (spec.place_in places.now source)) ∷ []) }
+        (step_node Last start.origin (does.Combine by) (spec.place_in places.now source)) ∷ []) }
 {
     let input = place_in(places, source);
     let combined = Does::Combine(by);

@@ -54,7 +54,7 @@ pub(crate) fn push_step(
     nodes: &mut Pile<Entry>,
 ) -> Result<(), AllocError>
     ensures { OnOk result (nodes.new
-        ≡ nodes.old ++ spec.entry number (spec.step_in turn origin does input) ∷ []) }
+        ≡ nodes.old ++ spec.entry number (spec.step_node turn origin does input) ∷ []) }
 {
     let output = first_output(alloc);
     let step = Step::new(origin, is_last(turn), does, output, Vec::new(alloc));

@@ -42,7 +42,7 @@ gone_on e es n a i = by (node_at es n) refl
         let far : e.number < n = all_found (λ (d : Entry). e.number < d.number) es n x h a in
         let bad : ⊥ = omega arith in absurd bad
 
-pub node_present : (es : List Entry) (n : ℕ) → Ascends es
+node_present : (es : List Entry) (n : ℕ) → Ascends es
     → node_at (present es) n ≡ alive (node_at es n)
 node_present [] n a = refl
 node_present (e ∷ es) n a =
@@ -161,7 +161,7 @@ set_is (e ∷ es) p c d f g at =
         ap (λ (b : Bool). cond b (e ∷ present (set_node es p x)) (present (set_node es p x))) h
         ∙ r at
 
-pub taken_present : (es hs : List Entry) (p q : ℕ) (c : Place) (f : Forest) → Ascends es
+taken_present : (es hs : List Entry) (p q : ℕ) (c : Place) (f : Forest) → Ascends es
     → present es ≡ hs → (p ≡ q → ⊥) → is_pdo (node_at hs p) ≡ true
     → is_pdo (node_at hs q) ≡ true
     → present (taken_over es p q c f) ≡ set_node (without hs q) p (Pdo c f)

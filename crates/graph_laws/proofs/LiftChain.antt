@@ -115,7 +115,7 @@ remarked_twice : (s t : Marks) (g : Graph)
     → remarked s (remarked t g) ≡ remarked (λ m k. s m (t m k)) g
 remarked_twice s t g = ap (graph_with g) (nodes_twice s t g.nodes)
 
-pub marked_none : (x : Node) → marked (λ k. k) x ≡ x
+marked_none : (x : Node) → marked (λ k. k) x ≡ x
 marked_none (Source r) = refl
 marked_none _ = refl
 

@@ -78,14 +78,14 @@ module _ (g : Graph) (p q : ℕ) (c d : Place) (f h new : Forest) (can : CanJoin
   at_p : node_at left p ≡ Some (Pdo c f)
   at_p = node_at-without_other g.nodes q p (Pdo c f) can.apart can.keeper
 
-  pub uses_same : same_place x d ≡ false
+  uses_same : same_place x d ≡ false
       → any_node (uses x) (joined_into g p q c new).nodes ≡ any_node (uses x) g.nodes
   uses_same no_d =
       any_map (uses x) r (uses_spared r x s) (set_node left p z)
       ∙ any_set (uses x) left p z (Pdo c f) at_p refl
       ∙ any_without (uses x) g.nodes q (Pdo d h) can.other (ap (λ b. b || false) no_d)
 
-  pub uses_here : same_place x c ≡ true
+  uses_here : same_place x c ≡ true
       → any_node (uses x) (joined_into g p q c new).nodes ≡ true
   uses_here is_c =
       any_map (uses x) r (uses_spared r x s) (set_node left p z)
@@ -99,7 +99,7 @@ module _ (g : Graph) (p q : ℕ) (c d : Place) (f h new : Forest) (can : CanJoin
       ∙ any_set (collects x) left p z (Pdo c f) at_p refl
       ∙ any_without (collects x) g.nodes q (Pdo d h) can.other refl
 
-  pub readers_same : same_place x d ≡ false
+  readers_same : same_place x d ≡ false
       → readers (joined_into g p q c new).nodes x ≡ readers g.nodes x
   readers_same no_d =
       those_map (calls_on x) r (calls_spared r x s) (set_node left p z)
@@ -110,7 +110,7 @@ module _ (g : Graph) (p q : ℕ) (c d : Place) (f h new : Forest) (can : CanJoin
   outputs_same = among_spared r x s g.outputs
 
   -- the combiner of a reader that is not the one that goes
-  pub root_same : (m : ℕ) → (m ≡ q → ⊥) → root_comb new ≡ root_comb f
+  root_same : (m : ℕ) → (m ≡ q → ⊥) → root_comb new ≡ root_comb f
       → comb_at (node_at (joined_into g p q c new).nodes m) ≡ comb_at (node_at g.nodes m)
   root_same m gone root =
       ap comb_at (node_at-map r (set_node left p z) m)
@@ -118,7 +118,7 @@ module _ (g : Graph) (p q : ℕ) (c d : Place) (f h new : Forest) (can : CanJoin
       ∙ comb_set left p m z (Pdo c f) at_p root
       ∙ ap comb_at (node_without g.nodes q m gone)
 
-  pub root_other : (m : ℕ) → (m ≡ q → ⊥) → (m ≡ p → ⊥)
+  root_other : (m : ℕ) → (m ≡ q → ⊥) → (m ≡ p → ⊥)
       → comb_at (node_at (joined_into g p q c new).nodes m) ≡ comb_at (node_at g.nodes m)
   root_other m gone apart =
       ap comb_at (node_at-map r (set_node left p z) m)

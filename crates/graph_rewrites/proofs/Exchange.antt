@@ -105,7 +105,7 @@ module _ (g : Graph) (p q : ℕ) (c d : Place) (f h : Forest) (ok : IsSound g)
       (all_set L once q (Pdo c f) (all_set L g.nodes p (Pdo d h) a
       (all_found L g.nodes p (Pdo c f) at_p a)) (all_found L g.nodes q (Pdo d h) at_q a))
 
-  pub swap_kept : IsKept g new
+  swap_kept : IsKept g new
   swap_kept =
       let first : total_size once + steps f ≡ total_size g.nodes + steps h =
       size_set g.nodes p (Pdo d h) (Pdo c f) at_p in

@@ -62,15 +62,15 @@ module _ (g : Graph) (n : ℕ) (c : Place) (f : Forest) (r : ℕ → ℕ) (here 
   abbrev set : List Entry
   set = set_node g.nodes n (Pdo c f)
 
-  pub refit_calls : (m : ℕ) (d : Place) → Calls g m d
+  refit_calls : (m : ℕ) (d : Place) → Calls g m d
       → Calls (refitted g n c f r) m (moved_out n r d)
   refit_calls m d h = set_calls g.nodes n c f (moved_out n r) here m d h.0 h.1
 
-  pub refit_absent : (m : ℕ) → node_at g.nodes m ≡ None
+  refit_absent : (m : ℕ) → node_at g.nodes m ≡ None
       → node_at (refitted g n c f r).nodes m ≡ None
   refit_absent m h = set_absent g.nodes n c f (moved_out n r) here m h
 
-  pub refit_differ : AllDiffer g.nodes → AllDiffer (refitted g n c f r).nodes
+  refit_differ : AllDiffer g.nodes → AllDiffer (refitted g n c f r).nodes
   refit_differ a =
       differ_map (moved_out n r) set (differ_set g.nodes n (Pdo c f) (Pdo c here.0) here.1 a)
 
@@ -103,19 +103,19 @@ module _ (g : Graph) (p q : ℕ) (c : Place) (f : Forest) (here : Calls g p c)
   here_left : node_at left p ≡ Some (Pdo c here.0)
   here_left = without_other g.nodes q p differ ∙ here.1
 
-  pub join_calls : (m : ℕ) (d : Place) → Calls g m d → (m ≡ q → ⊥)
+  join_calls : (m : ℕ) (d : Place) → Calls g m d → (m ≡ q → ⊥)
       → Calls (joined_into g p q c f) m (moved p q d)
   join_calls m d h other =
       set_calls left p c f (moved p q) (here.0, here_left) m d h.0
       (without_other g.nodes q m other ∙ h.1)
 
-  pub join_absent : (m : ℕ) → (m ≡ q → ⊥) → node_at g.nodes m ≡ None
+  join_absent : (m : ℕ) → (m ≡ q → ⊥) → node_at g.nodes m ≡ None
       → node_at (joined_into g p q c f).nodes m ≡ None
   join_absent m other h =
       set_absent left p c f (moved p q) (here.0, here_left) m
       (without_other g.nodes q m other ∙ h)
 
-  pub join_gone : AllDiffer g.nodes → node_at (joined_into g p q c f).nodes q ≡ None
+  join_gone : AllDiffer g.nodes → node_at (joined_into g p q c f).nodes q ≡ None
   join_gone a =
       node_at-map (moved p q) kept q
       ∙ ap (mapped (moved p q)) (set_other left p q (Pdo c f) (λ e. differ (sym e))

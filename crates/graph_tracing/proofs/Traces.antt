@@ -39,7 +39,3 @@ goes_more group old new i r of can is at more g t =
     subst (λ (l : List Rewrite). IsTrace group g l new.graph) (sym more)
     (subst (λ (x : Graph). IsTrace group g (old.rewrites ++ r ∷ []) x) (sym at)
     (one_more group g old.graph i old.rewrites r t of can is))
-
-pub goes_then : (group : ℕ) (a b c : Trace) → GoesOn group a b → GoesOn group b c
-    → GoesOn group a c
-goes_then group a b c f h g t = h g (f g t)

@@ -185,7 +185,7 @@ module _ (b : Blocked) (fu : IsFusible b) where
   sound_middle : IsSound (middle b)
   sound_middle = sound_kept siblings.rewrites b.graph (middle b) siblings.leads sound
 
-  pub siblings_begin : (t : Trace) → t.graph ≡ b.graph → t.rewrites ≡ []
+  siblings_begin : (t : Trace) → t.graph ≡ b.graph → t.rewrites ≡ []
       → IsUnderway true (λ n. n) (after_kids siblings.rewrites (λ n. n)) t (middle b) (numbers es)
       first_part
   siblings_begin t at none = record {
@@ -238,7 +238,7 @@ module _ (b : Blocked) (fu : IsFusible b) where
       kids.rewrites (others_held kids.rewrites (middle b) last kids.leads sound_middle)
       least_kids.inner
 
-  pub kids_begin : (t : Trace) (l : ℕ → ℕ) → (l ≡ (λ n. n)) → t.graph ≡ middle b
+  kids_begin : (t : Trace) (l : ℕ → ℕ) → (l ≡ (λ n. n)) → t.graph ≡ middle b
       → t.rewrites ≡ first_part
       → IsUnderway false l total t last (kid_numbers b) whole
   kids_begin t l same at first = record {

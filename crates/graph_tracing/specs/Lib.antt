@@ -1,4 +1,5 @@
 pub mod Traces
+pub mod Sinks
 pub mod Orders
 pub mod Fusions
 pub mod inner

@@ -5,8 +5,8 @@ ghost use Rattle.exec_graph.specs.declared.graph.Graph.{Graph as GhostGraph};
 ghost use Rattle.flatten_sink.specs.inner.Turns.{IsMerged};
 ghost use Rattle.graph_rewrites.specs.declared.rewrite.Rewrite.TheVariants as rewrite;
 ghost use Rattle.sink_laws.specs.Chain as chain;
-ghost use Rattle.graph_tracing.specs.Traces.{GoesOn, IsTrace};
-ghost use Rattle.graph_tracing.specs.inner.Turns.{IsTurned};
+ghost use Rattle.graph_tracing.specs.Sinks.{IsSinking};
+ghost use Rattle.graph_tracing.specs.inner.Turns.{IsTurned, SinksOn};
 
 use crate::trace::Trace;
 use exec_graph::Graph;
@@ -16,11 +16,12 @@ use graph_rewrites::Rewrite;
 use sink_laws::Pair;
 use std::alloc::{AllocError, Global};
 
-/// The merges and the steps that `flatten_sink::sink` makes of the graph, in their order.
+/// The merges and the steps that `flatten_sink::sink` makes of the graph, each the next one of the
+/// graph as it then stands.
 pub fn sinks_of(alloc: Global, graph: Graph) -> Result<Pile<Rewrite>, AllocError>
     requires { IsGraphOk graph }
     ensures { IfOk result (λ rewrites. (h : GhostGraph) → chain.IsSunk graph h →
-        IsTrace 0 graph rewrites h) }
+        IsSinking graph rewrites h) }
 {
     let begun = Trace {
         graph,
@@ -103,7 +104,7 @@ fn followed(graph: Graph, rewrites: Pile<Rewrite>, rewrite: Rewrite) -> Result<T
 fn merged(alloc: Global, trace: Trace) -> Result<Trace, AllocError>
     requires { IsGraphOk trace.graph }
     ensures merged { IfOk result (λ t. IsMerged trace.graph t.graph) }
-    ensures traced { IfOk result (λ t. GoesOn 0 trace t) }
+    ensures sinks { IfOk result (λ t. SinksOn trace t) }
 {
     let mut trace = trace;
     'merges: loop {
@@ -119,7 +120,7 @@ fn merge(alloc: Global, trace: Trace, nest: Pair) -> Result<Trace, AllocError>
     requires ok { IsGraphOk trace.graph }
     requires next { chain.next_nest trace.graph.nodes ≡ Some nest }
     ensures graph { IfOk result (λ t. t.graph ≡ chain.after_nest trace.graph nest) }
-    ensures traced { IfOk result (λ t. GoesOn 0 trace t) }
+    ensures sinks { IfOk result (λ t. SinksOn trace t) }
 {
     let Trace { graph, rewrites } = trace;
     let made = merge_pair(alloc, graph, nest)?;

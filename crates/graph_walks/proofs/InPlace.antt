@@ -16,7 +16,7 @@ as_held = record { none = refl; more = λ x xs. refl; both = λ xs ys. refl }
 pub as_twigs : IsSeen (λ (os : List Output). map twig os) twig
 as_twigs = record { none = refl; more = λ o os. refl; both = λ os ps. map-append twig os ps }
 
-pub left_here : {X : Type 0} (xs : List X) (i : ℕ) (x : X) → i < length xs → x ≡ get_or xs i x
+left_here : {X : Type 0} (xs : List X) (i : ℕ) (x : X) → i < length xs → x ≡ get_or xs i x
     → drop i xs ≡ x ∷ drop (i + 1) xs
 left_here xs i x lt is =
     drop_more xs i x lt ∙ ap (λ y. y ∷ drop (i + 1) xs) (sym is)

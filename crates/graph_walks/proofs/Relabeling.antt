@@ -49,7 +49,7 @@ twigs_relabelled r b n (t ∷ ts) rest =
     ap (λ (f : Forest). Grow (with_out (r t.out) (label_at b n t)) (relabelled r t.kids) f)
     (twigs_relabelled r b (suc n) ts rest)
 
-pub grown_relabelled : (r : Option ℕ → Option ℕ) (bs : List Branch)
+grown_relabelled : (r : Option ℕ → Option ℕ) (bs : List Branch)
     → grown (map (relabelled_branch r) bs) ≡ relabelled r (grown bs)
 grown_relabelled r [] = refl
 grown_relabelled r (b ∷ bs) =

@@ -48,7 +48,7 @@ outputs_placed source called k [] = tt
 outputs_placed source called k (t ∷ types) =
     (omega arith, outputs_placed source called (suc k) types)
 
-pub makes_placed : (line : ℕ) (s : State) (by : Operation) (makings : List Making)
+makes_placed : (line : ℕ) (s : State) (by : Operation) (makings : List Making)
     → made_by line by s ≡ Ok makings → Placed 0 makings
 makes_placed line s by makings e =
     ⊎_elim

@@ -89,7 +89,7 @@ wider names it = wider_by names it (is_named names it)
 
 module _ (name : List ℕ) where
   -- the collection itself is always among the names
-  pub has_itself : (others : List Outline) → has (rested_on name others).collections name ≡ true
+  has_itself : (others : List Outline) → has (rested_on name others).collections name ≡ true
   has_itself [] = λ i. bytes_itself name i || false
   has_itself (it ∷ others) =
       (wider (rested_on name others) it).collections name (has_itself others)
@@ -120,7 +120,7 @@ module _ (name : List ℕ) where
   defined_named names outline.Output is it = cc
 
   -- what does not belong does not define it
-  pub not_defined : (others : List Outline) (it : Outline) → belongs name others it ≡ false
+  not_defined : (others : List Outline) (it : Outline) → belongs name others it ≡ false
       → defines it name ≡ false
   not_defined others it away = by (defines it name) refl
     where

@@ -171,7 +171,7 @@ module _ (SameFile : List ℕ → Type 0) (pairs more : Pairs)
   made_more (do_with {a} {b} {f} {g} {c} {d} reads by object) =
       do_with (sub a b reads) (calls f g by) (sub c d object)
 
-  pub entry_more : (a b : ℕ) (entry other : List ℕ × Node)
+  entry_more : (a b : ℕ) (entry other : List ℕ × Node)
       → EntryAlike SameFile pairs functions others a b entry other
       → EntryAlike SameFile more functions_more others_more a b entry other
   entry_more a b entry other alike = record {

@@ -158,7 +158,7 @@ pub record SameWritten (f g : WrittenFunction) : Type 0 where
   pub scale : f.scale ≡ g.scale
   pub body : (function_lineless f).body ≡ (function_lineless g).body
 
-pub same_written : (f g : WrittenFunction) → function_lineless f ≡ function_lineless g
+same_written : (f g : WrittenFunction) → function_lineless f ≡ function_lineless g
     → SameWritten f g
 same_written f g same = record {
   name = λ i. (same i).name;

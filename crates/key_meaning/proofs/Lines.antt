@@ -46,7 +46,7 @@ found_test line other kind false = refl
 -- ---- types as they are written
 
 module _ (line other : ℕ) where
-  pub found_shallow : (t : Ty) → found (shallow line t) ≡ found (shallow other t)
+  found_shallow : (t : Ty) → found (shallow line t) ≡ found (shallow other t)
   found_shallow t =
       found_then (unless line TooDeep (nat_le (depth_of t) 8))
       (unless other TooDeep (nat_le (depth_of t) 8)) (λ low. Ok t) (λ low. Ok t)
@@ -128,7 +128,7 @@ module _ (line other : ℕ) where
       ∙ ap (λ (f : Meaning). found (f known))
       (sym (tree.fold_out-Type Meaning (layer_written other (λ m. m)) type))
 
-  pub found_written : (type : tree.Type) → FoundType type
+  found_written : (type : tree.Type) → FoundType type
   found_written =
       tree.ind-Type FoundType
       (λ x y same known. from_form (tree.roll-Type x) known

@@ -53,7 +53,7 @@ fits_at functions before (first ∷ nodes) fit (suc i) entry at =
 module _ (script : Script) (well : IsWellFormed script) (number : ℕ) (entry : List ℕ × Node)
     (at : slice_get script.nodes number ≡ Some entry) where
   -- it stands before
-  pub reads_before : (n : ℕ) → Contains (operands entry.1.made) n → n < number
+  reads_before : (n : ℕ) → Contains (operands entry.1.made) n → n < number
   reads_before n reads =
       let it = fits_at script.functions [] script.nodes well.nodes number entry at in
       let below =

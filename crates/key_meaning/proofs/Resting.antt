@@ -80,7 +80,7 @@ module _ (script : Script) (made_ : Table) (asked : ℕ) where
       ++ sizes_from (before ++ entry ∷ []) nodes (append_assoc before (entry ∷ []) nodes ∙ split)
       (suc n) (omega (arith, long, length-append before (entry ∷ []))) i)
 
-  pub sizes_are : rested_sizes script made_ asked ≡ gathered sizes_at 0 (length script.nodes)
+  sizes_are : rested_sizes script made_ asked ≡ gathered sizes_at 0 (length script.nodes)
   sizes_are = sizes_from [] script.nodes refl 0 refl
 
 -- ---- partners

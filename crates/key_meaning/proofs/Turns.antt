@@ -216,7 +216,7 @@ module _ (SameFile : List ℕ → Type 0) (functions others : Named Function) (p
         subst (λ p. Paired all p (y + length other.body + j)) here
         (subst (Paired all (x + (n + j))) there (new (n + j) (later_turns left j below)))
 
-    pub left_alike : (left turn : ℕ) (es fs : List ℕ) (x y : ℕ) → AllZip (Paired all) es fs
+    left_alike : (left turn : ℕ) (es fs : List ℕ) (x y : ℕ) → AllZip (Paired all) es fs
         → length es ≡ m → ((j : ℕ) → j < left * n → Paired all (x + j) (y + j))
         → EntriesAlike SameFile all functions others x y (nodes_left repeat left turn es x)
         (nodes_left other left turn fs y)
@@ -237,7 +237,7 @@ module _ (SameFile : List ℕ → Type 0) (functions others : Named Function) (p
         (length-map repeat.gives (turn_to repeat es x) ∙ are.gives_long)
         (next_new left x y new))
 
-    pub gives_alike : (left : ℕ) (es fs : List ℕ) (x y : ℕ) → AllZip (Paired all) es fs
+    gives_alike : (left : ℕ) (es fs : List ℕ) (x y : ℕ) → AllZip (Paired all) es fs
         → length es ≡ m → ((j : ℕ) → j < left * n → Paired all (x + j) (y + j))
         → AllZip (Paired all) (gives_left repeat left es x) (gives_left other left fs y)
     gives_alike zero es fs x y zipped many new = zipped

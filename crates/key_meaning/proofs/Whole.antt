@@ -88,7 +88,7 @@ module _ (SameFile : List ℕ → Type 0) (pairs : Pairs) (one other : Script)
         kind = alike.kind;
       }
 
-  pub collection_same : (c d : Collection) → CollectionAlike pairs c d
+  collection_same : (c d : Collection) → CollectionAlike pairs c d
       → IsSameCollection one.nodes other.nodes c d
   collection_same c d alike = record {
     bag = alike.bag;
@@ -100,7 +100,7 @@ module _ (SameFile : List ℕ → Type 0) (pairs : Pairs) (one other : Script)
         (it.0, it.1, trap_same it.0 u it.2);
   }
 
-  pub type_same : (a b : ℕ) → Paired pairs a b
+  type_same : (a b : ℕ) → Paired pairs a b
       → members_at one.nodes a ≡ members_at other.nodes b
   type_same a b is =
       let node = paired a b is in
@@ -225,7 +225,7 @@ module _ (one other : Keyed) (names : one.output.name ≡ other.output.name) whe
     }
 
   -- the scripts as what their statements define
-  pub from_aligned : Aligned Same one.output.name ss rs → IsSameFor one other
+  from_aligned : Aligned Same one.output.name ss rs → IsSameFor one other
   from_aligned aligned =
       let s = defines_of ss one.work.script one.work.checked in
       let r = defines_of rs other.work.script other.work.checked in

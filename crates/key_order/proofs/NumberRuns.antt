@@ -68,7 +68,7 @@ keyed_parts Q (e ∷ ns) h q =
     q.0 (keyed_parts Q ns h.1 q.1)
 
 -- the groups of pairs up to a number, and of pairs above it
-pub groups_of_both : (n : ℕ) (ns ms : List Numbered) → Each Holds ns → Each Holds ms
+groups_of_both : (n : ℕ) (ns ms : List Numbered) → Each Holds ns → Each Holds ms
     → Each (λ (e : Numbered). e.0 ≤ n) ns → Each (λ (e : Numbered). n < e.0) ms
     → grouped (told ns ++ told ms) ≡ grouped (told ns) ++ grouped (told ms)
 groups_of_both n ns ms h g u o =
@@ -157,7 +157,7 @@ refs_held run refs all same =
 
 -- ---- where the first run ends
 
-pub run_over : {X : Type 0} (number : X → ℕ) (xs : List X) (end : ℕ) (first : X)
+run_over : {X : Type 0} (number : X → ℕ) (xs : List X) (end : ℕ) (first : X)
     → IsNonDecreasingBy number xs → 0 < length xs
     → (end < length xs → (x : X) → number (get_or xs end x) ≡ number (get_or xs 0 first) → ⊥)
     → All (λ x. number (get_or xs 0 first) < number x) (drop end xs)

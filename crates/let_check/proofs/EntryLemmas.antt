@@ -30,7 +30,7 @@ abbrev IsIn : List Ty → HeldOperand → Type 0
 IsIn types source = source.ty < length types
 
 module _ (old new : List Ty) (more : Extends old new) (from : List HeldOperand) where
-  pub operands-kept : All (IsIn old) from → map (operand_in new) from ≡ map (operand_in old) from
+  operands-kept : All (IsIn old) from → map (operand_in new) from ≡ map (operand_in old) from
   operands-kept within =
       same-map (operand_in new) (operand_in old) (IsIn old)
       (λ source in_ i. record {
@@ -114,7 +114,7 @@ module _ (line : ℕ) (lets : List TurnLet) (gives : List (List ℕ)) (outside :
       spec.repeat_of line gives entry outside (length s.nodes) body
       >>= (λ repeat. Ok (record { repeat = repeat; behind = with_front outside body }))
 
-  pub behind-lets : (entry : spec.Entry)
+  behind-lets : (entry : spec.Entry)
       → spec.after_entry line lets gives entry outside s ≡ of_entry entry
   behind-lets entry =
       ap (λ r. r >>= (λ (b : State).

@@ -66,17 +66,17 @@ module _ (repeat : Repeat) (entering : List ℕ) (turn left : ℕ) (s : State) w
   abbrev body : ℕ
   body = length repeat.body
 
-  pub turn-length : length (turn_nodes repeat entering start turn) ≡ body
+  turn-length : length (turn_nodes repeat entering start turn) ≡ body
   turn-length = length-map repeat.body (copied turn (turn_to repeat entering start))
 
-  pub turn-copies : (after : State) → after ≡ with_copies (turn_nodes repeat entering start turn) s
+  turn-copies : (after : State) → after ≡ with_copies (turn_nodes repeat entering start turn) s
       → length after.nodes ≡ start + body
   turn-copies after put =
       ap (λ s. length s.nodes) put
       ∙ length-append s.nodes (turn_nodes repeat entering start turn)
       ∙ ap (λ n. start + n) turn-length
 
-  pub turn-nodes : (after : State) → after ≡ with_copies (turn_nodes repeat entering start turn) s
+  turn-nodes : (after : State) → after ≡ with_copies (turn_nodes repeat entering start turn) s
       → (given : List ℕ) → given ≡ turn_gives repeat entering start
       → with_copies (nodes_left repeat left (suc turn) given (length after.nodes)) after
       ≡ with_copies (nodes_left repeat (suc left) turn entering start) s
@@ -89,7 +89,7 @@ module _ (repeat : Repeat) (entering : List ℕ) (turn left : ℕ) (s : State) w
       ∙ copies-more (turn_nodes repeat entering start turn)
       (nodes_left repeat left (suc turn) (turn_gives repeat entering start) (start + body)) s
 
-  pub turn-last : (after : State) → after ≡ with_copies (turn_nodes repeat entering start turn) s
+  turn-last : (after : State) → after ≡ with_copies (turn_nodes repeat entering start turn) s
       → (given : List ℕ) → given ≡ turn_gives repeat entering start
       → gives_left repeat left given (length after.nodes)
       ≡ gives_left repeat (suc left) entering start

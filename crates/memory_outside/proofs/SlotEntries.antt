@@ -46,7 +46,7 @@ entries_with old new key value is =
     slot_entries new ∙ ap (map as_entry) is ∙ with_as (files_of old) key value
     ∙ ap (λ es. with_entry es key value) (sym (slot_entries old))
 
-pub sizes_as : (files : List File)
+sizes_as : (files : List File)
     → sum_by entry_size (map as_entry files) ≡ sum_by file_size files
 sizes_as [] = refl
 sizes_as (file ∷ files) = sum_by-cons entry_size (as_entry file) (map as_entry files)

@@ -10,7 +10,7 @@ use Rattle.memory_outside.proofs.RoomLemmas.{sizes, sum_set}
 
 module _ (slots : List Slot) (k : ℕ) (x : Slot) (below : k < length slots)
     (is : x ≡ get_or slots k x) where
-  pub slot_name : name_at (files_of slots) k ≡ x.name.items
+  slot_name : name_at (files_of slots) k ≡ x.name.items
   slot_name = ap (λ o. option_map_or (λ file. file.name) o [])
       (slice_get-map file_of slots k ∙ ap (option_map file_of)
       (slice_get_read slots (length slots) k x refl below is))

@@ -122,13 +122,3 @@ fn add_source(entry: &Entry, places: &mut HashSet<u64>) -> Result<(), AllocError
         Node::Flatten(_) | Node::Pdo { .. } | Node::Gbk { .. } | Node::Barrier { .. } => { Ok(()) }
     }
 }
-
-/// Adds these collections.
-pub(crate) fn add_places(cs: &[Place], places: &mut HashSet<u64>) -> Result<(), AllocError>
-    ensures { OnOk result (HasAlso places.old places.new (λ d. among d cs.now)) }
-{
-    for c in cs {
-        add_place(*c, places)?;
-    }
-    Ok(())
-}

@@ -35,7 +35,7 @@ pub least_in : (P : ℕ → Type 0) (n : ℕ) (qs : List ℕ) → P n → Each P
 least_in P n [] p a = p
 least_in P n (q ∷ qs) p a = least_in P (lesser n q) qs (picked P n q p a.0) a.1
 
-pub lesser_low : (n q : ℕ) → lesser n q ≤ n
+lesser_low : (n q : ℕ) → lesser n q ≤ n
 lesser_low n q = by (ltb q n) refl
   where
     by : (b : Bool) → ltb q n ≡ b → cond b q n ≤ n

@@ -181,7 +181,7 @@ module _ (tasks : ℕ) (s : Settings) {O : Type 0} (is_value : ℕ → Result O 
             (made_at (length t.before) t.here (Err trap) at t.named.1),
       )
 
-  pub come_to : (made : PhaseOuts O) → n < tasks → IsClosed tasks s (length olds) board
+  come_to : (made : PhaseOuts O) → n < tasks → IsClosed tasks s (length olds) board
       → HaveWorked tasks s places board.passes olds news → AreMadeOf ks made
       → HasComeTo tasks s is_value places olds news n board.words
   come_to made small closed worked m = record {

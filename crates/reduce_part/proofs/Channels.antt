@@ -74,7 +74,7 @@ module _ {F : Type 0} {r : Reducing F} {w : World} {takes : ℕ → Value → Ty
     pub no_pass : (t : Take) (n : ℕ) → o ≡ Pass t n → ⊥
     no_pass t n e = let both : Pass t n ≡ Group found.0 = sym e ∙ channel_is in cc both
 
-    pub groups_by : (g : Grouping) → o ≡ Group g → channel_at r k ≡ Some g
+    groups_by : (g : Grouping) → o ≡ Group g → channel_at r k ≡ Some g
     groups_by g e =
         let both : Group found.0 ≡ Group g = sym channel_is ∙ e in
         let one : found.0 ≡ g = cc in found.1 ∙ ap Some one

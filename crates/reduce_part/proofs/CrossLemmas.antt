@@ -14,7 +14,7 @@ use Rattle.reduce_part.specs.contracts.tasks.ReduceTasks as tasks
 Sent-sync : IsSync sent.the_row
 Sent-sync = search (sendable, crosses, values_cross, Couple-sync) depth 60
 
-pub MapOut-sync : IsSync map_out.the_row
+MapOut-sync : IsSync map_out.the_row
 MapOut-sync = search (sendable, crosses, values_cross, Sent-sync) depth 60
 
 pub ReduceTasks-sync : (a : NamedLft) (F : RattleType) (ghosts : Ghosts F.Denot) → IsSync F

@@ -191,7 +191,7 @@ module _ (script : Script) (well : IsWellFormed script) (all : Table)
           ap (λ (x : Collection). x.traps) (sym same)
           ∙ it.none (deeper d.0 d.1)
 
-  pub all-clean : IsClean all
+  all-clean : IsClean all
   all-clean n c is =
       let below = within all n c is in
       let size = zip-length IsMadeFor script.nodes all are.each in

@@ -33,7 +33,7 @@ back_of : {X : Type 0} (xs ys : List X) → drop (length xs) (xs ++ ys) ≡ ys
 back_of [] ys = refl
 back_of (x ∷ xs) ys = back_of xs ys
 
-pub ordered-both : {X : Type 0} (kinds : List Bool) (xs ys : List X)
+ordered-both : {X : Type 0} (kinds : List Bool) (xs ys : List X)
     → length xs ≡ input_count kinds → ordered kinds (xs ++ ys) ≡ in_turn kinds xs ys
 ordered-both kinds xs ys size =
     λ i. in_turn kinds
@@ -235,7 +235,7 @@ module _ (script : Script) (well : IsWellFormed script) (found : List ℕ) (all 
       (Some c, rest)
   goes-on false how nodes rows here h = (None, h)
 
-  pub all-turn : (nodes : Named Node) → AllTurn nodes
+  all-turn : (nodes : Named Node) → AllTurn nodes
   all-turn [] before split un n place [] here size h = record { turn = refl; size = refl }
   all-turn [] before split un n place (list ∷ rows) here size h = cc
   all-turn (entry ∷ nodes) before split un n place rows here size h =

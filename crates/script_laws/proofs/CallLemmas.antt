@@ -117,7 +117,7 @@ module _ (source called : ℕ) where
       let rest = many (suc output) types in
       omega (arith, rest)
 
-  pub output-at : (output : ℕ) (types : List Ty) (k : ℕ) → k < length types
+  output-at : (output : ℕ) (types : List Ty) (k : ℕ) → k < length types
       → slice_get (mades output types) k ≡ Some (made.Do source called (output + k))
   output-at output [] k below = absurd (omega (arith, below))
   output-at output (t ∷ types) zero below =

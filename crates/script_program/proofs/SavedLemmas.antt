@@ -10,8 +10,8 @@ use Rattle.script_program.specs.declared.made.Function.{Function as HeldFunction
 use Rattle.script_program.specs.declared.made.Node.{Node as HeldNode}
 use Rattle.script_program.proofs.SourceSteps.{told_many}
 use Rattle.script_program.specs.Needed.{has}
-use Rattle.script_program.specs.Saved.{saved_from, saved_node}
-use Rattle.script_program.specs.inner.Tables.{AreHeld, held_saved, held_saved_at, held_saved_from}
+use Rattle.script_program.specs.Saved.{kept_at, saved_from, saved_node}
+use Rattle.script_program.specs.inner.Tables.{AreHeld, held_saved, held_saved_from}
 use Rattle.script_program.specs.inner.Tables.{node_of}
 
 -- ---- one after another
@@ -19,17 +19,18 @@ use Rattle.script_program.specs.inner.Tables.{node_of}
 -- the collection at a place is done, where it has that number
 one-saved : (found : List ℕ) (nodes : Named HeldNode) (place n : ℕ) (x : List ℕ × HeldNode)
     → place < length nodes → x ≡ get_or nodes place x
-    → take (suc place) (set nodes place (held_saved_at found n x))
-    ++ held_saved_from found (suc n) (drop (suc place) (set nodes place (held_saved_at found n x)))
+    → take (suc place) (set nodes place (kept_at held_saved found n x))
+    ++ held_saved_from found (suc n)
+    (drop (suc place) (set nodes place (kept_at held_saved found n x)))
     ≡ take place nodes ++ held_saved_from found n (drop place nodes)
 one-saved found [] place n x below is = absurd (omega arith)
 one-saved found (entry ∷ nodes) zero n x below is =
-    ap (λ e. held_saved_at found n e ∷ held_saved_from found (suc n) nodes) is
+    ap (λ e. kept_at held_saved found n e ∷ held_saved_from found (suc n) nodes) is
 one-saved found (entry ∷ nodes) (suc place) n x below is =
     ap (λ rest. entry ∷ rest) (one-saved found nodes place n x (omega arith) is)
 
 pub saved-step : (found : List ℕ) (nodes : Named HeldNode) (place : ℕ) (x y : List ℕ × HeldNode)
-    → place < length nodes → x ≡ get_or nodes place x → y ≡ held_saved_at found place x
+    → place < length nodes → x ≡ get_or nodes place x → y ≡ kept_at held_saved found place x
     → take (place + 1) (set nodes place y)
     ++ held_saved_from found (place + 1) (drop (place + 1) (set nodes place y))
     ≡ take place nodes ++ held_saved_from found place (drop place nodes)

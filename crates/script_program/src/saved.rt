@@ -1,7 +1,8 @@
 // Collections that an earlier run has kept, in place of how the script makes them.
 ghost use Rattle.std.specs.Prelude.{◌≡◌};
 ghost use Rattle.script_program.specs.Needed.{has};
-ghost use Rattle.script_program.specs.inner.Tables.{held_saved, held_saved_at, held_saved_from};
+ghost use Rattle.script_program.specs.Saved.{kept_at};
+ghost use Rattle.script_program.specs.inner.Tables.{held_saved, held_saved_from};
 
 use crate::made::Node;
 use flume_value::Str;
@@ -17,7 +18,7 @@ pub fn save_found(nodes: &mut Vec<(Str, Node)>, found: &[u32])
 
 /// Lets the collection of a number be a kept one, where the number is among those found.
 fn save_at(entry: &mut (Str, Node), number: usize, found: &[u32])
-    ensures { entry.new ≡ held_saved_at found.now number entry.old }
+    ensures { entry.new ≡ kept_at held_saved found.now number entry.old }
 {
     if is_found(found, number) {
         save(&mut entry.1);

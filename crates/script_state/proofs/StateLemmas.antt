@@ -85,7 +85,7 @@ pub record Grows (old new : Known) : Type 0 where
   pub longer : length old.names ≤ length new.names
   pub names : (n : ℕ) → n ≤ length old.names → take n new.names ≡ take n old.names
 
-pub grows-types : (old new : Known) → Extends old.types new.types → new.names ≡ old.names
+grows-types : (old new : Known) → Extends old.types new.types → new.names ≡ old.names
     → Grows old new
 grows-types old new more names = record {
   types = more;
@@ -156,7 +156,7 @@ module _ (old new : Known) (more : Grows old new) (functions : Named HeldFunctio
     does = subst (DoesAsWritten function.fun) (sym (function-kept function in_)) in_.does;
   }
 
-  pub held-more : AreHeld new functions nodes
+  held-more : AreHeld new functions nodes
   held-more = (
     λ k entry in_. function-more (get_or functions k entry).1 (held.0 k entry in_),
     λ k entry in_. omega (arith, held.1 k entry in_, more.types.longer),

@@ -209,7 +209,7 @@ module _ (P : Forest → Type 0) where
   steps_by g n true u = u
   steps_by g n false u = all_without (λ e. HasSteps P e.node) g.nodes n u
 
-  pub AllSteps-tidied : (g : Graph) (n : ℕ) → AllSteps P g → AllSteps P (tidied g n)
+  AllSteps-tidied : (g : Graph) (n : ℕ) → AllSteps P g → AllSteps P (tidied g n)
   AllSteps-tidied g n u = steps_by g n (is_read g (place n 0)) u
 
   pub AllSteps-sink_step : (g : Graph) (n p : ℕ) (f : Forest) (ins : List Place)

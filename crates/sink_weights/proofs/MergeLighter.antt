@@ -257,7 +257,7 @@ module _ (g : Graph) (f : ℕ) (ins : List Place) (e : ℕ) (es : List Place) (o
       let b = tidy.weighs (weight t.nodes) in
       let c = weigh_set v g.nodes f x in omega arith
 
-  pub merged_falls : added (weight t.nodes) t.outputs + unread_weight (weight t.nodes) t t.nodes
+  merged_falls : added (weight t.nodes) t.outputs + unread_weight (weight t.nodes) t t.nodes
       < added (weight g.nodes) g.outputs + unread_weight (weight g.nodes) g g.nodes
   merged_falls =
       let r = root in

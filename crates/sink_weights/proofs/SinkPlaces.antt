@@ -45,7 +45,7 @@ module _ (g : Graph) (n p : ℕ) (f : Forest) (ins : List Place) (ok : IsGraphOk
   low : p < g.next
   low = p_below g n p f ins ok.founded.below can
 
-  pub weight_n : weight g.nodes n ≡ 1 + added (weight g.nodes) ins
+  weight_n : weight g.nodes n ≡ 1 + added (weight g.nodes) ins
   weight_n = weight_fits g n (Flatten ins) ok.founded can.flatten
 
   pub weight_p : weight g.nodes p ≡ 2 * (1 + added (weight g.nodes) ins)

@@ -87,17 +87,17 @@ module _ (g : Graph) (n p : ℕ) (f : Forest) (ins : List Place) (ok : IsGraphOk
   forest_ok = all_found (λ e. IsNodeOk g e.number e.node) g.nodes p (Pdo (place n 0) f) can.pdo
       ok.nodes
 
-  pub n_under_p : ok.founded.ranked.0 n < ok.founded.ranked.0 p
+  n_under_p : ok.founded.ranked.0 n < ok.founded.ranked.0 p
   n_under_p =
       (ranked_at ok.founded.ranked.0 g.nodes p (Pdo (place n 0) f) ok.founded.ranked.1 can.pdo).0
 
-  pub n_apart : n ≡ p → ⊥
+  n_apart : n ≡ p → ⊥
   n_apart e =
       let l = n_under_p in
       let i : ok.founded.ranked.0 n ≡ ok.founded.ranked.0 p = ap ok.founded.ranked.0 e in
       omega arith
 
-  pub n_below : n < g.next
+  n_below : n < g.next
   n_below = all_found (λ e. e.number < g.next) g.nodes n (Flatten ins) can.flatten
       ok.founded.below
 

@@ -47,7 +47,7 @@ module _ (g : Graph) (f : ℕ) (ins outs : List Place) (ok : IsSound g)
       Each-weaker (IsThere g.nodes) (IsThere set)
       (λ c t. there_set g.nodes f ins outs c at t) cs a
 
-  pub refilled_sound : Each (IsThere g.nodes) outs
+  refilled_sound : Each (IsThere g.nodes) outs
       → Each (λ c. ok.ranked.0 c.node < ok.ranked.0 f) outs → IsSound refilled
   refilled_sound there lower =
       let T : Entry → Type 0 = λ e. Each (IsThere g.nodes) (reads e.node) in
@@ -66,7 +66,7 @@ module _ (g : Graph) (f : ℕ) (ins outs : List Place) (ok : IsSound g)
         );
       }
 
-  pub refilled_keeps : ((w : World) (m : Place → Collection) → Meets w g.nodes m
+  refilled_keeps : ((w : World) (m : Place → Collection) → Meets w g.nodes m
       → together (map m outs) ≡ together (map m ins)) → KeepsMeaning g refilled
   refilled_keeps same w m h =
       let q : Trap → List Trap → List Trap = put_new trap_le in
@@ -90,7 +90,7 @@ module _ (g : Graph) (f : ℕ) (ins outs : List Place) (ok : IsSound g)
         },
       )
 
-  pub refilled_types : ((s : Signatures) (types : Place → Ty) → IsTypedBy s g types
+  refilled_types : ((s : Signatures) (types : Place → Ty) → IsTypedBy s g types
       → Each (λ c. types c ≡ types (place f 0)) outs) → KeepsTypes g refilled
   refilled_types fit s typed = (
     typed.0,

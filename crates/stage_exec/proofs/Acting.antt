@@ -33,7 +33,7 @@ use Rattle.stage_exec.specs.inner.Stages.{IsStageGiven}
 use Rattle.stage_exec.proofs.Running.{all_dropped}
 
 -- where the making of an object stops, so does its phase
-pub act_stops : (tries : ℕ) (drill : List Entry) (w : World) (traps : List Trap)
+act_stops : (tries : ℕ) (drill : List Entry) (w : World) (traps : List Trap)
     (us : List Account) (e : RunFault) → IsActFault traps e
     → IsStopped tries drill w (OfAct traps ∷ []) us us e
 act_stops tries drill w traps us (fault.Trap trap) first =

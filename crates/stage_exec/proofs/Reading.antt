@@ -128,7 +128,7 @@ module _ (w : World) (n : Split) (t u : Lists) where
       (shard_same c (agree_front t u (in_reads c) (flat_map in_reads ins) agree) i j)) n.shards
       ++ map_phase_same f ins (agree_back t u (in_reads c) (flat_map in_reads ins) agree) j
 
-  pub stage_tasks_same : {Y : Type 0} (q : SaysOfTasks Y) (s : Stage) → AgreeOn (stage_reads s) t u
+  stage_tasks_same : {Y : Type 0} (q : SaysOfTasks Y) (s : Stage) → AgreeOn (stage_reads s) t u
       → stage_tasks q w n t s ≡ stage_tasks q w n u s
   stage_tasks_same q (Mscr s) agree = λ j.
       map_phase_same q.maps s.inputs agree j
@@ -149,7 +149,7 @@ module _ (w : World) (n : Split) (t u : Lists) where
         (reduce_count n s);
   }) ∷ []
 
-  pub stage_phases_same : (k : ℕ) (s : Stage) → AgreeOn (stage_reads s) t u
+  stage_phases_same : (k : ℕ) (s : Stage) → AgreeOn (stage_reads s) t u
       → stage_phases w k n t s ≡ stage_phases w k n u s
   stage_phases_same k (Mscr s) agree = λ j. OfTasks (record {
     stage = k;
@@ -176,7 +176,7 @@ module _ (w : World) (n : Split) (t u : Lists) where
   flat_same (p ∷ places) agree = λ j.
       ap head_or agree j ++ flat_same places (ap tail_of agree) j
 
-  pub results_same : (s : Stage) → AgreeOn (stage_reads s) t u
+  results_same : (s : Stage) → AgreeOn (stage_reads s) t u
       → result_lists w n t s ≡ result_lists w n u s
   results_same (Mscr s) agree = λ j. flat_map (λ c. given_same s.inputs agree c j) s.outputs
   results_same (Flatten takes) agree = λ j. flat_same takes agree j ∷ []

@@ -75,7 +75,7 @@ module _ (nums : List ℕ) (give : ℕ → ℕ → List Value) where
       ∙ (let step : k + suc q ≡ suc k + q = omega arith in ap (λ n. map (give n) nums) step))
       ∙ ap of_first long
 
-  pub joined_all : (outs : List ReduceOut) → 0 < length outs
+  joined_all : (outs : List ReduceOut) → 0 < length outs
       → ((q : ℕ) (o : ReduceOut) → slice_get outs q ≡ Some o → o.outputs ≡ map (give q) nums)
       → all_joined [] outs ≡ of_first (length outs)
   joined_all [] some f = absurd (omega arith)

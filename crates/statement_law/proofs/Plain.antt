@@ -42,7 +42,7 @@ go_numbered q g.present d vs = goes (plain q (plain refl stop)) g.present
 
 module _ (limits : Limits) where
   mutual
-    pub go_type : {ts us : List Token} {t : Tree} {a : ℕ} → g.IsType limits ts us t a → (d : ℕ)
+    go_type : {ts us : List Token} {t : Tree} {a : ℕ} → g.IsType limits ts us t a → (d : ℕ)
         (vs : List Token) → Goes d ts us vs (λ ws. g.IsType limits ws vs t a)
     go_type g.int d vs = goes (plain refl stop) g.int
     go_type g.bool d vs = goes (plain refl stop) g.bool

@@ -105,7 +105,7 @@ module _ (w : World) (n : Split) (some : 0 < n.shards) (t : Lists) where
       (cases_lt k.channel (length ins))
       ∙ shards_whole (slice_get ins k.channel) k.out
 
-  pub gathered_whole : (ins : List InChannel) (takes : List Take)
+  gathered_whole : (ins : List InChannel) (takes : List Take)
       → Alike (gathered w n t ins takes) (whole w t ins takes)
   gathered_whole ins takes =
       let at = λ (m i : ℕ) (k : Take). cond (k.channel == m)
@@ -164,7 +164,7 @@ module _ (w : World) (n : Split) (some : 0 < n.shards) (t : Lists) where
     -- and no map task traps
     module _ (ins : List InChannel)
         (calm : flat_map (λ (c : InChannel). each_in w each_trap (fed m c)) ins ≡ []) where
-      pub taken_agrees : (k : Take)
+      taken_agrees : (k : Take)
           → Agrees (whole_out w t (slice_get ins k.channel) k.out) (taken w (map (fed m) ins) k)
       taken_agrees k =
           subst (λ (o : Option Fed).

@@ -100,7 +100,7 @@ module _ (s : Signatures) (w : World) (world : IsWorldTyped s w) where
           subst (λ (m : ℕ). AllByRecursion (Has (outs (place n m))) xs) (eqb-true k j e)
           (subst (λ (r : Ty). AllByRecursion (Has r) xs) (sym a) i)
 
-  pub gives_typed : (outs : Place → Ty) (n : ℕ) (t : Ty) (f : Option Forest) (j : ℕ)
+  gives_typed : (outs : Place → Ty) (n : ℕ) (t : Ty) (f : Option Forest) (j : ℕ)
       → IsOutput f j → ChannelTyped s outs n t f → (xs : List Value) → AllByRecursion (Has t) xs
       → AllByRecursion (Has (outs (place n j))) (gives w f xs j)
   gives_typed outs n t None j first typed xs h =

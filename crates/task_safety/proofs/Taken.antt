@@ -41,7 +41,7 @@ module _ (taken takes : ℕ → Value → Type 0) (more : (f : ℕ) (x : Value) 
     safe_of_more w None x a = tt
     safe_of_more w (Some f) x a = safe_more w f x a
 
-    pub all_safe_more : (v w : World) → v.called ≡ w.called → (f : Option Forest) (xs : List Value)
+    all_safe_more : (v w : World) → v.called ≡ w.called → (f : Option Forest) (xs : List Value)
         → AllByRecursion (SafeOf v taken f) xs → AllByRecursion (SafeOf w takes f) xs
     all_safe_more v w same f xs all =
         Each-weaker (SafeOf v taken f) (SafeOf w takes f)

@@ -21,7 +21,7 @@ use Rattle.type_table.proofs.ShapeLemmas.{tells_apart, shape_eq-Decides}
 use Rattle.type_table.specs.Table.{type_at, field_at, level, tree_of, IsWithin, Extends, types_from, types_of, entry_at, capped, IsTable}
 
 -- a type's first level
-pub out-tree : (types : List Ty) (s : Shape) → out-Ty (tree_of types s) ≡ level types s
+out-tree : (types : List Ty) (s : Shape) → out-Ty (tree_of types s) ≡ level types s
 out-tree types shape.Int = ty.outs-Int
 out-tree types shape.Bool = ty.outs-Bool
 out-tree types shape.Text = ty.outs-Text
@@ -31,7 +31,7 @@ out-tree types (shape.Either left right) = ty.outs-Either (type_at types left) (
 
 -- ---- more types
 
-pub Extends-itself : (types : List Ty) → Extends types types
+Extends-itself : (types : List Ty) → Extends types types
 Extends-itself types = record { longer = omega arith; same = λ id in_. refl }
 
 pub Extends-twice : (a b c : List Ty) → Extends a b → Extends b c → Extends a c
@@ -40,7 +40,7 @@ Extends-twice a b c ab bc = record {
   same = λ id in_. bc.same id (omega (arith, ab.longer)) ∙ ab.same id in_;
 }
 
-pub Extends-push : (types : List Ty) (t : Ty) → Extends types (types ++ t ∷ [])
+Extends-push : (types : List Ty) (t : Ty) → Extends types (types ++ t ∷ [])
 Extends-push types t = record {
   longer = omega (arith, length-append types (t ∷ []));
   same = λ id in_. get_or_append_left types (t ∷ []) ty.Int id in_;
@@ -126,7 +126,7 @@ types_from-push types [] entry = refl
 types_from-push types (e ∷ entries) entry =
     types_from-push (types ++ tree_of types e.0 ∷ []) entries entry
 
-pub types_of-push : (entries : List (Shape × ℕ)) (entry : Shape × ℕ)
+types_of-push : (entries : List (Shape × ℕ)) (entry : Shape × ℕ)
     → types_of (entries ++ entry ∷ []) ≡ types_of entries ++ tree_of (types_of entries) entry.0 ∷ []
 types_of-push = types_from-push []
 
@@ -199,7 +199,7 @@ module _ (entries : List (Shape × ℕ)) (s : Shape) (depth : ℕ) (is : IsTable
       (λ e. refl) other other_in)
       id in_
 
-  pub IsTable-push : ((id : ℕ) → id < n → (entry_at entries id).0 ≡ s → ⊥)
+  IsTable-push : ((id : ℕ) → id < n → (entry_at entries id).0 ≡ s → ⊥)
       → depth ≡ capped (depth_of (tree_of types s)) → IsTable after
   IsTable-push absent deep =
       let length-after : length after ≡ n + 1 = length-append entries ((s, depth) ∷ []) in record {

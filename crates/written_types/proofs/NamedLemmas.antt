@@ -96,7 +96,7 @@ names-kept old new more names held =
 module _ {A B S : Type 0} (f : A → B) (old new : IndexMap (List ℕ) A S) (name : List ℕ) (x : A)
     (absent : find name (map (mapped f) old.entries) ≡ None)
     (put : new.entries ≡ insert_entry bytes_eq old.entries name x) where
-  pub entries-put : new.entries ≡ old.entries ++ (name, x) ∷ []
+  entries-put : new.entries ≡ old.entries ++ (name, x) ∷ []
   entries-put =
       put
       ∙ insert_entry-new bytes_eq old name x

@@ -8,7 +8,7 @@ use Rattle.script_program.specs.declared.made.Function.{Function as HeldFunction
 use Rattle.script_program.specs.declared.made.Node.{Node as HeldNode}
 use Rattle.script_program.specs.declared.made.Output.{Output}
 use Rattle.script_program.specs.Script.{Function, Node}
-use Rattle.script_program.specs.Saved.{kept_at, kept_from, saved_as}
+use Rattle.script_program.specs.Saved.{kept_from, saved_as}
 use Rattle.script_program.specs.Program.{Numbered, HasTypes, function_in, node_in, DoesAsWritten}
 
 abbrev pub function_of : Known → List ℕ × HeldFunction → List ℕ × Function
@@ -51,10 +51,6 @@ AreHeld known functions nodes = AreFunctions known functions × AreNodes known n
 -- a collection in memory that is kept
 abbrev pub held_saved : HeldNode → HeldNode
 held_saved held = record held { made = saved_as held.made }
-
--- the collection in memory of that number, which is kept where the number is among those found
-abbrev pub held_saved_at : List ℕ → ℕ → List ℕ × HeldNode → List ℕ × HeldNode
-held_saved_at found number entry = kept_at held_saved found number entry
 
 abbrev pub held_saved_from : List ℕ → ℕ → Named HeldNode → Named HeldNode
 held_saved_from found number nodes = kept_from held_saved found number nodes

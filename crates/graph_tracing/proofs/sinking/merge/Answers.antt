@@ -1,6 +1,6 @@
 use Rattle.std.proofs.Common.{ap, ◌∙◌}
 use Rattle.graph_tracing.specs.declared.trace.Trace.{Trace}
-use Rattle.graph_tracing.proofs.Sinks.{nest_goes, nest_graph, nest_some}
+use Rattle.graph_tracing.proofs.Sinks.{nest_graph, nest_sinks, nest_some}
 use Rattle.graph_tracing.proofs.sinking.merge.Goals as goal
 
 pub unwrap-merged-requires : goal.unwrap-merged-requires
@@ -14,9 +14,9 @@ returns-clause-graph c =
     ∙ nest_graph c.args.trace.graph c.unwrap-merged.result c.args.nest c.in_ok-made.made
     c.in_ok-made.ensures.merged c.unwrap-merged.ensures
 
-pub returns-clause-traced : goal.returns-clause-traced
-returns-clause-traced c =
-    nest_goes c.args.trace c.in_ok-next.next c.args.nest c.requires.ok c.requires.next
+pub returns-clause-sinks : goal.returns-clause-sinks
+returns-clause-sinks c =
+    nest_sinks c.args.trace c.in_ok-next.next c.args.nest c.requires.ok c.requires.next
     (ap (λ (t : Trace). t.graph) c.in_ok-next.ensures
     ∙ nest_graph c.args.trace.graph c.unwrap-merged.result c.args.nest c.in_ok-made.made
     c.in_ok-made.ensures.merged c.unwrap-merged.ensures)

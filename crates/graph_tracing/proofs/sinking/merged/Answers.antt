@@ -1,13 +1,13 @@
 use Rattle.std.proofs.Common.{sym, ap, ◌∙◌}
 use Rattle.sink_laws.specs.Chain.{next_nest}
 use Rattle.flatten_sink.proofs.Turning.{merge_lighter, on_way_first, on_way_last, on_way_more}
-use Rattle.graph_tracing.proofs.Traces.{goes_then}
+use Rattle.graph_tracing.proofs.Sinks.{sinks_then}
 use Rattle.graph_tracing.proofs.sinking.merged.Goals as goal
 
 pub merges-init : goal.merges-init
 merges-init c = record {
   way = on_way_first c.args.trace.graph c.requires;
-  traced = λ g t. t;
+  sinks = λ g t. t;
 }
 
 pub merge-requires-clause-next : goal.merge-requires-clause-next
@@ -25,8 +25,8 @@ merges-preserved c = record {
   way = on_way_more c.merges.invariant.way
       (ap next_nest (sym c.as_slice.ensures) ∙ sym c.next_nest.ensures ∙ c.in-Some.is)
       c.in_ok-trace-in-Some.ensures.graph;
-  traced = goes_then 0 c.args.trace c.merges.trace c.in_ok-trace-in-Some.trace
-      c.merges.invariant.traced c.in_ok-trace-in-Some.ensures.traced;
+  sinks = sinks_then c.args.trace c.merges.trace c.in_ok-trace-in-Some.trace
+      c.merges.invariant.sinks c.in_ok-trace-in-Some.ensures.sinks;
 }
 
 pub returns-in-None-clause-merged : goal.returns-in-None-clause-merged

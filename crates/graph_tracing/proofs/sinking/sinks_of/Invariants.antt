@@ -1,12 +1,12 @@
 use Rattle.std.proofs.Common.{◌-◌, ◌^◌}
 use Rattle.flatten_sink.specs.inner.Turns.{IsReached}
-use Rattle.graph_tracing.specs.Traces.{IsTrace}
+use Rattle.graph_tracing.specs.Sinks.{IsSinking}
 use Rattle.graph_tracing.proofs.sinking.sinks_of.Given as goal
 
 abbrev pub invariant-steps : goal.invariant-steps
 invariant-steps l = record {
   reached : IsReached l.fn.graph l.trace.graph;
-  traced : IsTrace 0 l.fn.graph l.trace.rewrites l.trace.graph;
+  sinks : IsSinking l.fn.graph l.trace.rewrites l.trace.graph;
 }
 
 abbrev pub decreases-steps : goal.decreases-steps

@@ -27,4 +27,4 @@ returns-in_ok-next-in-Some c =
     c.in-Some.is)
     (ap (λ (t : Trace). t.graph) c.in_ok-behind-in-Some.ensures)
     (ap (λ (t : Trace). t.rewrites) c.in_ok-behind-in-Some.ensures)
-    c.in_ok-next-in-Some.ensures.merged c.in_ok-next-in-Some.ensures.traced
+    c.in_ok-next-in-Some.ensures.merged c.in_ok-next-in-Some.ensures.sinks

@@ -11,6 +11,7 @@ sinks_of-requires c = subst IsGraphOk (sym c.in_ok-copy.ensures) c.requires
 pub returns-clause-traced : goal.returns-clause-traced
 returns-clause-traced c =
     let last : Graph = c.in_ok-graph.graph in
+    let sunk : IsSunk c.in_ok-copy.copy last =
+    subst (λ (g : Graph). IsSunk g last) (sym c.in_ok-copy.ensures) c.in_ok-graph.ensures.sunk in
     subst (λ (g : Graph). IsTrace 0 g c.in_ok-rewrites.rewrites last) c.in_ok-copy.ensures
-    (c.in_ok-rewrites.ensures last
-    (subst (λ (g : Graph). IsSunk g last) (sym c.in_ok-copy.ensures) c.in_ok-graph.ensures.sunk))
+    (c.in_ok-rewrites.ensures last sunk).traced
