@@ -16,7 +16,7 @@ use Rattle.flume_collection.specs.Traps.{trap_set}
 use Rattle.exec_graph.specs.Calls.{called}
 use Rattle.exec_graph.specs.Forests.{Forest, Bare, Grow}
 use Rattle.exec_graph.specs.Meaning.{collection, first, is_out, node_at, nothing, or_nothing, out_of, solve, through, value as given, value_at}
-use Rattle.exec_graph.specs.Objects.{act_result, beside, called_beside, none_of, trap_object, value_in, value_object}
+use Rattle.exec_graph.specs.Objects.{act_result, world_beside, called_beside, none_of, trap_object, value_in, value_object}
 use Rattle.exec_graph.specs.World.{World}
 use Rattle.exec_graph.specs.declared.graph.Act.{Act}
 use Rattle.exec_graph.specs.declared.graph.Entry.{Entry}
@@ -116,7 +116,7 @@ act_in_order : (w : World) (o : ℕ) (a : Act) (cs : List Collection)
 act_in_order =
     act_holds IsOfSortedLists one_in_order trap_in_order none_of_in_order
     (λ w o f c object.
-    passed_in_order o 0 ((beside (value_in object) w).called f)
+    passed_in_order o 0 ((world_beside (value_in object) w).called f)
     (called_beside (value_in object) c object))
 
 -- ---- nodes

@@ -17,7 +17,7 @@ use Rattle.bag_groups.specs.Combining.{combined_each, combined_pair, trapped_key
 use Rattle.bag_groups.proofs.PairLemmas.{Parts}
 use Rattle.combine_table.specs.declared.comb.Comb.TheVariants as by
 use Rattle.combine_table.specs.Contents.{int_or_zero}
-use Rattle.combine_table.specs.Combinations.{combined, int_or_overflow, total, wrapped}
+use Rattle.combine_table.specs.Combinations.{combined, int_or_overflow, int_total, wrapped}
 use Rattle.bag_steps.specs.Counts.{counted, counted_traps}
 use Rattle.bag_steps.proofs.RunLemmas.{times-cons}
 use Rattle.bag_step_laws.specs.Derived.{pair_with_one}
@@ -56,10 +56,10 @@ int-one = ap (λ o. unwrap_or (int_layer o) (pos 0)) (value.outs-Int (pos 1))
 add_one : (n : ℕ) → 1 + n ≡ suc n
 add_one n = omega arith
 
-total-ones : (vs : List Value) → Each (λ v. v ≡ one) vs → total vs ≡ pos (length vs)
+total-ones : (vs : List Value) → Each (λ v. v ≡ one) vs → int_total vs ≡ pos (length vs)
 total-ones [] e = refl
 total-ones (v ∷ vs) e =
-    ap (λ x. int_or_zero x +ℤ total vs) e.0
+    ap (λ x. int_or_zero x +ℤ int_total vs) e.0
     ∙ (λ i. int-one i +ℤ total-ones vs e.1 i)
     ∙ ap pos (add_one (length vs))
 
@@ -70,7 +70,7 @@ module _ (k : Value) (xs : List Value) where
   abbrev ones : List Value
   ones = map (λ (p : Parts). p.1) of_key
 
-  total-values : total (values_of k (map one_under xs)) ≡ pos (times xs k)
+  total-values : int_total (values_of k (map one_under xs)) ≡ pos (times xs k)
   total-values =
       total-ones (bag_of ones)
       (Each-bag_of (λ v. v ≡ one) ones

@@ -20,7 +20,7 @@ use Rattle.bag_groups.specs.Pairs.{pair, parts_of, pairs_of}
 use Rattle.bag_groups.specs.Groups.{distinct, grouped, keys_of, values_of}
 use Rattle.bag_groups.proofs.PairLemmas.{Parts, parts_of-pair}
 use Rattle.bag_steps.specs.Joins.{joined, sides}
-use Rattle.bag_step_laws.specs.Derived.{lefts, marked, marked_left, marked_right, rights, split_sides}
+use Rattle.bag_step_laws.specs.Derived.{lefts, marked_pairs, marked_left, marked_right, rights, split_sides}
 use Rattle.bag_step_laws.proofs.GroupRows.{group_of-pair, map_map}
 
 -- ---- marked values in order: those of the left, then those of the right
@@ -134,7 +134,7 @@ abbrev both_sides : List Parts → List Parts → List Parts
 both_sides ps qs = map (mark_held value.Left) ps ++ map (mark_held value.Right) qs
 
 parts-both : (left right : List Value)
-    → pairs_of (marked left right) ≡ both_sides (pairs_of left) (pairs_of right)
+    → pairs_of (marked_pairs left right) ≡ both_sides (pairs_of left) (pairs_of right)
 parts-both left right =
     filter_map-append parts_of (flat_map marked_left left) (flat_map marked_right right)
     ∙ (λ i. parts-marked value.Left left i ++ parts-marked value.Right right i)
@@ -190,12 +190,12 @@ split-groups F [] = refl
 split-groups F (k ∷ ks) = λ i. split-pair k (F k) i ++ split-groups F ks i
 
 pub split-marked : (left right : List Value)
-    → flat_map split_sides (grouped (marked left right)) ≡ joined left right
+    → flat_map split_sides (grouped (marked_pairs left right)) ≡ joined left right
 split-marked left right =
     let ps = pairs_of left in
     let qs = pairs_of right in
-    split-groups (λ k. values_of k (pairs_of (marked left right)))
-    (keys_of (pairs_of (marked left right)))
+    split-groups (λ k. values_of k (pairs_of (marked_pairs left right)))
+    (keys_of (pairs_of (marked_pairs left right)))
     ∙ (λ i. map (λ k. pair k (sides (lefts (values_of k (parts-both left right i)))
     (rights (values_of k (parts-both left right i))))) (keys_of (parts-both left right i)))
     ∙ (λ i. map (λ k. pair k (sides (lefts (values-both k ps qs i))

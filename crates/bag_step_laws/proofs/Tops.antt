@@ -17,7 +17,7 @@ use Rattle.bag_groups.proofs.PairOrder.{value_eq-same}
 use Rattle.combine_table.specs.declared.comb.Comb.TheVariants as by
 use Rattle.combine_table.specs.Combinations.{combined, greatest}
 use Rattle.bag_steps.proofs.RunLemmas.{AreAll, distinct_bag-ahead}
-use Rattle.bag_step_laws.specs.Derived.{listed, pair_under_zero}
+use Rattle.bag_step_laws.specs.Derived.{listed_values, pair_under_zero}
 use Rattle.bag_step_laws.proofs.GroupRows.{combined-grouped, group_of-pair, made_parts, traps-grouped}
 
 abbrev pub zero_key : Value
@@ -58,24 +58,25 @@ values-under xs =
 
 -- ---- the group's row
 
-listed-pair : (k : Value) (vs : List Value) → listed (pair k (value.List vs)) ≡ vs
+listed-pair : (k : Value) (vs : List Value) → listed_values (pair k (value.List vs)) ≡ vs
 listed-pair k vs =
     ap (λ o. flat_map (λ (g : Value × List Value). g.1) (option_to_list o)) (group_of-pair k vs)
     ∙ append-nil vs
 
 pub listed-top : (n : ℕ) (xs : List Value)
-    → flat_map listed (combined_each (combined (by.Top n)) (grouped (map pair_under_zero xs)))
+    → flat_map listed_values (combined_each (combined (by.Top n))
+    (grouped (map pair_under_zero xs)))
     ≡ greatest n (bag_of xs)
 listed-top n [] = sym (drop_all (0 - n) [] (omega arith))
 listed-top n (x ∷ xs) =
     let made : List Value → Value → List Value
     = λ vs k. combined_pair k (Ok (value.List (greatest n vs))) in
-    ap (flat_map listed)
+    ap (flat_map listed_values)
     (combined-grouped (combined (by.Top n)) (map pair_under_zero (x ∷ xs))
     ∙ ap (flat_map (λ k. made (values_of k (pairs_of (map pair_under_zero (x ∷ xs)))) k))
     (keys-under x xs)
     ∙ ap (λ vs. made vs zero_key ++ []) (values-under (x ∷ xs)))
-    ∙ append-nil (listed (pair zero_key (value.List (greatest n (bag_of (x ∷ xs))))))
+    ∙ append-nil (listed_values (pair zero_key (value.List (greatest n (bag_of (x ∷ xs))))))
     ∙ listed-pair zero_key (greatest n (bag_of (x ∷ xs)))
 
 none_trapped : (ks : List Value) (F : Value → Value)

@@ -20,8 +20,8 @@ abbrev pub pair_under_zero : Value → Value
 pair_under_zero v = pair (value.Int (pos 0)) v
 
 -- the members of the list of a group; what is no group has none
-abbrev pub listed : Value → List Value
-listed p = flat_map (λ group. group.1) (option_to_list (group_of p))
+abbrev pub listed_values : Value → List Value
+listed_values p = flat_map (λ group. group.1) (option_to_list (group_of p))
 
 -- ---- join: each value is marked with its side
 
@@ -34,8 +34,8 @@ abbrev pub marked_right : Value → List Value
 marked_right p = option_to_list (option_map (λ it. pair it.0 (value.Right it.1)) (parts_of p))
 
 -- the pairs of both sides together, marked
-abbrev pub marked : List Value → List Value → List Value
-marked left right = flat_map marked_left left ++ flat_map marked_right right
+abbrev pub marked_pairs : List Value → List Value → List Value
+marked_pairs left right = flat_map marked_left left ++ flat_map marked_right right
 
 -- the values marked as ones of the left, in order, and those of the right
 abbrev pub lefts : List Value → List Value

@@ -12,7 +12,7 @@ ghost use Rattle.combine_table.specs.declared.comb.Comb.TheVariants as by;
 ghost use Rattle.combine_table.specs.Combinations.{combined, greatest};
 ghost use Rattle.bag_steps.specs.Counts.{counted, counted_traps};
 ghost use Rattle.bag_steps.specs.Joins.{joined};
-ghost use Rattle.bag_step_laws.specs.Derived.{listed, marked, split_sides, pair_under_zero, pair_with_one};
+ghost use Rattle.bag_step_laws.specs.Derived.{listed_values, marked_pairs, split_sides, pair_under_zero, pair_with_one};
 
 /// What groups come to where they are combined, and which of them trap, goes key by key.
 pub fn groups_law()
@@ -37,13 +37,14 @@ pub fn count_law()
 /// The join of two bags of pairs is that of the groups of both together, split by their marks.
 pub fn join_law()
     ensures rows { (left right : List Value) →
-        flat_map split_sides (grouped (marked left right)) ≡ joined left right }
+        flat_map split_sides (grouped (marked_pairs left right)) ≡ joined left right }
 {}
 
 /// The greatest members of a bag are those of the one group that has them all.
 pub fn top_law()
     ensures members { (n : ℕ) (bag : List Value) →
-        flat_map listed (combined_each (combined (by.Top n)) (grouped (map pair_under_zero bag)))
+        flat_map listed_values (combined_each (combined (by.Top n))
+        (grouped (map pair_under_zero bag)))
         ≡ greatest n (bag_of bag) }
     ensures through { (n : ℕ) (bag : List Value) →
         traps_of_each (combined (by.Top n)) (grouped (map pair_under_zero bag)) ≡ [] }

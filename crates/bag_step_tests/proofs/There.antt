@@ -5,14 +5,14 @@ use Rattle.flume_value.specs.declared.value.Value.{Value}
 use Rattle.shuffle_parts.specs.declared.out.Sent.{Sent}
 use Rattle.shuffle_parts.specs.declared.out.Sent.TheVariants.{Grouped}
 use Rattle.shuffle_parts.specs.Outs.{all_found, pairs_in}
-use Rattle.shuffle_parts.specs.Partitions.{part_of, parted}
+use Rattle.shuffle_parts.specs.Partitions.{pairs_in_part, in_parts}
 use Rattle.shuffle_parts.proofs.Ranged.{get_ranged}
 
 pub parted_there : (n p : ℕ) (pairs : List Value) (parts : List (List Value))
-    (sent rest : List Sent) → sent ≡ Grouped parts ∷ rest → parts ≡ parted n pairs → p < n
+    (sent rest : List Sent) → sent ≡ Grouped parts ∷ rest → parts ≡ in_parts n pairs → p < n
     → IsSome (option_and_then (pairs_in p) (slice_get sent 0))
 parted_there n p pairs parts sent rest e made below =
-    let got = get_ranged (λ q. part_of n q pairs) 0 n p below in
+    let got = get_ranged (λ q. pairs_in_part n q pairs) 0 n p below in
     subst (λ (s : List Sent). IsSome (option_and_then (pairs_in p) (slice_get s 0))) (sym e)
     (subst (λ (ps : List (List Value)). IsSome (slice_get ps p)) (sym made)
     (subst IsSome (sym got) refl))

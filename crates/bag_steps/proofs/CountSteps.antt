@@ -21,7 +21,7 @@ use Rattle.keyed_steps.specs.of_bag_groups.Groups.{distinct}
 use Rattle.keyed_steps.specs.of_bag_groups.Combining.{combined_pair, trapped_key}
 use Rattle.keyed_steps.proofs.of_bag_groups.MemberLemmas.{Each-distinct}
 use Rattle.keyed_steps.specs.of_combine_table.Combinations.{int_or_overflow, wrapped}
-use Rattle.bag_steps.specs.Counts.{counted, counted_traps, number_of}
+use Rattle.bag_steps.specs.Counts.{counted, counted_traps, count_of_value}
 use Rattle.bag_steps.specs.inner.Runs.{IsRun}
 use Rattle.bag_steps.proofs.GroupSteps.{one_more}
 use Rattle.bag_steps.proofs.RunLemmas.{AreAll, AreFrom, AreOther, NotBelow-same, all_from, distinct_bag-ahead, others_from, slice_get-drop, times-le, times-rest, times-run}
@@ -40,8 +40,8 @@ counted-begin : (k : Value) (run rest : List Value) → AreAll k run → AreFrom
     → AreOther k rest → 0 < length run
     → counted (run ++ rest) ≡ combined_pair k (number (length run)) ++ counted rest
 counted-begin k run rest same above other some =
-    let F : Value → List Value = λ v. combined_pair v (number_of (run ++ rest) v) in
-    let G : Value → List Value = λ v. combined_pair v (number_of rest v) in
+    let F : Value → List Value = λ v. combined_pair v (count_of_value (run ++ rest) v) in
+    let G : Value → List Value = λ v. combined_pair v (count_of_value rest v) in
     ap (flat_map F) (distinct_bag-ahead k run rest same above other some)
     ∙ (λ i. combined_pair k (number (times-run k run rest same other i))
     ++ flat_map F (distinct (bag_of rest)))
@@ -60,12 +60,12 @@ number-is n small =
     ∙ ap (λ b. if b then Ok (value.Int (pos n)) else Err Overflow) (lt-ltb n (2 ^ 63) small)
 
 none_trapped : (vs xs : List Value) → length xs < 2 ^ 63
-    → flat_map (λ v. trapped_key v (number_of xs v)) vs ≡ []
+    → flat_map (λ v. trapped_key v (count_of_value xs v)) vs ≡ []
 none_trapped [] xs small = refl
 none_trapped (v ∷ vs) xs small =
     let h : times xs v < 2 ^ 63 = omega (arith, times-le v xs) in
     (λ i. trapped_key v (number-is (times xs v) h i)
-    ++ flat_map (λ w. trapped_key w (number_of xs w)) vs)
+    ++ flat_map (λ w. trapped_key w (count_of_value xs w)) vs)
     ∙ none_trapped vs xs small
 
 pub no_traps : (xs : List Value) → length xs < 2 ^ 63 → counted_traps xs ≡ []

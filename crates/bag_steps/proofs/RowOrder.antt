@@ -20,7 +20,7 @@ use Rattle.keyed_steps.specs.of_bag_groups.Combining.{combined_pair}
 use Rattle.keyed_steps.proofs.of_bag_groups.MemberLemmas.{Each-distinct}
 use Rattle.keyed_steps.proofs.of_bag_groups.PairOrder.{less_from, pairs-NotBelow}
 use Rattle.keyed_steps.specs.of_combine_table.Combinations.{greatest}
-use Rattle.bag_steps.specs.Counts.{counted, number_of}
+use Rattle.bag_steps.specs.Counts.{counted, count_of_value}
 use Rattle.bag_steps.specs.Joins.{joined, sides}
 
 -- the value is above k
@@ -87,7 +87,7 @@ rows_sorted given ks =
     (Rises-rows given (distinct (bag_of ks)) (Climbs-distinct (bag_of ks) (Rises-bag_of ks)))
 
 pub counted-IsSorted : (bag : List Value) → IsSorted value_cmp (counted bag)
-counted-IsSorted bag = rows_sorted (number_of bag) bag
+counted-IsSorted bag = rows_sorted (count_of_value bag) bag
 
 pub joined-IsSorted : (left right : List Value) → IsSorted value_cmp (joined left right)
 joined-IsSorted left right =

@@ -25,7 +25,7 @@ use Rattle.keyed_steps.proofs.of_bag_groups.MemberLemmas.{Each-distinct}
 use Rattle.keyed_steps.proofs.of_bag_groups.PairLemmas.{Parts}
 use Rattle.keyed_steps.specs.of_combine_table.Combinations.{greatest, int_or_overflow, wrapped}
 use Rattle.keyed_steps.proofs.TypedFacts.{HaveParts, Has-pair, pairs_have}
-use Rattle.bag_steps.specs.Counts.{counted, number_of}
+use Rattle.bag_steps.specs.Counts.{counted, count_of_value}
 use Rattle.bag_steps.specs.Joins.{joined, sides}
 use Rattle.bag_steps.specs.Sides.{sides_of}
 
@@ -41,11 +41,11 @@ count_has t v n h =
     ]
 
 counts_have : (t : Ty) (bag vs : List Value) → Each (Has t) vs
-    → Each (Has (table_of t ty.Int)) (flat_map (λ v. combined_pair v (number_of bag v)) vs)
+    → Each (Has (table_of t ty.Int)) (flat_map (λ v. combined_pair v (count_of_value bag v)) vs)
 counts_have t bag [] e = tt
 counts_have t bag (v ∷ vs) e =
-    Each-append (Has (table_of t ty.Int)) (combined_pair v (number_of bag v))
-    (flat_map (λ w. combined_pair w (number_of bag w)) vs)
+    Each-append (Has (table_of t ty.Int)) (combined_pair v (count_of_value bag v))
+    (flat_map (λ w. combined_pair w (count_of_value bag w)) vs)
     (count_has t v (wrapped (pos _)) e.0) (counts_have t bag vs e.1)
 
 pub counted-typed : (t : Ty) (bag : List Value) → AllHave t bag

@@ -10,14 +10,14 @@ use Rattle.keyed_steps.specs.of_combine_table.Combinations.{int_or_overflow, wra
 
 -- how often the value is in the bag, as 128 bits with a sign hold it: an int, or the trap where
 -- it is none
-abbrev pub number_of : List Value → Value → Result Value Kind
-number_of bag v = int_or_overflow (wrapped (pos (times bag v)))
+abbrev pub count_of_value : List Value → Value → Result Value Kind
+count_of_value bag v = int_or_overflow (wrapped (pos (times bag v)))
 
 -- for each distinct value of the bag, ascending, the pair of it and how often it is there, where
 -- that is an int
 abbrev pub counted : List Value → List Value
-counted bag = flat_map (λ v. combined_pair v (number_of bag v)) (distinct (bag_of bag))
+counted bag = flat_map (λ v. combined_pair v (count_of_value bag v)) (distinct (bag_of bag))
 
 -- the values that are there more often than an int can say: for each the kind of its trap and it
 abbrev pub counted_traps : List Value → List (Kind × Value)
-counted_traps bag = flat_map (λ v. trapped_key v (number_of bag v)) (distinct (bag_of bag))
+counted_traps bag = flat_map (λ v. trapped_key v (count_of_value bag v)) (distinct (bag_of bag))

@@ -5,7 +5,7 @@ use Rattle.flume_tokens.specs.declared.sign.Sign.TheVariants as sign
 use Rattle.flume_grammar.specs.declared.parts.Parts.{Parts}
 use Rattle.flume_grammar.specs.declared.tree.Expr.{Expr}
 use Rattle.flume_grammar.specs.declared.tree.Expr.TheVariants as tree
-use Rattle.flume_grammar.specs.Parts.{none, with_part}
+use Rattle.flume_grammar.specs.Parts.{none, with_named_part}
 use Rattle.flume_grammar.specs.Terminals.{mark}
 use Rattle.flume_grammar.specs.Limits.{Limits}
 use Rattle.flume_grammar.specs.Grammar as g
@@ -80,13 +80,13 @@ module _ (limits : Limits) where
     fields_filled (g.first {w} {x} {a} i z) p =
         let (y, f) = word_filled w.kind (p 0) x i in
         let (q, e, v) = expression_filled z (on (on p)) in
-        (q, with_part none y e a, refl, refl, g.first f v)
+        (q, with_named_part none y e a, refl, refl, g.first f v)
     fields_filled (g.next {w} {x} {a} {p = s} h i z) p =
         let (q, r, d, n, j) = fields_filled h p in
         let (y, f) = word_filled w.kind (q 1) x i in
         let (o, e, v) = expression_filled z (on (on (on q))) in (
           o,
-          with_part r y e a,
+          with_named_part r y e a,
           ap (λ k. max k a) d,
           one_more s.names r.names x y n,
           g.next j f v,

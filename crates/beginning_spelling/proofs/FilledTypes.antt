@@ -4,7 +4,7 @@ use Rattle.flume_tokens.specs.declared.token.Token.{Token}
 use Rattle.flume_tokens.specs.declared.sign.Sign.TheVariants as sign
 use Rattle.flume_grammar.specs.declared.parts.Parts.{Parts}
 use Rattle.flume_grammar.specs.declared.tree.Type.TheVariants as type_tree
-use Rattle.flume_grammar.specs.Parts.{Tree, none, with_part}
+use Rattle.flume_grammar.specs.Parts.{Tree, none, with_named_part}
 use Rattle.flume_grammar.specs.Terminals.{mark}
 use Rattle.flume_grammar.specs.Limits.{Limits}
 use Rattle.flume_grammar.specs.Grammar as g
@@ -47,13 +47,13 @@ module _ (limits : Limits) where
     field_types_filled (g.first {w} {x} {a} e z) p =
         let (y, f) = word_filled w.kind (p 0) x e in
         let (q, t, v) = type_filled z (on (on p)) in
-        (q, with_part none y t a, refl, refl, g.first f v)
+        (q, with_named_part none y t a, refl, refl, g.first f v)
     field_types_filled (g.next {w} {x} {a} {p = s} h e z) p =
         let (q, r, d, n, i) = field_types_filled h p in
         let (y, f) = word_filled w.kind (q 1) x e in
         let (o, t, v) = type_filled z (on (on (on q))) in (
           o,
-          with_part r y t a,
+          with_named_part r y t a,
           ap (λ k. max k a) d,
           one_more s.names r.names x y n,
           g.next i f v,

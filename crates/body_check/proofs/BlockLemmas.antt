@@ -48,7 +48,8 @@ abbrev pub IsBlock : List Ty → Sight → Checked (List Stmt) → Checked Sight
 IsBlock gives s (Err f) next emits = next ≡ Err f
 IsBlock gives s (Ok ks) next emits =
     ((end : Sight) × (next ≡ Ok end)) × BlockTyped (types s.names) ks gives
-    × ((vs : List Value) (out : Emissions) → emits (bound s.names vs) out ≡ slots.run ks vs out)
+    × ((vs : List Value) (out : Emissions) → emits (bound s.names vs) out ≡ slots.run_statements ks
+    vs out)
 
 -- a block in which other names are in sight
 abbrev pub IsInside : List Ty → Sight → InBlock → (Sight → Checked Sight) → Emits → Type 0
@@ -96,5 +97,5 @@ as_block gives s (Ok x) next does (more, is, has, td, same) = (
   subst (λ ks. BlockTyped (types s.names) ks gives) (sym is) td,
   λ vs out. ap (λ o. then o (λ st. Gives st.out)) (same vs out)
       ∙ emitted_named x.1.names (slots.run_all slots.run_one more (slots.state vs out))
-      ∙ ap (λ ks. slots.run ks vs out) (sym is),
+      ∙ ap (λ ks. slots.run_statements ks vs out) (sym is),
 )

@@ -24,8 +24,8 @@ use Rattle.expression_check.specs.Right.{IsRight}
 use Rattle.expression_check.proofs.of_expression_types.TypeLemmas.{bool_is}
 use Rattle.expression_check.proofs.RightLemmas.{right}
 use Rattle.body_check.specs.Bodies.{after_all, layer_after, sight_after}
-use Rattle.body_check.specs.Outputs.{output_of}
-use Rattle.body_check.specs.Call.{run_all, block, emitted_by, after, layer_emitted, emitted_in}
+use Rattle.body_check.specs.Outputs.{output_written}
+use Rattle.body_check.specs.Call.{run_all, block, emitted_behind, after, layer_emitted, emitted_in}
 use Rattle.body_check.specs.inner.Slots.{Placed, slots_as, block_slots, slots_in as block_of}
 use Rattle.body_check.specs.inner.Slots.{layer_placed, placed_of}
 use Rattle.body_check.proofs.FormLemmas.{emitted_in-step, after-step}
@@ -76,13 +76,14 @@ module _ (known : Named Ty) (gives : List Ty) where
   same_of t u e = tells_apart t u e
 
   emit_at : (line : ℕ) (to : Option (List ℕ)) (e : Expr) (s : Sight) → s.known ≡ known
-      → (n : ℕ) → output_of (length gives) to ≡ Some n → (o : Option Ty) → slice_get gives n ≡ o
+      → (n : ℕ) → output_written (length gives) to ≡ Some n → (o : Option Ty)
+      → slice_get gives n ≡ o
       → IsPlaced gives s
       (or_fault line BadNumber o >>= λ wanted. slots_as line (λ t. is_same t wanted) e s
       >>= λ slots. Ok (stmt.Emit n slots, s))
       (or_fault line BadNumber o >>= λ wanted. type_of line e s
       >>= λ t. unless line Mistyped (is_same t wanted) >>= λ same. Ok s)
-      (λ st. after st.env (then (given_in line known e st.env) (λ x. emitted_by to x.1 st.out)))
+      (λ st. after st.env (then (given_in line known e st.env) (λ x. emitted_behind to x.1 st.out)))
   emit_at line to e s is n number None at = refl
   emit_at line to e s is n number (Some wanted) at =
       renamed gives s _ _ _ _
@@ -94,7 +95,7 @@ module _ (known : Named Ty) (gives : List Ty) where
       (given_in line known e) (right_in line e s is)))
 
   emit_form : (line : ℕ) (to : Option (List ℕ)) (e : Expr) (s : Sight) → s.known ≡ known
-      → (p : Option ℕ) → output_of (length gives) to ≡ p
+      → (p : Option ℕ) → output_written (length gives) to ≡ p
       → IsPlaced gives s
       (or_fault line BadNumber p >>= λ n. or_fault line BadNumber (slice_get gives n)
       >>= λ wanted. slots_as line (λ t. is_same t wanted) e s
@@ -102,7 +103,7 @@ module _ (known : Named Ty) (gives : List Ty) where
       (or_fault line BadNumber p >>= λ n. or_fault line BadNumber (slice_get gives n)
       >>= λ wanted. type_of line e s
       >>= λ t. unless line Mistyped (is_same t wanted) >>= λ same. Ok s)
-      (λ st. after st.env (then (given_in line known e st.env) (λ x. emitted_by to x.1 st.out)))
+      (λ st. after st.env (then (given_in line known e st.env) (λ x. emitted_behind to x.1 st.out)))
   emit_form line to e s is None number = refl
   emit_form line to e s is (Some n) number =
       emit_at line to e s is n number (slice_get gives n) refl
@@ -116,7 +117,7 @@ module _ (known : Named Ty) (gives : List Ty) where
       let_by line gives s name (fresh line name s.names) _ _ (given_in line known e)
       (right_in line e s is)
   by_form (Body-F.Emit line to e) s is =
-      emit_form line to e s is (output_of (length gives) to) refl
+      emit_form line to e s is (output_written (length gives) to) refl
   by_form (Body-F.If line e a b) s is =
       renamed gives s _ _ _ _
       (assoc (type_of line e s) (λ t. unless line Mistyped (is_bool (out-Ty t)))

@@ -28,7 +28,7 @@ named_then names next (Traps k) f g h = refl
 named_then names next Stuck f g h = refl
 
 pub emitted_named : (names : Newest Ty) (o : Outcome slots.SlotState)
-    → then (named names o) (λ s. Gives s.out) ≡ slots.emitted o
+    → then (named names o) (λ s. Gives s.out) ≡ slots.emissions_at_end o
 emitted_named names (Gives s) = refl
 emitted_named names (Traps k) = refl
 emitted_named names Stuck = refl

@@ -12,8 +12,8 @@ use Rattle.int_text.specs.Ints.{int_of_text}
 use Rattle.dofn_eval.specs.Outcome.{Outcome, Gives, Stuck, with_part}
 use Rattle.dofn_eval.specs.Run.{Emissions, emitted_to}
 use Rattle.expression_check.specs.Numbers.{within}
-use Rattle.body_check.specs.Outputs.{output_of}
-use Rattle.body_check.specs.Call.{emitted_by}
+use Rattle.body_check.specs.Outputs.{output_written}
+use Rattle.body_check.specs.Call.{emitted_behind}
 
 -- counted from 0
 abbrev from_zero : Option ℕ → Option ℕ
@@ -51,7 +51,7 @@ module _ (v : Value) (out : Emissions) where
       (at_least outputs m) (beyond m) is
   by_int outputs n _ is = cc
 
-  pub emitted_as : (outputs : ℕ) (to : Option (List ℕ)) (n : ℕ) → output_of outputs to ≡ Some n
-      → emitted_by to v out ≡ emitted_to n v out
+  pub emitted_as : (outputs : ℕ) (to : Option (List ℕ)) (n : ℕ) → output_written outputs to ≡ Some n
+      → emitted_behind to v out ≡ emitted_to n v out
   emitted_as outputs None n is = ap at is
   emitted_as outputs (Some digits) n is = by_int outputs n (int_of_text digits) is

@@ -11,7 +11,7 @@ use Rattle.dofn_eval.specs.declared.stmt.Stmt.{Stmt}
 use Rattle.dofn_eval.specs.declared.stmt.Stmt.TheVariants as stmt
 use Rattle.dofn_eval.specs.Outcome.{Gives, then}
 use Rattle.dofn_eval.specs.Operations.{chosen}
-use Rattle.dofn_eval.specs.Meaning.{value_of}
+use Rattle.dofn_eval.specs.Meaning.{expression_value}
 use Rattle.dofn_eval.specs.Run as slots
 use Rattle.dofn_eval.specs.Typed as typing
 use Rattle.dofn_eval.specs.Typed.{BlockTyped}
@@ -24,8 +24,8 @@ use Rattle.expression_check.specs.Given.{tagged, valued}
 use Rattle.expression_check.specs.Slots.{SlotsAndType}
 use Rattle.expression_check.specs.Right.{types, bound, IsRight}
 use Rattle.expression_check.proofs.of_expression_types.TypeLemmas.{list_type_is, either_type_is}
-use Rattle.body_check.specs.Outputs.{output_of}
-use Rattle.body_check.specs.Call.{state, Emits, for_each, by_side, emitted_by, after}
+use Rattle.body_check.specs.Outputs.{output_written}
+use Rattle.body_check.specs.Call.{state, Emits, for_each, by_side, emitted_behind, after}
 use Rattle.body_check.specs.inner.Slots.{Placed, InBlock}
 use Rattle.body_check.proofs.GoesLemmas.{named, after_named, let_goes, emit_goes, valued_tagged}
 use Rattle.body_check.proofs.GoesLemmas.{for_goes, case_goes}
@@ -58,7 +58,7 @@ module _ (line : ℕ) (test : Ty → Bool) (wanted : Ty) (is : (t : Ty) → test
   IsAs (Err f) type given = tested type ≡ Err f
   IsAs (Ok k) type given =
       (tested type ≡ Ok tt) × typing.Typed (types names) k wanted
-      × ((vs : List Value) → given (bound names vs) ≡ tagged wanted (value_of k vs))
+      × ((vs : List Value) → given (bound names vs) ≡ tagged wanted (expression_value k vs))
 
   as_test : (b : Bool) (x : SlotsAndType) (type : Checked Ty) (given : Giving) → test x.1 ≡ b
       → IsRight names (Ok x) type given
@@ -67,7 +67,7 @@ module _ (line : ℕ) (test : Ty → Bool) (wanted : Ty) (is : (t : Ty) → test
       let same = is x.1 e in (
         ap tested h.0 ∙ ap (unless line Mistyped) e,
         subst (typing.Typed (types names) x.0) same h.1,
-        λ vs. h.2 vs ∙ ap (λ t. tagged t (value_of x.0 vs)) same,
+        λ vs. h.2 vs ∙ ap (λ t. tagged t (expression_value x.0 vs)) same,
       )
   as_test false x type given e h = ap tested h.0 ∙ ap (unless line Mistyped) e
 
@@ -91,26 +91,26 @@ module _ (line : ℕ) (gives : List Ty) (s : Sight) where
     refl,
     λ rest td. typing.lets h.1 td,
     λ vs out. ap (λ o. then o (λ y. Gives (state ((name, y) ∷ bound s.names vs) out))) (h.2 vs)
-        ∙ let_goes name s.names x.1 vs out (value_of x.0 vs)
+        ∙ let_goes name s.names x.1 vs out (expression_value x.0 vs)
         ∙ ap (named ((name, x.1) ∷ s.names)) (sym (run_one-Let x.0 (slots.state vs out))),
   )
 
-  pub emit_by : (to : Option (List ℕ)) (n : ℕ) → output_of (length gives) to ≡ Some n
+  pub emit_by : (to : Option (List ℕ)) (n : ℕ) → output_written (length gives) to ≡ Some n
       → (wanted : Ty) → slice_get gives n ≡ Some wanted → (test : Ty → Bool)
       (is : (t : Ty) → test t ≡ true → t ≡ wanted) (o : Checked Slots) (type : Checked Ty)
       (given : Giving) → IsAs line test wanted is s.names o type given
       → IsPlaced gives s (o >>= λ k. Ok (stmt.Emit n k, s))
       (tested line test wanted is s.names type >>= λ same. Ok s)
-      (λ st. after st.env (then (given st.env) (λ x. emitted_by to x.1 st.out)))
+      (λ st. after st.env (then (given st.env) (λ x. emitted_behind to x.1 st.out)))
   emit_by to n number wanted at test is (Err f) type given h = ap (λ o. o >>= λ same. Ok s) h
   emit_by to n number wanted at test is (Ok k) type given h = (
     ap (λ o. o >>= λ same. Ok s) h.0,
     refl,
     λ rest td. typing.emits n at h.1 td,
-    λ vs out. ap (λ o. after (bound s.names vs) (then o (λ x. emitted_by to x.1 out))) (h.2 vs)
-        ∙ ap (after (bound s.names vs)) (then_same (tagged wanted (value_of k vs)) _ _
+    λ vs out. ap (λ o. after (bound s.names vs) (then o (λ x. emitted_behind to x.1 out))) (h.2 vs)
+        ∙ ap (after (bound s.names vs)) (then_same (tagged wanted (expression_value k vs)) _ _
         (λ x. emitted_as x.1 out (length gives) to n number))
-        ∙ emit_goes s.names wanted vs out n (value_of k vs)
+        ∙ emit_goes s.names wanted vs out n (expression_value k vs)
         ∙ ap (named s.names) (sym (run_one-Emit n k (slots.state vs out))),
   )
 
@@ -133,9 +133,11 @@ module _ (line : ℕ) (gives : List Ty) (s : Sight) where
     λ rest td. typing.chooses h.1 p.1 q.1 td,
     λ vs out.
         (λ i. after (bound s.names vs) (chosen (valued (h.2 vs i)) (p.2 vs out i) (q.2 vs out i)))
-        ∙ ap (λ o. after (bound s.names vs) (chosen o (slots.run x vs out) (slots.run y vs out)))
-        (valued_tagged ty.Bool (value_of k vs))
-        ∙ after_named s.names vs (chosen (value_of k vs) (slots.run x vs out) (slots.run y vs out))
+        ∙ ap (λ o. after (bound s.names vs) (chosen o (slots.run_statements x vs out)
+        (slots.run_statements y vs out)))
+        (valued_tagged ty.Bool (expression_value k vs))
+        ∙ after_named s.names vs (chosen (expression_value k vs) (slots.run_statements x vs out)
+        (slots.run_statements y vs out))
         ∙ ap (named s.names) (sym (run_one-If k x y (slots.state vs out))),
   )
 
@@ -158,9 +160,11 @@ module _ (line : ℕ) (gives : List Ty) (s : Sight) where
           ap (λ o. after (bound s.names vs) (then o (λ y. for_each f name y
           (bound s.names vs) out))) (h.2 vs)
           ∙ ap (after (bound s.names vs))
-          (for_goes f (slots.run ks) name m s.names vs (λ v more. b.2 (v ∷ vs) more) x.1 out is
-          (value_of x.0 vs))
-          ∙ after_named s.names vs (slots.for_each (slots.run ks) (value_of x.0 vs) vs out)
+          (for_goes f (slots.run_statements ks) name m s.names vs (λ v more. b.2 (v ∷ vs) more) x.1
+          out is
+          (expression_value x.0 vs))
+          ∙ after_named s.names vs (slots.for_each (slots.run_statements ks)
+          (expression_value x.0 vs) vs out)
           ∙ ap (named s.names) (sym (run_one-For x.0 ks (slots.state vs out))),
     )
 
@@ -204,10 +208,11 @@ module _ (line : ℕ) (gives : List Ty) (s : Sight) where
           (bound s.names vs) out)))
           (h.2 vs)
           ∙ ap (after (bound s.names vs))
-          (case_goes f g (slots.run y) (slots.run z) left right_ sides s.names vs out
-          (λ v. p.2 (v ∷ vs) out) (λ v. q.2 (v ∷ vs) out) x.1 is (value_of x.0 vs))
-          ∙ after_named s.names vs (slots.by_side (slots.run y) (slots.run z)
-          (value_of x.0 vs) vs out)
+          (case_goes f g (slots.run_statements y) (slots.run_statements z) left right_ sides s.names
+          vs out
+          (λ v. p.2 (v ∷ vs) out) (λ v. q.2 (v ∷ vs) out) x.1 is (expression_value x.0 vs))
+          ∙ after_named s.names vs (slots.by_side (slots.run_statements y) (slots.run_statements z)
+          (expression_value x.0 vs) vs out)
           ∙ ap (named s.names) (sym (run_one-Case x.0 y z (slots.state vs out))),
     )
 

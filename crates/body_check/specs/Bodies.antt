@@ -9,7 +9,7 @@ use Rattle.expression_check.specs.of_expression_types.Sight.{Sight, with_name}
 use Rattle.expression_check.specs.of_expression_types.Fields.{member_type, side_types}
 use Rattle.expression_check.specs.of_expression_types.Types.{is_same, is_bool}
 use Rattle.expression_check.specs.Types.{type_of}
-use Rattle.body_check.specs.Outputs.{output_of}
+use Rattle.body_check.specs.Outputs.{output_written}
 
 -- statements one after another, where f gives what is in sight after each
 abbrev pub after_all : {X : Type 0} → (X → Sight → Checked Sight) → List X → Sight → Checked Sight
@@ -28,7 +28,7 @@ module _ (gives : List Ty) where
     t ← type_of line e s
     Ok (with_name name t s)
   layer_after f (Body-F.Emit line to e) s = do
-    output ← or_fault line BadNumber (output_of (length gives) to)
+    output ← or_fault line BadNumber (output_written (length gives) to)
     wanted ← or_fault line BadNumber (slice_get gives output)
     t ← type_of line e s
     same ← unless line Mistyped (is_same t wanted)

@@ -12,7 +12,7 @@ use Rattle.dofn_eval.specs.Run.{Emissions, emitted_to}
 use Rattle.expression_check.specs.of_written_types.Named.{Named}
 use Rattle.expression_check.specs.of_expression_types.Fields.{member_type, side_types}
 use Rattle.expression_check.specs.Given.{Thing, Environment, valued, given_in}
-use Rattle.body_check.specs.Outputs.{output_of}
+use Rattle.body_check.specs.Outputs.{output_written}
 
 -- what a statement finds and leaves: what names stand for, the newest first, and what was emitted
 -- to each output
@@ -56,8 +56,9 @@ by_side f left g right thing env out =
     (λ types. side f left g right types (left_of thing.1) (right_of thing.1) env out)
 
 -- one value more behind what was emitted to the output that the `emit` is to
-abbrev pub emitted_by : Option (List ℕ) → Value → Emissions → Outcome Emissions
-emitted_by to x out = with_part (output_of (length out) to) (λ output. emitted_to output x out)
+abbrev pub emitted_behind : Option (List ℕ) → Value → Emissions → Outcome Emissions
+emitted_behind to x out =
+    with_part (output_written (length out) to) (λ output. emitted_to output x out)
 
 -- goes on with the names from before
 abbrev pub after : Environment → Outcome Emissions → Outcome NameState
@@ -71,7 +72,7 @@ module _ (known : Named Ty) where
   layer_emitted f (Body-F.Let line name e) s =
       then (given_in line known e s.env) (λ x. Gives (state ((name, x) ∷ s.env) s.out))
   layer_emitted f (Body-F.Emit line to e) s =
-      after s.env (then (given_in line known e s.env) (λ x. emitted_by to x.1 s.out))
+      after s.env (then (given_in line known e s.env) (λ x. emitted_behind to x.1 s.out))
   layer_emitted f (Body-F.If line e a b) s =
       after s.env
       (chosen (valued (given_in line known e s.env))

@@ -3,7 +3,7 @@ ghost use Rattle.std.specs.Prelude.{◌<◌, Some, length, slice_get, IfOk};
 ghost use Rattle.flume_grammar.specs.declared.fault.ScriptKind.TheVariants.{BadNumber as Bad};
 ghost use Rattle.expression_check.specs.of_type_table.Table.{type_at};
 ghost use Rattle.expression_check.specs.of_written_types.Answer.{Gives, or_fault};
-ghost use Rattle.body_check.specs.Outputs.{output_of as output_meant};
+ghost use Rattle.body_check.specs.Outputs.{output_written as output_meant};
 
 use crate::frame::Frame;
 use expression_check::number_within;

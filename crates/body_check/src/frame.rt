@@ -8,7 +8,7 @@ ghost use Rattle.expression_check.specs.of_type_table.Table.{type_at, Extends};
 ghost use Rattle.expression_check.specs.of_written_types.Answer.{Gives};
 ghost use Rattle.expression_check.specs.of_written_types.Named.{find};
 ghost use Rattle.expression_check.specs.of_expression_types.Sight.{with_name};
-ghost use Rattle.expression_check.specs.Slots.{slots_of, typed};
+ghost use Rattle.expression_check.specs.Slots.{slots_of, slots_typed};
 ghost use Rattle.expression_check.specs.of_expression_types.Held.{AreTypes};
 
 use expression_check::expression_types::Scope;
@@ -92,7 +92,8 @@ impl<'a> Frame<'a> {
 
     /// The expression with slots in place of names, and its type; or its first fault.
     pub fn resolve(&mut self, alloc: Global, line: u32, e: &Expr) -> Result<Typed, ScriptFault>
-        ensures gives { Gives (typed self.new.types) result (slots_of line e.now self.old.sight) }
+        ensures gives { Gives (slots_typed self.new.types) result
+            (slots_of line e.now self.old.sight) }
         ensures within { IfOk result (λ made. made.ty < length self.new.types) }
         ensures extends { Extends self.old.types self.new.types }
         ensures sight { self.new.sight ≡ self.old.sight }

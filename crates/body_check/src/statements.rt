@@ -5,7 +5,7 @@ ghost use Rattle.expression_check.specs.of_type_table.Table.{type_at, Extends};
 ghost use Rattle.expression_check.specs.of_written_types.Answer.{Gives};
 ghost use Rattle.expression_check.specs.of_written_types.Named.{find, fresh};
 ghost use Rattle.expression_check.specs.of_expression_types.Sight.{with_name};
-ghost use Rattle.expression_check.specs.Slots.{typed};
+ghost use Rattle.expression_check.specs.Slots.{slots_typed};
 ghost use Rattle.expression_check.specs.of_expression_types.Types.{is_bool as is_bool_type};
 ghost use Rattle.body_check.specs.inner.Frames.{IsBehind};
 ghost use Rattle.body_check.specs.inner.Slots as spec;
@@ -361,7 +361,7 @@ fn new_value(
     e: &Expr,
     frame: &mut Frame<'_>,
 ) -> Result<Typed, ScriptFault>
-    ensures gives { Gives (typed frame.new.types) result
+    ensures gives { Gives (slots_typed frame.new.types) result
         (spec.new_value line name.now e.now frame.old.sight) }
     ensures new { IfOk result (λ made. find name.now frame.old.sight.names ≡ None) }
     ensures within { IfOk result (λ made. made.ty < length frame.new.types) }

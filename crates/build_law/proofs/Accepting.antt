@@ -27,12 +27,12 @@ use Rattle.written_types.specs.Written.{whole_type}
 use Rattle.graph_build.specs.of_script_program.Limits.{most_collections, most_files}
 use Rattle.graph_build.specs.of_script_program.declared.made.Made.{Made}
 use Rattle.graph_build.specs.of_script_program.declared.made.Made.TheVariants as made
-use Rattle.graph_build.specs.of_script_program.Script.{Callee, Making, Node, Operand, Script, State, nothing}
+use Rattle.graph_build.specs.of_script_program.Script.{Callee, Making, Node, Operand, Script, State, empty_state}
 use Rattle.graph_build.specs.of_script_program.Script.{with_hidden, with_node, with_nodes}
 use Rattle.graph_build.specs.of_script_program.Script.{with_statement}
 use Rattle.direct_meaning.specs.of_script_rules.Arguments.{are_plain, sole, takes_both, takes_members, takes_objects}
 use Rattle.direct_meaning.specs.of_script_rules.Operations as spec
-use Rattle.direct_meaning.specs.of_script_rules.Repeats.{Repeat, copied, nodes_left, renumbered, turn_gives}
+use Rattle.direct_meaning.specs.of_script_rules.Repeats.{Repeat, copied_let, nodes_left, made_from_others, turn_gives}
 use Rattle.direct_meaning.specs.of_script_rules.Repeats.{turn_nodes, turn_to, unrolled}
 use Rattle.direct_meaning.specs.of_script_rules.Rules as rules_
 use Rattle.direct_meaning.proofs.of_script_rules.CheckedLemmas.{both, ok-same}
@@ -61,14 +61,14 @@ module _ (line : ℕ) (s : State) where
   done_short : (source function : List ℕ) (makings : List Making)
       → spec.done line source function s ≡ Ok makings → AllShort makings
   done_short source function makings e =
-      let one = both (spec.collection line source s) _ makings e in
+      let one = both (spec.operand_named line source s) _ makings e in
       let by = both (spec.callee line function s) _ makings one.then in
       do_short one.part by.part makings by.then
 
-  group_short : (source : List ℕ) (making : Making) → spec.grouped line source s ≡ Ok making
+  group_short : (source : List ℕ) (making : Making) → spec.group_rule line source s ≡ Ok making
       → IsShort making.made
   group_short source making e =
-      let one = both (spec.collection line source s) _ making e in
+      let one = both (spec.operand_named line source s) _ making e in
       let pair = both (spec.pair_of line one.part.type) _ making one.then in
       let members = both (spec.plain line one.part) _ making pair.then in
       subst (λ (n : Making). IsShort n.made) (ok-same _ making members.then) tt
@@ -126,7 +126,7 @@ module _ (line : ℕ) (s : State) where
       let sizes = ap length same in
       omega arith
   as_many found (name ∷ names) all e =
-      let one = both (spec.collection line name s) _ all e in
+      let one = both (spec.operand_named line name s) _ all e in
       let rest = as_many (found ++ one.part ∷ []) names all one.then in
       let more = length-append found (one.part ∷ []) in
       omega arith
@@ -145,18 +145,18 @@ module _ (line : ℕ) (s : State) where
       → ((one : Operand) (by : Comb) (making : Making) → of one by ≡ Ok making
       → IsShort making.made)
       → (source : List ℕ) (combiner : Combiner) (making : Making)
-      → (spec.collection line source s >>= (λ one. spec.comb_of line combiner >>= of one))
+      → (spec.operand_named line source s >>= (λ one. spec.comb_for line combiner >>= of one))
       ≡ Ok making
       → IsShort making.made
   comb_short of short source combiner making e =
-      let one = both (spec.collection line source s) _ making e in
-      let by = both (spec.comb_of line combiner) _ making one.then in
+      let one = both (spec.operand_named line source s) _ making e in
+      let by = both (spec.comb_for line combiner) _ making one.then in
       short one.part by.part making by.then
 
   -- an operation that makes one collection
   alone_short : (one : Checked Making) (makings : List Making)
       → ((making : Making) → one ≡ Ok making → IsShort making.made)
-      → spec.alone one ≡ Ok makings → AllShort makings
+      → spec.one_making one ≡ Ok makings → AllShort makings
   alone_short one makings h e =
       let it = both one _ makings e in
       subst AllShort (ok-same _ makings it.then) (h it.part it.first, tt)
@@ -165,47 +165,47 @@ module _ (line : ℕ) (s : State) where
       → spec.made_by line by s ≡ Ok makings → AllShort makings
   made_short (operation.Do source function) makings short e = done_short source function makings e
   made_short (operation.Group source) makings short e =
-      alone_short (spec.grouped line source s) makings (group_short source) e
+      alone_short (spec.group_rule line source s) makings (group_short source) e
   made_short (operation.Combine source combiner) makings short e =
-      alone_short (spec.combined line source combiner s) makings
+      alone_short (spec.combine_rule line source combiner s) makings
       (comb_short (spec.combine_of line) combine_short source combiner) e
   made_short (operation.Flatten sources) makings short e =
       alone_short (spec.flattened line sources s) makings
       (λ making is. flatten_short sources making short is) e
   made_short (operation.Count source) makings short e =
-      alone_short (spec.counted line source s) makings
+      alone_short (spec.count_rule line source s) makings
       (λ making is.
-      let one = both (spec.collection line source s) _ making is in
+      let one = both (spec.operand_named line source s) _ making is in
       let members = both (spec.plain line one.part) _ making one.then in
       subst (λ (n : Making). IsShort n.made) (ok-same _ making members.then) tt) e
   made_short (operation.Join left right_) makings short e =
-      alone_short (spec.joined line left right_ s) makings
+      alone_short (spec.join_rule line left right_ s) makings
       (λ making is.
-      let one = both (spec.collection line left s) _ making is in
-      let other = both (spec.collection line right_ s) _ making one.then in
+      let one = both (spec.operand_named line left s) _ making is in
+      let other = both (spec.operand_named line right_ s) _ making one.then in
       join_short one.part other.part making other.then) e
   made_short (operation.Top digits source) makings short e =
-      alone_short (spec.greatest line digits source s) makings
+      alone_short (spec.top_rule line digits source s) makings
       (λ making is.
-      let one = both (spec.collection line source s) _ making is in
+      let one = both (spec.operand_named line source s) _ making is in
       let number = both (spec.top_number line digits) _ making one.then in
       let members = both (spec.plain line one.part) _ making number.then in
       subst (λ (n : Making). IsShort n.made) (ok-same _ making members.then) tt) e
   made_short (operation.CombineAll source combiner) makings short e =
-      alone_short (spec.combined_whole line source combiner s) makings
+      alone_short (spec.combine_all_rule line source combiner s) makings
       (comb_short (spec.combine_all_of line) whole_short source combiner) e
   made_short (operation.Operate objects function) makings short e =
-      alone_short (spec.operated line objects function s) makings
+      alone_short (spec.operate_rule line objects function s) makings
       (λ making is.
       let all = both (spec.collections_behind line [] objects s) _ making is in
       let by = both (spec.callee line function s) _ making all.then in
       operate_short all.part by.part making by.then) e
   made_short (operation.DoWith source function object) makings short e =
-      alone_short (spec.done_beside line source function object s) makings
+      alone_short (spec.do_with_rule line source function object s) makings
       (λ making is.
-      let one = both (spec.collection line source s) _ making is in
+      let one = both (spec.operand_named line source s) _ making is in
       let by = both (spec.callee line function s) _ making one.then in
-      let other = both (spec.collection line object s) _ making by.then in
+      let other = both (spec.operand_named line object s) _ making by.then in
       beside_short one.part by.part other.part making other.then) e
 
 -- ---- statements
@@ -251,14 +251,14 @@ fine_behind zero nodes fine = fine
 fine_behind (suc n) [] fine = tt
 fine_behind (suc n) (entry ∷ nodes) fine = fine_behind n nodes fine.1
 
-renumbered_short : (to : ℕ → ℕ) (how : Made) → IsShort how → IsShort (renumbered to how)
+renumbered_short : (to : ℕ → ℕ) (how : Made) → IsShort how → IsShort (made_from_others to how)
 renumbered_short to (made.Flatten sources) short =
     let same = length-map sources to in
     omega (arith, short, same)
 renumbered_short to _ short = tt
 
 copies_fine : (turn : ℕ) (to : ℕ → ℕ) (nodes : Named Node) → AllByRecursion IsFine nodes
-    → AllByRecursion IsFine (map (copied turn to) nodes)
+    → AllByRecursion IsFine (map (copied_let turn to) nodes)
 copies_fine turn to [] fine = tt
 copies_fine turn to (entry ∷ nodes) fine =
     (renumbered_short to entry.1.made fine.0, copies_fine turn to nodes fine.1)
@@ -298,7 +298,7 @@ module _ (line : ℕ) (s after : State) (fine : AllFine s) where
       subst AllFine (ruled line function s after e).is fine
 
   named_fine : (names : List (List ℕ)) (by : Operation) → IsShortOperation by
-      → rules_.named line names by s ≡ Ok after → AllFine after
+      → rules_.let_rule line names by s ≡ Ok after → AllFine after
   named_fine names by short e =
       let new = both (rules_.all_fresh line (keys_of s.names) names) _ after e in
       let makings = both (spec.made_by line by s) _ after new.then in
@@ -310,7 +310,7 @@ module _ (line : ℕ) (s after : State) (fine : AllFine s) where
       → AllFine after
   output_fine name file e =
       let few = both (rules_.room line 1 most_files s.outputs) _ after e in
-      let one = both (spec.collection line name s) _ after few.then in
+      let one = both (spec.operand_named line name s) _ after few.then in
       let columns = both (or_fault line NotFlat (columns_of one.part.type)) _ after one.then in
       let new = both (fresh line file s.outputs) _ after columns.then in
       subst AllFine (ok-same _ after new.then) fine
@@ -322,7 +322,7 @@ lets_fine : (lets : List TurnLet) (s after : State) → AllShortLets lets → Al
     → rules_.all_named lets s ≡ Ok after → AllFine after
 lets_fine [] s after short fine e = subst AllFine (ok-same s after e) fine
 lets_fine (it ∷ lets) s after short fine e =
-    let next = both (rules_.named it.line it.names it.by s) _ after e in
+    let next = both (rules_.let_rule it.line it.names it.by s) _ after e in
     lets_fine lets next.part after short.1
     (named_fine it.line s next.part fine it.names it.by short.0 next.first) next.then
 
@@ -378,7 +378,7 @@ pub record IsKept (script : Script) : Type 0 where
 pub accepted_kept : (statements : List Statement) (script : Script) → AreShort statements
     → rules_.script_of statements ≡ Ok script → IsKept script
 accepted_kept statements script short e =
-    let s = both (rules_.defined statements nothing) _ script e in
+    let s = both (rules_.defined statements empty_state) _ script e in
     let some = both (unless 0 NoOutput (nat_lt 0 (length s.part.outputs))) _ script s.then in
     subst IsKept (ok-same _ script some.then)
-    (record { short = defined_fine statements nothing s.part short tt s.first })
+    (record { short = defined_fine statements empty_state s.part short tt s.first })

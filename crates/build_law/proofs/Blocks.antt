@@ -8,7 +8,7 @@ use Rattle.flume_value.proofs.EachLemmas.{Each-append, Each-left, Each-right}
 use Rattle.exec_graph.specs.declared.graph.Entry.{Entry}
 use Rattle.exec_graph.specs.declared.graph.Place.{Place}
 use Rattle.graph_build.specs.Built.{Built}
-use Rattle.graph_build.specs.Graphs.{behind, giving_from, next_source, nodes_at, nodes_from}
+use Rattle.graph_build.specs.Graphs.{number_past, giving_from, next_source, nodes_at, nodes_from}
 use Rattle.graph_build.specs.Nodes.{before_last, made_nodes}
 use Rattle.graph_build.specs.of_script_program.declared.made.Made.{Made}
 use Rattle.graph_build.specs.of_script_program.Script.{Script}
@@ -20,7 +20,7 @@ use Rattle.build_law.proofs.Values.{behind_list, regrouped}
 abbrev pub start_at : ℕ → List (Option Built) → ℕ → ℕ
 start_at n [] t = n
 start_at n (w ∷ ws) zero = n
-start_at n (w ∷ ws) (suc t) = start_at (behind n w) ws t
+start_at n (w ∷ ws) (suc t) = start_at (number_past n w) ws t
 
 abbrev pub source_at : ℕ → List (Option Built) → ℕ → ℕ
 source_at source [] t = source
@@ -39,9 +39,9 @@ last_number n [] t it found = cc
 last_number n (None ∷ ws) zero it found = cc
 last_number n (Some own ∷ ws) zero it found =
     ap (λ (b : Built). n + before_last b.made) (some_same own it found)
-last_number n (w ∷ ws) (suc t) it found = last_number (behind n w) ws t it found
+last_number n (w ∷ ws) (suc t) it found = last_number (number_past n w) ws t it found
 
-behind_on : (n : ℕ) (w : Option Built) → n ≤ behind n w
+behind_on : (n : ℕ) (w : Option Built) → n ≤ number_past n w
 behind_on n None = omega arith
 behind_on n (Some it) = omega arith
 
@@ -49,7 +49,7 @@ start_up : (n : ℕ) (ws : List (Option Built)) (t : ℕ) → n ≤ start_at n w
 start_up n [] t = omega arith
 start_up n (w ∷ ws) zero = omega arith
 start_up n (w ∷ ws) (suc t) =
-    let one = behind_on n w in let rest = start_up (behind n w) ws t in omega arith
+    let one = behind_on n w in let rest = start_up (number_past n w) ws t in omega arith
 
 -- the nodes at an earlier place are lower
 pub lower_start : (n : ℕ) (ws : List (Option Built)) (j t : ℕ) (it : Built)
@@ -65,7 +65,7 @@ lower_start n (Some own ∷ ws) zero (suc t) it found below =
     omega arith
 lower_start n (w ∷ ws) (suc j) zero it found below = absurd (omega arith)
 lower_start n (w ∷ ws) (suc j) (suc t) it found below =
-    lower_start (behind n w) ws j t it found (omega arith)
+    lower_start (number_past n w) ws j t it found (omega arith)
 
 -- ---- rows: what the nodes of each place have, in their order
 
@@ -85,7 +85,7 @@ module _ {X : Type 0} (rows : ℕ → Made → List X) where
       → length (rows it.number it.made) ≡ before_last it.made + 1
 
   more_rows : (n : ℕ) (w : Option Built) (ws : List (Option Built)) (pre : List X)
-      → AreSized (w ∷ ws) → length pre ≡ n → length (pre ++ rows_at w) ≡ behind n w
+      → AreSized (w ∷ ws) → length pre ≡ n → length (pre ++ rows_at w) ≡ number_past n w
   more_rows n None ws pre sized size = let e = length-append pre [] in omega arith
   more_rows n (Some it) ws pre sized size =
       let e = length-append pre (rows it.number it.made) in
@@ -113,7 +113,7 @@ module _ {X : Type 0} (rows : ℕ → Made → List X) where
             ∙ ap (λ (b : Built). get_or (rows b.number b.made ++ rows_from ws) k d) same,
       )
   rows_found whole pre n (w ∷ ws) (suc t) it sized size is found =
-      rows_found whole (pre ++ rows_at w) (behind n w) ws t it
+      rows_found whole (pre ++ rows_at w) (number_past n w) ws t it
       (λ k b at. sized (suc k) b at) (more_rows n w ws pre sized size)
       (regrouped whole pre (rows_at w) (rows_from ws) is) found
 
@@ -133,7 +133,7 @@ module _ (script : Script) (gives : ℕ → Place) where
   own_nodes source n it = made_nodes script gives it.number source n it.made
 
   abbrev rest_nodes : ℕ → ℕ → Option Built → List (Option Built) → List Entry
-  rest_nodes source n w ws = nodes_from script gives (next_source source w) (behind n w) ws
+  rest_nodes source n w ws = nodes_from script gives (next_source source w) (number_past n w) ws
 
   first_block : (source n : ℕ) (own it : Built) → own ≡ it
       → own_nodes source n own ≡ own_nodes source n it
@@ -151,7 +151,7 @@ module _ (script : Script) (gives : ℕ → Place) where
     each_block source n (None ∷ ws) h = each_block source n ws (λ t it found. h (suc t) it found)
     each_block source n (Some own ∷ ws) h =
         Each-append P (own_nodes source n own) (rest_nodes source n (Some own) ws) (h 0 own refl)
-        (each_block (next_source source (Some own)) (behind n (Some own)) ws
+        (each_block (next_source source (Some own)) (number_past n (Some own)) ws
         (λ t it found. h (suc t) it found))
 
     -- and of those of each place if of all
@@ -164,7 +164,7 @@ module _ (script : Script) (gives : ℕ → Place) where
         subst Have (first_block source n own it (some_same own it found))
         (Each-left P (own_nodes source n own) (rest_nodes source n (Some own) ws) h)
     block_each source n (w ∷ ws) (suc t) it found h =
-        block_each (next_source source w) (behind n w) ws t it found
+        block_each (next_source source w) (number_past n w) ws t it found
         (Each-right P (nodes_at script gives source n w) (rest_nodes source n w ws) h)
 
   -- what one has, some has
@@ -180,7 +180,7 @@ module _ (script : Script) (gives : ℕ → Place) where
       (sym (first_block source n own it (some_same own it found))) h)
   any_block p source n (w ∷ ws) (suc t) it found h =
       any_behind p (nodes_at script gives source n w) (rest_nodes source n w ws)
-      (any_block p (next_source source w) (behind n w) ws t it found h)
+      (any_block p (next_source source w) (number_past n w) ws t it found h)
 
   module _ {A : Type 0} (f : Entry → List A) where
     -- what the nodes of one place add, all add
@@ -202,7 +202,7 @@ module _ (script : Script) (gives : ℕ → Place) where
         let rest : List Entry = rest_nodes source n w ws in
         subst (λ xs. Contains xs x) (sym (flat_map-append f here rest))
         (Contains-append_right (flat_map f here) (flat_map f rest) x
-        (in_block (next_source source w) (behind n w) ws t it x found h))
+        (in_block (next_source source w) (number_past n w) ws t it x found h))
 
     -- what all add, the nodes of some place add
     pub blocks_in : (source n : ℕ) (ws : List (Option Built)) (zs : List A)
@@ -216,7 +216,7 @@ module _ (script : Script) (gives : ℕ → Place) where
         let here : List Entry = own_nodes source n own in
         let rest : List Entry = rest_nodes source n (Some own) ws in
         ⊎_elim (λ there. h 0 own refl x there)
-        (blocks_in (next_source source (Some own)) (behind n (Some own)) ws zs
+        (blocks_in (next_source source (Some own)) (number_past n (Some own)) ws zs
         (λ t it found y there. h (suc t) it found y there) x)
         (Contains-append_cases (flat_map f here) (flat_map f rest) x
         (subst (λ xs. Contains xs x) (flat_map-append f here rest) is))
@@ -231,7 +231,7 @@ module _ (script : Script) (gives : ℕ → Place) where
     no_block source n (Some own ∷ ws) h =
         flat_map-append f (own_nodes source n own) (rest_nodes source n (Some own) ws)
         ∙ (λ i. h 0 own refl i
-        ++ no_block (next_source source (Some own)) (behind n (Some own)) ws
+        ++ no_block (next_source source (Some own)) (number_past n (Some own)) ws
         (λ t it found. h (suc t) it found) i)
 
     -- nodes of which those of one place alone add something
@@ -245,7 +245,7 @@ module _ (script : Script) (gives : ℕ → Place) where
     one_block source n (Some own ∷ ws) zero it found h =
         flat_map-append f (own_nodes source n own) (rest_nodes source n (Some own) ws)
         ∙ (λ i. flat_map f (first_block source n own it (some_same own it found) i)
-        ++ no_block (next_source source (Some own)) (behind n (Some own)) ws
+        ++ no_block (next_source source (Some own)) (number_past n (Some own)) ws
         (λ s b at. h (suc s) b at (λ same. absurd (omega arith))) i)
         ∙ append-nil (flat_map f (own_nodes source n it))
     one_block source n (None ∷ ws) (suc t) it found h =
@@ -254,5 +254,5 @@ module _ (script : Script) (gives : ℕ → Place) where
     one_block source n (Some own ∷ ws) (suc t) it found h =
         flat_map-append f (own_nodes source n own) (rest_nodes source n (Some own) ws)
         ∙ (λ i. h 0 own refl (λ same. absurd (omega arith)) i
-        ++ one_block (next_source source (Some own)) (behind n (Some own)) ws t it found
+        ++ one_block (next_source source (Some own)) (number_past n (Some own)) ws t it found
         (λ s b at differ. h (suc s) b at (λ same. differ (omega arith))) i)

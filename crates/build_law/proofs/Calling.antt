@@ -14,7 +14,7 @@ use Rattle.graph_build.specs.of_script_program.declared.made.Made.{Made}
 use Rattle.graph_build.specs.of_script_program.declared.made.Made.TheVariants as made
 use Rattle.graph_build.specs.of_script_program.Script.{Node, Script}
 use Rattle.graph_build.specs.Built.{Built, as_made, built, built_as as built_name, built_from, built_here}
-use Rattle.graph_build.specs.Calls.{emitted_as, emitted_at, is_emitted, is_kept, kept_at}
+use Rattle.graph_build.specs.Calls.{emitted_as, emitted_at, is_emitted, is_saved_made, is_kept_at}
 use Rattle.graph_build.specs.Wanted.{needed_at, wanted, wanted_from}
 use Rattle.graph_build.proofs.BuiltLemmas.{built_is}
 use Rattle.graph_build.proofs.of_script_program.SourceSteps.{found_below}
@@ -63,8 +63,8 @@ module _ (script : Script) where
 
   pub how_kept : (j : ℕ) (is_object : Bool) (call : Option Emitted)
       → get_or (wanted script) j None ≡ Some (made.Saved is_object call)
-      → kept_at script j ≡ true
-  how_kept j is_object call found = ap is_kept found
+      → is_kept_at script j ≡ true
+  how_kept j is_object call found = ap is_saved_made found
 
   pub record IsNeededAs (j : ℕ) (how : Made) : Type 0 where
     pub needed : is_needed script j ≡ true

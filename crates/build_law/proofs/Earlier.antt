@@ -11,7 +11,7 @@ use Rattle.graph_build.specs.of_script_program.declared.made.Made.TheVariants as
 use Rattle.graph_build.specs.of_script_program.Script.{Script}
 use Rattle.direct_meaning.specs.of_script_laws.WellFormed.{IsWellFormed}
 use Rattle.graph_build.specs.Built.{built}
-use Rattle.graph_build.specs.Calls.{emitted_as, emitted_at, kept_at, other_names}
+use Rattle.graph_build.specs.Calls.{emitted_as, emitted_at, is_kept_at, other_names}
 use Rattle.graph_build.specs.Wanted.{wanted}
 use Rattle.build_law.proofs.Calling.{built_made, how_emitted, how_kept, needed_as}
 use Rattle.build_law.proofs.MadeKinds.{built_of}
@@ -95,7 +95,7 @@ module _ (script : Script) (well : IsWellFormed script) where
           let first : n.name.first ≡ a.first = omega arith in
           let fewer = kept_before script a.first (suc (other_names script a.f)) (j - a.first)
           (omega arith)
-          (ap (kept_at script) e ∙ how_kept script j is_object (Some it) at) in
+          (ap (is_kept_at script) e ∙ how_kept script j is_object (Some it) at) in
           let size : kept_slot script n.name.first it.output
           ≡ kept_slot script a.first (j - a.first) =
           (λ i. kept_slot script (first i) (sym here i)) in

@@ -13,7 +13,7 @@ use Rattle.exec_graph.specs.declared.graph.Graph.{Graph}
 use Rattle.exec_graph.specs.declared.graph.Place.{Place}
 use Rattle.exec_graph.specs.declared.step.Does.{Does}
 use Rattle.graph_build.specs.Calls.{emitted_at, names_needed, needed_from, other_names}
-use Rattle.graph_build.specs.Nodes.{barrier, before_last, call_branch, entry, first_of, groups, made_nodes, one_step}
+use Rattle.graph_build.specs.Nodes.{barrier, before_last, call_branch, entry, first_of, gbk_of, made_nodes, one_step}
 use Rattle.combine_table.specs.declared.comb.Comb.{Comb}
 use Rattle.combine_table.specs.declared.comb.Comb.TheVariants as by
 use Rattle.exec_graph.specs.declared.graph.Act.TheVariants.{Singleton}
@@ -77,7 +77,7 @@ module _ (g : Graph) where
         (entry n (step origin does.TagLeft (gives left))
         ∷ entry (n + 1) (step origin does.TagRight (gives right)) ∷ [])
         (entry (n + 2) (Flatten (first_of n ∷ first_of (n + 1) ∷ []))
-        ∷ entry (n + 3) (groups origin (first_of (n + 2)))
+        ∷ entry (n + 3) (gbk_of origin (first_of (n + 2)))
         ∷ entry (n + 4) (last_step origin does.Split (first_of (n + 3))) ∷ [])
         (or_left (among c (first_of n ∷ first_of (n + 1) ∷ [])) _
         (or_right (same_place c (first_of n)) (same_place c c || false)
@@ -87,14 +87,14 @@ module _ (g : Graph) where
     combined_read : (input : ℕ) (k : Comb) (last : Node) → uses (first_of (n + 2)) last ≡ true
         → any_uses (first_of (n + 2))
         (entry n (step origin does.Solo (gives input))
-        ∷ entry (n + 1) (groups origin (first_of n))
+        ∷ entry (n + 1) (gbk_of origin (first_of n))
         ∷ entry (n + 2) (step origin (does.Combine k) (first_of (n + 1)))
         ∷ entry (n + 3) last ∷ []) ≡ true
     combined_read input k last used =
         let c = first_of (n + 2) in
         any_behind (λ e. uses c e.node)
         (entry n (step origin does.Solo (gives input))
-        ∷ entry (n + 1) (groups origin (first_of n))
+        ∷ entry (n + 1) (gbk_of origin (first_of n))
         ∷ entry (n + 2) (step origin (does.Combine k) (first_of (n + 1))) ∷ [])
         (entry (n + 3) last ∷ []) (or_left (uses c last) false used)
 

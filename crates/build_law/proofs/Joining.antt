@@ -6,7 +6,7 @@ use Rattle.bag_groups.specs.Combining.{group_of}
 use Rattle.bag_groups.specs.Pairs.{pair, parts_of}
 use Rattle.bag_groups.specs.Groups.{grouped}
 use Rattle.bag_groups.proofs.Grouping.{grouped-bag_of}
-use Rattle.bag_step_laws.specs.Derived.{lefts, marked, marked_left, marked_right, rights, split_sides as split_of}
+use Rattle.bag_step_laws.specs.Derived.{lefts, marked_pairs, marked_left, marked_right, rights, split_sides as split_of}
 use Rattle.bag_step_laws.proofs.Sides.{split-marked}
 use Rattle.bag_steps.specs.Joins.{joined, sides}
 use Rattle.bag_steps.proofs.RowOrder.{joined-IsSorted}
@@ -26,7 +26,7 @@ use Rattle.exec_graph.specs.Meaning.{through}
 use Rattle.exec_graph.specs.World.{World}
 use Rattle.exec_graph.specs.declared.step.Does.TheVariants as does
 use Rattle.exec_graph.proofs.StepFacts.{called_is}
-use Rattle.direct_meaning.specs.Direct.{joined_by}
+use Rattle.direct_meaning.specs.Direct.{joined_collections}
 use Rattle.build_law.proofs.Passing.{only_label, through_given}
 
 with_marked : (f : Value → Value) (o : Option (Value × Value))
@@ -56,7 +56,7 @@ both_tagged left right =
     bag_of (bag_of (flat_map left_tagged left) ++ (bag_of (flat_map right_tagged right) ++ []))
 
 tagged_grouped : (left right : List Value)
-    → grouped (both_tagged left right) ≡ grouped (marked left right)
+    → grouped (both_tagged left right) ≡ grouped (marked_pairs left right)
 tagged_grouped left right =
     ap (λ ys. grouped (bag_of (bag_of (flat_map left_tagged left) ++ ys)))
     (append-nil (bag_of (flat_map right_tagged right)))
@@ -115,7 +115,7 @@ pub join_is : (w : World) (n : ℕ) (a b : Collection)
     (together
     (through w (only_label n false does.TagLeft) a
     ∷ through w (only_label n false does.TagRight) b ∷ [])))
-    ≡ joined_by a b
+    ≡ joined_collections a b
 join_is w n a b h k =
     ap (λ c. through w (only_label n true does.Split) (by_key c))
     (λ i. together

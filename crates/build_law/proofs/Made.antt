@@ -16,8 +16,8 @@ use Rattle.graph_build.specs.of_script_program.declared.made.Made.TheVariants as
 use Rattle.graph_build.specs.of_script_program.Script.{Script}
 use Rattle.direct_meaning.specs.of_script_laws.WellFormed.{function_at}
 use Rattle.direct_meaning.proofs.DoneLemmas.{has_done}
-use Rattle.direct_meaning.specs.Calls.{answer_of, calls_on}
-use Rattle.direct_meaning.specs.Direct.{all_made, called_by, combined_by, counted_by, done_at, done_beside_at, joined_at, joined_by, made_as, made_at, operated_at, rows_as, top_by}
+use Rattle.direct_meaning.specs.Calls.{answer_of, answers_on}
+use Rattle.direct_meaning.specs.Direct.{all_made, called_by, combined_by, counted_by, done_at, done_beside_at, joined_at, joined_collections, made_as, made_at, operated_at, rows_as, top_by}
 use Rattle.direct_meaning.specs.Objects.{combined_whole, done_beside, operated_by}
 use Rattle.graph_build.specs.of_script_program.Needed.{operands}
 use Rattle.graph_build.specs.Nodes.{source_number}
@@ -31,7 +31,7 @@ use Rattle.build_law.proofs.Tables.{and_then_some, map_some}
 -- what a function makes is what its step gives to the output
 call_is : (w : World) (n f output : ℕ) (answer : Value → Option Called) (c : Collection)
     (calls : List Called) → w.called f ≡ (λ x. or_silent (answer x))
-    → calls_on answer c.bag ≡ Some calls
+    → answers_on answer c.bag ≡ Some calls
     → called_by n output c.traps calls ≡ through w (call_label n f output) c
 unfolding called
 call_is w n f output answer c calls world h =
@@ -164,12 +164,14 @@ module _ (script : Script) (lists all : List (List Value))
   by_joining : (left right : ℕ) → joined_at left right table ≡ Some c → Is (made.Join left right)
   by_joining left right h =
       let (a, left_read, rest) =
-      and_then_some (λ a. option_map (joined_by a) (made_at table right)) (made_at table left) c h
+      and_then_some (λ a. option_map (joined_collections a) (made_at table right))
+      (made_at table left) c h
       in
-      let (b, right_read, is) = map_some (joined_by a) (made_at table right) c rest in
+      let (b, right_read, is) = map_some (joined_collections a) (made_at table right) c rest in
       record {
         is = here ∙ sym is
-            ∙ (λ i. joined_by (sym (same left a left_read) i) (sym (same right b right_read) i));
+            ∙ (λ i. joined_collections (sym (same left a left_read) i)
+            (sym (same right b right_read) i));
         settled = subst IsSettled is (joined_settled a b);
         read = ((a, left_read), ((b, right_read), tt));
       }

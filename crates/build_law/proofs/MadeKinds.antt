@@ -1,7 +1,7 @@
 -- Kinds of collections: outputs of calls, kept ones that were outputs of calls, and all others.
 use Rattle.std.proofs.Common.{◌≡◌, ℕ, Bool, true, false, Option, Some, None, refl, ap}
 use Rattle.graph_build.specs.Built.{Built}
-use Rattle.graph_build.specs.Calls.{emitted_as, is_emitted, is_kept}
+use Rattle.graph_build.specs.Calls.{emitted_as, is_emitted, is_saved_made}
 use Rattle.graph_build.specs.of_script_program.declared.made.Emitted.{Emitted}
 use Rattle.graph_build.specs.of_script_program.declared.made.Made.{Made}
 use Rattle.graph_build.specs.of_script_program.declared.made.Made.TheVariants as made
@@ -59,11 +59,11 @@ pub record IsKeptOne (o : Option Made) : Type 0 where
   pub call : Option Emitted
   pub is : o ≡ Some (made.Saved is_object call)
 
-pub is_kept_one : (o : Option Made) → is_kept o ≡ true → IsKeptOne o
+pub is_kept_one : (o : Option Made) → is_saved_made o ≡ true → IsKeptOne o
 is_kept_one (Some (made.Saved is_object call)) h =
     record { is_object = is_object; call = call; is = refl }
 is_kept_one _ h = cc
 
 -- a kept one is emitted by no call
-pub kept_apart : (o : Option Made) → is_kept o ≡ true → is_emitted o ≡ false
+pub kept_apart : (o : Option Made) → is_saved_made o ≡ true → is_emitted o ≡ false
 kept_apart o h = ap is_emitted (is_kept_one o h).is

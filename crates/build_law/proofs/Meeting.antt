@@ -15,12 +15,12 @@ use Rattle.exec_graph.specs.declared.graph.Place.{Place}
 use Rattle.exec_graph.specs.declared.step.Does.TheVariants as does
 use Rattle.exec_graph.proofs.Barriers.{barrier_operate, barrier_side_input}
 use Rattle.graph_build.specs.Calls.{emitted_at, names_needed, needed_from, other_names}
-use Rattle.graph_build.specs.Nodes.{barrier, call_branch, entry, first_of, groups, made_nodes, source_number}
+use Rattle.graph_build.specs.Nodes.{barrier, call_branch, entry, first_of, gbk_of, made_nodes, source_number}
 use Rattle.graph_build.specs.of_script_program.Needed.{operands}
 use Rattle.graph_build.specs.of_script_program.declared.made.Made.{Made}
 use Rattle.graph_build.specs.of_script_program.declared.made.Made.TheVariants as made
 use Rattle.graph_build.specs.of_script_program.Script.{Script}
-use Rattle.direct_meaning.specs.Direct.{combined_by, counted_by, joined_by, top_by}
+use Rattle.direct_meaning.specs.Direct.{combined_by, counted_by, joined_collections, top_by}
 use Rattle.direct_meaning.specs.Objects.{combined_whole}
 use Rattle.build_law.proofs.Passing.{call_label, only_label, through_combined}
 use Rattle.build_law.proofs.Counting.{count_is}
@@ -51,7 +51,7 @@ IsMadeBy script w at origin source (made.Combine input comb) =
 IsMadeBy script w at origin source (made.Flatten inputs) = at origin ≡ together (map at inputs)
 IsMadeBy script w at origin source (made.Count input) = at origin ≡ counted_by origin (at input)
 IsMadeBy script w at origin source (made.Join left right) =
-    at origin ≡ joined_by (at left) (at right)
+    at origin ≡ joined_collections (at left) (at right)
 IsMadeBy script w at origin source (made.Top many input) = at origin ≡ top_by many (at input)
 IsMadeBy script w at origin source (made.CombineAll input comb) =
     at origin ≡ combined_whole origin comb (at input)
@@ -123,7 +123,7 @@ module _ (script : Script) (w : World) (at : ℕ → Collection) (m : Place → 
 
     join_holds : (left right : ℕ) → Facts (made.Join left right)
         → m (gives left) ≡ at left → m (gives right) ≡ at right
-        → at origin ≡ joined_by (at left) (at right)
+        → at origin ≡ joined_collections (at left) (at right)
         → Meets w (made_nodes script gives origin source n (made.Join left right)) m
     join_holds left right fact read other is =
         let tag_left = only_label origin false does.TagLeft in
@@ -166,7 +166,7 @@ module _ (script : Script) (w : World) (at : ℕ → Collection) (m : Place → 
         → Holds w m (n + 3) last
         → Meets w
         (entry n (step origin does.Solo (gives input))
-        ∷ entry (n + 1) (groups origin (first_of n))
+        ∷ entry (n + 1) (gbk_of origin (first_of n))
         ∷ entry (n + 2) (step origin (does.Combine k) (first_of (n + 1)))
         ∷ entry (n + 3) last ∷ []) m
     combined_holds input k last read first second third holds = (

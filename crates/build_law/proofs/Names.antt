@@ -5,7 +5,7 @@ use Rattle.std.proofs.Common.{◌++◌, length, Some, refl, sym, ap, ◌∙◌}
 use Rattle.std.proofs.Common.{subst, arith, add-zero, append_assoc, length-append}
 use Rattle.std.specs.Prelude.{if◌then◌else◌, slice_get}
 use Rattle.graph_build.specs.of_script_program.Script.{Script}
-use Rattle.graph_build.specs.Calls.{emitted_at, first_emitted, kept_at, kept_from, needed_from}
+use Rattle.graph_build.specs.Calls.{emitted_at, first_emitted, is_kept_at, numbers_kept_from, needed_from}
 use Rattle.graph_build.specs.Wanted.{wanted_at}
 use Rattle.build_law.proofs.MadeKinds.{kept_apart}
 use Rattle.build_law.proofs.Outputs.{EachName}
@@ -113,34 +113,34 @@ module _ (script : Script) where
   -- ---- kept
 
   abbrev own_name : ℕ → List ℕ
-  own_name name = if kept_at script name then name ∷ [] else []
+  own_name name = if is_kept_at script name then name ∷ [] else []
 
   -- no more than so many are kept, and where one is emitted not all
-  pub few_kept : (name more : ℕ) → length (kept_from script name more) ≤ more
+  pub few_kept : (name more : ℕ) → length (numbers_kept_from script name more) ≤ more
   few_kept name zero = omega arith
   few_kept name (suc more) =
       let rest = few_kept (suc name) more in
-      let one = if_kept (kept_at script name) name (kept_from script (suc name) more) in
+      let one = if_kept (is_kept_at script name) name (numbers_kept_from script (suc name) more) in
       omega (arith, rest, one)
 
   pub few_built : (name more : ℕ)
-      → length (kept_from script name more) + length (first_emitted script name more) ≤ more
+      → length (numbers_kept_from script name more) + length (first_emitted script name more) ≤ more
   few_built name zero = omega arith
   few_built name (suc more) =
-      both_few (kept_at script name) (emitted_at script name) name more
-      (kept_from script (suc name) more) (first_emitted script (suc name) more)
+      both_few (is_kept_at script name) (emitted_at script name) name more
+      (numbers_kept_from script (suc name) more) (first_emitted script (suc name) more)
       (kept_apart (wanted_at script name)) (few_kept (suc name) more)
       (few_built (suc name) more)
 
   -- a kept one stands behind those before it
-  pub kept_seam : (name more k : ℕ) → k < more → kept_at script (name + k) ≡ true
+  pub kept_seam : (name more k : ℕ) → k < more → is_kept_at script (name + k) ≡ true
       → (rest : List ℕ)
-      × (kept_from script name more ≡ kept_from script name k ++ (name + k) ∷ rest)
+      × (numbers_kept_from script name more ≡ numbers_kept_from script name k ++ (name + k) ∷ rest)
   kept_seam name zero k below h = absurd (omega arith)
   kept_seam name (suc more) zero below h =
-      let here : kept_at script name ≡ true =
-      subst (λ n. kept_at script n ≡ true) (add-zero name) h in
-      let rest : List ℕ = kept_from script (suc name) more in (
+      let here : is_kept_at script name ≡ true =
+      subst (λ n. is_kept_at script n ≡ true) (add-zero name) h in
+      let rest : List ℕ = numbers_kept_from script (suc name) more in (
         rest,
         ap (λ (b : Bool). (if b then name ∷ [] else []) ++ rest) here
             ∙ ap (λ n. n ∷ rest) (sym (add-zero name)),
@@ -148,19 +148,19 @@ module _ (script : Script) where
   kept_seam name (suc more) (suc k) below h =
       let e : name + suc k ≡ suc name + k = omega arith in
       let it = kept_seam (suc name) more k (omega arith)
-      (subst (λ n. kept_at script n ≡ true) e h) in
-      let front : List ℕ = kept_from script (suc name) k in (
+      (subst (λ n. is_kept_at script n ≡ true) e h) in
+      let front : List ℕ = numbers_kept_from script (suc name) k in (
         it.0,
         ap (λ l. own_name name ++ l) it.1
             ∙ sym (append_assoc (own_name name) front ((suc name + k) ∷ it.0))
             ∙ ap (λ n. (own_name name ++ front) ++ n ∷ it.0) (sym e),
       )
 
-  pub kept_before : (name more k : ℕ) → k < more → kept_at script (name + k) ≡ true
-      → length (kept_from script name k) < length (kept_from script name more)
+  pub kept_before : (name more k : ℕ) → k < more → is_kept_at script (name + k) ≡ true
+      → length (numbers_kept_from script name k) < length (numbers_kept_from script name more)
   kept_before name more k below h =
       let seam = kept_seam name more k below h in
-      let both = length-append (kept_from script name k) ((name + k) ∷ seam.0) in
+      let both = length-append (numbers_kept_from script name k) ((name + k) ∷ seam.0) in
       let size = ap length seam.1 in
       omega (arith, both, size)
 
@@ -170,26 +170,26 @@ module _ (script : Script) where
     pub place : ℕ
     pub below : place < more
     pub number : name + place ≡ x
-    pub kept : kept_at script x ≡ true
-    pub before : length (kept_from script name place) ≡ i
+    pub kept : is_kept_at script x ≡ true
+    pub before : length (numbers_kept_from script name place) ≡ i
 
-  among_first : (name more x : ℕ) → kept_at script name ≡ true → name ≡ x
+  among_first : (name more x : ℕ) → is_kept_at script name ≡ true → name ≡ x
       → IsAmong name (suc more) 0 x
   among_first name more x here same = record {
     place = 0;
     below = omega arith;
     number = add-zero name ∙ same;
-    kept = subst (λ n. kept_at script n ≡ true) same here;
+    kept = subst (λ n. is_kept_at script n ≡ true) same here;
     before = refl;
   }
 
-  among_later : (name more i j x : ℕ) (b : Bool) → kept_at script name ≡ b
+  among_later : (name more i j x : ℕ) (b : Bool) → is_kept_at script name ≡ b
       → length (if b then name ∷ [] else []) + i ≡ j → IsAmong (suc name) more i x
       → IsAmong name (suc more) j x
   among_later name more i j x b is size it =
       let e : suc name + it.place ≡ name + suc it.place = omega arith in
       let low = it.below in
-      let front : List ℕ = kept_from script (suc name) it.place in
+      let front : List ℕ = numbers_kept_from script (suc name) it.place in
       record {
         place = suc it.place;
         below = omega arith;
@@ -205,10 +205,11 @@ module _ (script : Script) where
       by_flag true size front same = omega (arith, size, same)
       by_flag false size front same = omega (arith, size, same)
 
-  among_by : (b : Bool) (name more i x : ℕ) → kept_at script name ≡ b
-      → ((k : ℕ) → slice_get (kept_from script (suc name) more) k ≡ Some x
+  among_by : (b : Bool) (name more i x : ℕ) → is_kept_at script name ≡ b
+      → ((k : ℕ) → slice_get (numbers_kept_from script (suc name) more) k ≡ Some x
       → IsAmong (suc name) more k x)
-      → slice_get ((if b then name ∷ [] else []) ++ kept_from script (suc name) more) i ≡ Some x
+      → slice_get ((if b then name ∷ [] else []) ++ numbers_kept_from script (suc name) more) i
+      ≡ Some x
       → IsAmong name (suc more) i x
   among_by true name more zero x is rest h =
       let same : name ≡ x = cc in among_first name more x is same
@@ -217,11 +218,11 @@ module _ (script : Script) where
   among_by false name more i x is rest h =
       among_later name more i i x false is (omega arith) (rest i h)
 
-  pub among : (name more i x : ℕ) → slice_get (kept_from script name more) i ≡ Some x
+  pub among : (name more i x : ℕ) → slice_get (numbers_kept_from script name more) i ≡ Some x
       → IsAmong name more i x
   among name zero i x h = cc
   among name (suc more) i x h =
-      among_by (kept_at script name) name more i x refl (λ k. among (suc name) more k x) h
+      among_by (is_kept_at script name) name more i x refl (λ k. among (suc name) more k x) h
 
   -- ---- the first that a call emits
 

@@ -10,7 +10,7 @@ use Rattle.exec_graph.specs.declared.graph.Entry.{Entry}
 use Rattle.exec_graph.specs.declared.graph.Node.{Node}
 use Rattle.exec_graph.specs.declared.graph.Place.{Place}
 use Rattle.graph_build.specs.Built.{Built}
-use Rattle.graph_build.specs.Graphs.{behind, giving_from, last_node, next_source, nodes_at, nodes_from}
+use Rattle.graph_build.specs.Graphs.{number_past, giving_from, last_node, next_source, nodes_at, nodes_from}
 use Rattle.graph_build.specs.Nodes.{before_last, made_nodes}
 use Rattle.graph_build.specs.of_script_program.declared.made.Made.{Made}
 use Rattle.graph_build.specs.of_script_program.declared.made.Made.TheVariants as made
@@ -121,7 +121,8 @@ block_counts script gives origin source n (made.CombineAll input k) =
 block_counts script gives origin source n _ = (refl, tt)
 
 part_counts : (script : Script) (gives : ℕ → Place) (source n : ℕ) (w : Option Built)
-    (ys : List Entry) → Counts (behind n w) ys → Counts n (nodes_at script gives source n w ++ ys)
+    (ys : List Entry) → Counts (number_past n w) ys
+    → Counts n (nodes_at script gives source n w ++ ys)
 part_counts script gives source n None ys h = h
 part_counts script gives source n (Some it) ys h =
     counts_append n (made_nodes script gives it.number source n it.made) ys
@@ -136,8 +137,8 @@ pub all_counts : (script : Script) (gives : ℕ → Place) (source n : ℕ) (ws 
 all_counts script gives source n [] = tt
 all_counts script gives source n (w ∷ ws) =
     part_counts script gives source n w
-    (nodes_from script gives (next_source source w) (behind n w) ws)
-    (all_counts script gives (next_source source w) (behind n w) ws)
+    (nodes_from script gives (next_source source w) (number_past n w) ws)
+    (all_counts script gives (next_source source w) (number_past n w) ws)
 
 -- ---- how many
 
@@ -157,9 +158,10 @@ few_nodes script gives source n [] = omega arith
 few_nodes script gives source n (None ∷ ws) =
     let others = few_nodes script gives source n ws in omega arith
 few_nodes script gives source n (Some it ∷ ws) =
-    let rest = nodes_from script gives (next_source source (Some it)) (behind n (Some it)) ws in
+    let rest =
+    nodes_from script gives (next_source source (Some it)) (number_past n (Some it)) ws in
     let others : length rest ≤ 5 * length ws =
-    few_nodes script gives (next_source source (Some it)) (behind n (Some it)) ws in
+    few_nodes script gives (next_source source (Some it)) (number_past n (Some it)) ws in
     let both = length-append (made_nodes script gives it.number source n it.made) rest in
     let own = block_length script gives it.number source n it.made in
     let few = few_before it.made in
@@ -168,7 +170,7 @@ few_nodes script gives source n (Some it ∷ ws) =
 -- the number behind all nodes
 abbrev pub end_of : ℕ → List (Option Built) → ℕ
 end_of n [] = n
-end_of n (w ∷ ws) = end_of (behind n w) ws
+end_of n (w ∷ ws) = end_of (number_past n w) ws
 
 end_up : (n : ℕ) (ws : List (Option Built)) → n ≤ end_of n ws
 end_up n [] = omega arith
@@ -188,7 +190,8 @@ nodes_end script gives source n (Some it ∷ ws) =
     let own = block_length script gives it.number source n it.made in
     omega arith
 
-last_before : (n : ℕ) (w : Option Built) (it : Built) → w ≡ Some it → last_node n w < behind n w
+last_before : (n : ℕ) (w : Option Built) (it : Built) → w ≡ Some it
+    → last_node n w < number_past n w
 last_before n None it h = cc
 last_before n (Some own) it h = omega arith
 
@@ -197,5 +200,5 @@ pub last_in : (n t : ℕ) (ws : List (Option Built)) (it : Built) → get_or ws 
     → get_or (giving_from n ws) t 0 < end_of n ws
 last_in n t [] it h = cc
 last_in n zero (w ∷ ws) it h =
-    let low = last_before n w it h in let up = end_up (behind n w) ws in omega arith
-last_in n (suc t) (w ∷ ws) it h = last_in (behind n w) t ws it h
+    let low = last_before n w it h in let up = end_up (number_past n w) ws in omega arith
+last_in n (suc t) (w ∷ ws) it h = last_in (number_past n w) t ws it h

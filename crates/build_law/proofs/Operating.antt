@@ -12,7 +12,7 @@ use Rattle.flume_collection.proofs.Together.{same_collection}
 use Rattle.flume_collection.specs.declared.trap.Trap.{Trap}
 use Rattle.exec_graph.specs.Objects as graph
 use Rattle.exec_graph.specs.World.{World}
-use Rattle.direct_meaning.specs.Calls.{called_by, calls_on}
+use Rattle.direct_meaning.specs.Calls.{called_by, answers_on}
 use Rattle.direct_meaning.specs.Objects as direct
 use Rattle.build_law.specs.Worlds.{or_silent}
 use Rattle.build_law.proofs.Settling.{set_twice}
@@ -21,13 +21,14 @@ use Rattle.build_law.proofs.Tables.{and_then_some, map_some}
 -- ---- calls
 
 calls_mapped : (answer : Value → Option Called) (xs : List Value) (calls : List Called)
-    → calls_on answer xs ≡ Some calls → map (λ x. or_silent (answer x)) xs ≡ calls
+    → answers_on answer xs ≡ Some calls → map (λ x. or_silent (answer x)) xs ≡ calls
 calls_mapped answer [] calls h = cc
 calls_mapped answer (x ∷ xs) calls h =
     let (one, first, rest) =
-    and_then_some (λ called. option_map (λ calls. called ∷ calls) (calls_on answer xs)) (answer x)
+    and_then_some (λ called. option_map (λ calls. called ∷ calls) (answers_on answer xs)) (answer x)
     calls h in
-    let (others, behind, same) = map_some (λ calls. one ∷ calls) (calls_on answer xs) calls rest in
+    let (others, behind, same) =
+    map_some (λ calls. one ∷ calls) (answers_on answer xs) calls rest in
     (λ i. or_silent (first i) ∷ calls_mapped answer xs others behind i) ∙ same
 
 flat_mapped : {A B C : Type 0} (g : B → List C) (f : A → B) (xs : List A)
@@ -37,7 +38,7 @@ flat_mapped g f (x ∷ xs) = ap (λ ys. g (f x) ++ ys) (flat_mapped g f xs)
 
 -- what the calls on all members give
 pub passed_is : (n output : ℕ) (answer : Value → Option Called) (c : Collection)
-    (calls : List Called) → calls_on answer c.bag ≡ Some calls
+    (calls : List Called) → answers_on answer c.bag ≡ Some calls
     → called_by n output c.traps calls ≡ passed n output (λ x. or_silent (answer x)) c
 passed_is n output answer c calls h =
     ap (called_by n output c.traps) (sym (calls_mapped answer c.bag calls h))
@@ -59,7 +60,7 @@ first_same : (o : Option Value) (rest : Option (List Value))
 first_same None rest = refl
 first_same (Some v) rest = refl
 
-values_same : (cs : List Collection) → direct.values_of cs ≡ graph.values_in cs
+values_same : (cs : List Collection) → direct.object_values cs ≡ graph.values_in cs
 values_same [] = refl
 values_same (c ∷ cs) =
     ap (λ rest. option_and_then (λ v. option_map (λ vs. v ∷ vs) rest) (direct.value_of c))
@@ -76,7 +77,7 @@ argument_same (v ∷ (u ∷ vs)) = refl
 -- ---- operate
 
 one_same : (n : ℕ) (x : Value) (o : Option Value)
-    → direct.object_as (direct.one_of n x o) ≡ graph.one_emitted n x o
+    → direct.object_as (direct.emission_on n x o) ≡ graph.one_emitted n x o
 one_same n x None = refl
 one_same n x (Some v) = refl
 
@@ -84,7 +85,7 @@ answer_same : (n : ℕ) (x : Value) (called : Called)
     → direct.object_as (direct.answered_once n x called) ≡ graph.one_answer n x called
 answer_same n x (Ok outputs) =
     let emitted : List Value = or_none (slice_get outputs 0) in
-    ap (λ o. direct.object_as (direct.one_of n x o)) (only_same emitted)
+    ap (λ o. direct.object_as (direct.emission_on n x o)) (only_same emitted)
     ∙ one_same n x (graph.only emitted)
 answer_same n x (Err trap) = refl
 
@@ -121,7 +122,7 @@ module _ (w : World) (n f : ℕ) (answer : Value → Option Called)
       (sym (ap trap_set (append-nil (trap_set ts)) ∙ set_twice ts))
   beside_on c object d (Some v) h =
       let (calls, is, same) =
-      map_some (called_by n 0 c.traps) (calls_on (direct.answer_beside answer v) c.bag) d h in
+      map_some (called_by n 0 c.traps) (answers_on (direct.answer_beside answer v) c.bag) d h in
       sym same ∙ passed_is n 0 (direct.answer_beside answer v) c calls is
       ∙ (λ i. passed n 0 (λ x. naming_same x (answer (value.Rec (x ∷ v ∷ []))) i) c)
       ∙ (λ i. passed n 0 (λ x. graph.naming x (sym world i (value.Rec (x ∷ v ∷ [])))) c)

@@ -9,7 +9,7 @@ use Rattle.flume_collection.specs.Calls.{passed}
 use Rattle.flume_collection.specs.Collection.{Collection}
 use Rattle.flume_collection.specs.Traps.{trap_set}
 use Rattle.flume_collection.proofs.Together.{same_collection}
-use Rattle.exec_graph.specs.Calls.{called, given}
+use Rattle.exec_graph.specs.Calls.{called, to_first}
 use Rattle.exec_graph.specs.Forests.{Label}
 use Rattle.exec_graph.specs.Meaning.{through}
 use Rattle.exec_graph.specs.World.{World}
@@ -42,7 +42,7 @@ each_one f (x ∷ xs) = ap (λ ys. f x ∷ ys) (each_one f xs)
 
 -- a step that gives one list of each element, and never traps
 pub through_given : (w : World) (origin : ℕ) (last : Bool) (does : Does) (f : Value → List Value)
-    → ((x : Value) → called w does x ≡ given (f x)) → (c : Collection)
+    → ((x : Value) → called w does x ≡ to_first (f x)) → (c : Collection)
     → through w (only_label origin last does) c
     ≡ record { bag = bag_of (flat_map f c.bag); traps = trap_set c.traps }
 through_given w origin last does f h c =

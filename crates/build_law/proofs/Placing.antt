@@ -4,7 +4,7 @@ use Rattle.exec_graph.specs.Meaning.{place}
 use Rattle.exec_graph.specs.declared.graph.Place.{Place}
 use Rattle.graph_build.specs.Built.{Built, built}
 use Rattle.graph_build.specs.Calls.{emitted_as, emitted_at, names_needed, needed_from, number_behind, other_names}
-use Rattle.graph_build.specs.Graphs.{giving, place_as, place_in, place_made, places, places_from}
+use Rattle.graph_build.specs.Graphs.{giving, place_as, place_at_number, place_made, places, places_from}
 use Rattle.graph_build.specs.Nodes.{before_last, first_of}
 use Rattle.graph_build.specs.Wanted.{wanted}
 use Rattle.std.specs.Prelude.{slice_get}
@@ -42,7 +42,7 @@ module _ (script : Script) where
       placed g ws (suc k) i ∙ ap (λ n. place_made script g n (get_or ws i None)) e
 
   abbrev pub gives : ℕ → Place
-  gives j = place_in (places script) j
+  gives j = place_at_number (places script) j
 
   place_is : (j : ℕ) (how : Made) → get_or (wanted script) j None ≡ Some how
       → gives j ≡ place_made script (giving script) j (Some how)

@@ -19,7 +19,7 @@ use Rattle.flume_collection.specs.Collection.{Collection, by_key, together, unle
 use Rattle.flume_collection.specs.Traps.{trap_le, trap_set}
 use Rattle.flume_collection.proofs.Members.{set_sum}
 use Rattle.flume_collection.proofs.Orders.{trap_order}
-use Rattle.direct_meaning.specs.Direct.{called_by, combined_by, counted_by, counts_behind, joined_by, rows_as, top_by}
+use Rattle.direct_meaning.specs.Direct.{called_by, combined_by, counted_by, counts_behind, joined_collections, rows_as, top_by}
 use Rattle.direct_meaning.specs.Objects.{combined_whole, object_as, whole_behind, whole_value}
 use Rattle.exec_graph.specs.Objects as graph
 use Rattle.exec_graph.specs.World.{World}
@@ -74,7 +74,7 @@ pub counted_settled : (origin : ℕ) (c : Collection) → IsSettled c
     → IsSettled (counted_by origin c)
 counted_settled origin c h = counts_settled origin c.traps c.bag h.set
 
-pub joined_settled : (a b : Collection) → IsSettled (joined_by a b)
+pub joined_settled : (a b : Collection) → IsSettled (joined_collections a b)
 joined_settled a b = record {
   bag = bag_unless (a.traps ++ b.traps) (joined a.bag b.bag)
       (bag_of-settled (joined a.bag b.bag) (joined-IsSorted a.bag b.bag));
@@ -141,5 +141,5 @@ passed_settled origin at f c =
 pub beside_settled : (w : World) (origin f : ℕ) (c object : Collection)
     → IsSettled (graph.side_input w origin f c object)
 beside_settled w origin f c object =
-    passed_settled origin 0 ((graph.beside (graph.value_in object) w).called f)
+    passed_settled origin 0 ((graph.world_beside (graph.value_in object) w).called f)
     (graph.called_beside (graph.value_in object) c object)

@@ -12,7 +12,7 @@ use Rattle.graph_build.specs.of_script_program.Script.{Script}
 use Rattle.direct_meaning.specs.of_script_laws.WellFormed.{IsWellFormed}
 use Rattle.direct_meaning.proofs.PlaceLemmas.{within}
 use Rattle.graph_build.specs.Built.{built, built_as as built_name}
-use Rattle.graph_build.specs.Calls.{call_built, emitted_as, emitted_at, first_emitted, kept_from, other_names}
+use Rattle.graph_build.specs.Calls.{call_built, emitted_as, emitted_at, first_emitted, numbers_kept_from, other_names}
 use Rattle.graph_build.specs.Wanted.{needed_at, wanted, wanted_at}
 use Rattle.graph_build.proofs.BuiltLemmas.{at_second}
 use Rattle.build_law.proofs.Calling.{IsBuiltAs, built_as, built_made, how_built, how_kept, if_some, needed_as, slice_seam}
@@ -23,7 +23,7 @@ use Rattle.build_law.proofs.Naming.{IsCall, IsNamed, name_at, name_emits, name_i
 module _ (script : Script) where
   -- where a kept name of a call is built, by the place of the name, and where the call is
   abbrev pub kept_slot : ℕ → ℕ → ℕ
-  kept_slot first place = first + length (kept_from script first place)
+  kept_slot first place = first + length (numbers_kept_from script first place)
 
   abbrev pub call_slot : ℕ → ℕ → ℕ
   call_slot first f = kept_slot first (suc (other_names script f))
@@ -39,7 +39,7 @@ module _ (script : Script) (well : IsWellFormed script) where
     firsts = first_emitted script first (suc (other_names script f))
 
     abbrev keeps : List ℕ
-    keeps = kept_from script first (suc (other_names script f))
+    keeps = numbers_kept_from script first (suc (other_names script f))
 
     slot_built : (k number : ℕ) (mk : Made) → k < many
         → slice_get (call_built script first f) k ≡ Some number
@@ -62,7 +62,7 @@ module _ (script : Script) (well : IsWellFormed script) where
     kept_built o is_object it below found =
         let seam = kept_seam script first many o below
         (how_kept script (first + o) is_object it found) in
-        let front : List ℕ = kept_from script first o in
+        let front : List ℕ = numbers_kept_from script first o in
         let few = few_kept script first o in
         slot_built (length front) (first + o) (made.Saved is_object it) (omega arith)
         (slice_seam (call_built script first f) front (seam.0 ++ firsts) (first + o)
@@ -77,7 +77,7 @@ module _ (script : Script) (well : IsWellFormed script) where
       pub place : ℕ
       pub below : place < suc (other_names script f)
       pub wanted_ : get_or (wanted script) (first + place) None ≡ Some (made.Do source f place)
-      pub low : length (kept_from script first (suc (other_names script f)))
+      pub low : length (numbers_kept_from script first (suc (other_names script f)))
           < suc (other_names script f)
       pub earlier : (i : ℕ) → i < place → emitted_at script (first + i) ≡ false
 
@@ -144,7 +144,7 @@ module _ (script : Script) (well : IsWellFormed script) where
   pub record IsCallNode (t number : ℕ) (mk : Made) : Type 0 where
     pub at : HasPlace number
     pub open at use *
-    pub low : length (kept_from script first (suc (other_names script f)))
+    pub low : length (numbers_kept_from script first (suc (other_names script f)))
         < suc (other_names script f)
     pub slot : call_slot script first f ≡ t
     pub made : mk ≡ made.Do source f place
@@ -198,13 +198,14 @@ module _ (script : Script) (well : IsWellFormed script) where
             made = some_same mk how (sym wanted_is ∙ c.is) ∙ ap (made.Saved c.is_object) name;
           }
 
-      at_call : (k : ℕ) → length (kept_from script n.first (suc (other_names script f))) + k ≡ o
+      at_call : (k : ℕ)
+          → length (numbers_kept_from script n.first (suc (other_names script f))) + k ≡ o
           → k ≡ 0 → (it : IsFirst script n.first (suc (other_names script f)) number)
           → get_or (wanted script) number None ≡ Some mk → IsCallNode t number mk
       at_call k size none it wanted_is =
           let place = n.place in
           let within_ = n.below in
-          let low : length (kept_from script n.first (suc (other_names script f)))
+          let low : length (numbers_kept_from script n.first (suc (other_names script f)))
           < suc (other_names script f) = omega arith in
           let slot : call_slot script n.first f ≡ t = omega arith in
           record {
@@ -219,9 +220,10 @@ module _ (script : Script) (well : IsWellFormed script) where
           }
 
       by_part : get_or (wanted script) number None ≡ Some mk
-          → (slice_get (kept_from script n.first (suc (other_names script f))) o ≡ Some number)
+          → (slice_get (numbers_kept_from script n.first (suc (other_names script f))) o ≡ Some
+          number)
           ⊎ ((k : ℕ)
-          × (length (kept_from script n.first (suc (other_names script f))) + k ≡ o)
+          × (length (numbers_kept_from script n.first (suc (other_names script f))) + k ≡ o)
           × (slice_get (first_emitted script n.first (suc (other_names script f))) k
           ≡ Some number))
           → IsSlot t number mk
@@ -241,7 +243,7 @@ module _ (script : Script) (well : IsWellFormed script) where
         let place = n.place in
         let first : t - e.output ≡ n.first = omega arith in
         by_part e.function e.output n it.wanted_
-        (in_either (kept_from script n.first (suc (other_names script e.function)))
+        (in_either (numbers_kept_from script n.first (suc (other_names script e.function)))
         (first_emitted script n.first (suc (other_names script e.function))) e.output number
         (ap (λ k. slice_get (call_built script k e.function) e.output) (sym first)
         ∙ ap (built_name script t) (sym emitted)
@@ -271,7 +273,7 @@ module _ (script : Script) (well : IsWellFormed script) where
     pub below : o < suc (other_names script f)
     pub is : first + o ≡ number
     pub from : number - o ≡ first
-    pub low : length (kept_from script first (suc (other_names script f)))
+    pub low : length (numbers_kept_from script first (suc (other_names script f)))
         < suc (other_names script f)
     pub slot : call_slot script first f ≡ t
     pub earlier : (i : ℕ) → i < o → emitted_at script (first + i) ≡ false
@@ -290,7 +292,7 @@ module _ (script : Script) (well : IsWellFormed script) where
     where
       told : (first source_ f_ place : ℕ) → IsCall script first source_ f_
           → place < suc (other_names script f_) → first + place ≡ number
-          → length (kept_from script first (suc (other_names script f_)))
+          → length (numbers_kept_from script first (suc (other_names script f_)))
           < suc (other_names script f_)
           → call_slot script first f_ ≡ t
           → ((i : ℕ) → i < place → emitted_at script (first + i) ≡ false)
@@ -307,7 +309,7 @@ module _ (script : Script) (well : IsWellFormed script) where
         from =
             let here : first + o ≡ number = subst (λ k. first + k ≡ number) (sym p) is in
             (let e : number - o ≡ first = omega (arith, here) in e);
-        low = subst (λ k. length (kept_from script first (suc (other_names script k)))
+        low = subst (λ k. length (numbers_kept_from script first (suc (other_names script k)))
             < suc (other_names script k)) (sym g) low;
         slot = ap (call_slot script first) g ∙ slot;
         earlier = λ i before. earlier i (subst (λ k. i < k) p before);

@@ -9,15 +9,15 @@ use Rattle.flume_collection.specs.Collection.{Collection}
 use Rattle.written_types.specs.Named.{Named}
 use Rattle.graph_build.specs.of_script_program.declared.made.Made.{Made}
 use Rattle.graph_build.specs.of_script_program.declared.made.Made.TheVariants as made
-use Rattle.graph_build.specs.of_script_program.Needed.{is_needed, needed_nodes, numbered}
+use Rattle.graph_build.specs.of_script_program.Needed.{is_needed, needed_nodes, collections_numbered}
 use Rattle.graph_build.specs.of_script_program.Script.{Node, Script}
-use Rattle.graph_build.specs.of_script_program.Sources.{in_order, in_turn, input_count, numbers_from, source_kind, source_kinds}
+use Rattle.graph_build.specs.of_script_program.Sources.{in_order, lists_in_turn, input_count, numbers_by_kind, source_kind, source_kinds}
 use Rattle.graph_build.proofs.of_script_program.SourceLemmas.{order-at}
 use Rattle.direct_meaning.specs.Direct.{collections, inputs_behind, made_as, meaning}
 use Rattle.direct_meaning.specs.Inputs.{AreInputs, AreLists, Sourced, sourced, sourced_by}
 use Rattle.direct_meaning.proofs.PlainLemmas.{flat-if, more_if}
 use Rattle.graph_build.specs.Nodes.{source_number}
-use Rattle.build_law.specs.Signatures.{input_by, kept_by, sources_of}
+use Rattle.build_law.specs.Signatures.{input_by, saved_by, sources_of}
 use Rattle.build_law.proofs.Tables.{and_then_some, one_longer}
 
 -- ---- parts of lists
@@ -38,7 +38,7 @@ both_sizes n xs =
     sym (length-append (take n xs) (drop n xs)) ∙ ap length (whole_again n xs)
 
 turn_size : {X : Type 0} (kinds : List Bool) (rows kept : List X)
-    → length (in_turn kinds rows kept) ≡ length rows + length kept
+    → length (lists_in_turn kinds rows kept) ≡ length rows + length kept
 turn_size [] rows kept = length-append rows kept
 turn_size (false ∷ kinds) [] kept = omega arith
 turn_size (false ∷ kinds) (list ∷ rows) kept =
@@ -80,7 +80,7 @@ pub data Sorts : List Bool → List Sourced → List Sourced → List Sourced �
 sorts_one : {kinds : List Bool} {all ins keeps : List Sourced} (how : Made) (type : Ty)
     → Sorts kinds all ins keeps
     → Sorts (source_kind how ++ kinds) (sourced_by how type ++ all) (input_by how type ++ ins)
-    (kept_by how type ++ keeps)
+    (saved_by how type ++ keeps)
 sorts_one (made.Input file columns) type rest =
     an_input (record { type = type; is_object = false }) rest
 sorts_one (made.Saved is_object call) type rest =
@@ -91,7 +91,7 @@ sorts_all : (nodes : List (ℕ × (List ℕ × Node)))
     → Sorts (flat_map (λ it. source_kind it.1.1.made) nodes)
     (flat_map (λ it. sourced_by it.1.1.made it.1.1.type) nodes)
     (flat_map (λ it. input_by it.1.1.made it.1.1.type) nodes)
-    (flat_map (λ it. kept_by it.1.1.made it.1.1.type) nodes)
+    (flat_map (λ it. saved_by it.1.1.made it.1.1.type) nodes)
 sorts_all [] = none
 sorts_all (it ∷ nodes) = sorts_one it.1.1.made it.1.1.type (sorts_all nodes)
 
@@ -124,7 +124,7 @@ stands_by : {kinds : List Bool} {all ins keeps : List Sourced} → Sorts kinds a
     → ((m : ℕ) (x : Sourced) → slice_get ins m ≡ Some x → slice_get whole (i + m) ≡ Some x)
     → ((m : ℕ) (x : Sourced) → slice_get keeps m ≡ Some x → slice_get whole (k + m) ≡ Some x)
     → (t : ℕ) (x : Sourced) → slice_get all t ≡ Some x
-    → slice_get whole (get_or (numbers_from i k kinds) t 0) ≡ Some x
+    → slice_get whole (get_or (numbers_by_kind i k kinds) t 0) ≡ Some x
 stands_by none whole i k ins keeps t x h = cc
 stands_by (an_input s rest) whole i k ins keeps zero x h =
     subst (λ n. slice_get whole n ≡ Some x) (add-zero i) (ins 0 x h)
@@ -144,7 +144,7 @@ stands_by (a_kept s rest) whole i k ins keeps (suc t) x h =
 -- lists of them all, in order, are lists of the inputs and of the kept ones
 lists_by : {kinds : List Bool} {all ins keeps : List Sourced} → Sorts kinds all ins keeps
     → (rows kept : List (List Value)) → length rows ≡ length ins → length kept ≡ length keeps
-    → AreLists all (in_turn kinds rows kept) → AreLists ins rows × AreLists keeps kept
+    → AreLists all (lists_in_turn kinds rows kept) → AreLists ins rows × AreLists keeps kept
 lists_by none [] [] a b h = (tt, tt)
 lists_by none (list ∷ rows) kept a b h = absurd (omega (arith, a))
 lists_by none [] (list ∷ kept) a b h = absurd (omega (arith, b))
@@ -175,7 +175,7 @@ module _ (script : Script) where
   ins = flat_map (λ it. input_by it.1.1.made it.1.1.type) (needed_nodes script)
 
   abbrev keeps : List Sourced
-  keeps = flat_map (λ it. kept_by it.1.1.made it.1.1.type) (needed_nodes script)
+  keeps = flat_map (λ it. saved_by it.1.1.made it.1.1.type) (needed_nodes script)
 
   sorts : Sorts (source_kinds script) (sourced script) ins keeps
   sorts = sorts_all (needed_nodes script)
@@ -225,7 +225,7 @@ module _ (script : Script) where
   abbrev kinds_of : ℕ → Named Node → List Bool
   kinds_of n nodes =
       flat_map (λ it. source_kind it.1.1.made)
-      (filter (λ it. is_needed script it.0) (numbered n nodes))
+      (filter (λ it. is_needed script it.0) (collections_numbered n nodes))
 
   taken : (n : ℕ) (how : Made) (rem : List (List Value)) (table : List (Option Collection))
       (c : Collection) → made_as script n how rem table ≡ Some c
@@ -273,7 +273,7 @@ module _ (script : Script) where
       ∙ ap length
       (sym (flat-if (λ (it : ℕ × (List ℕ × Node)). source_kind it.1.1.made)
       (is_needed script (length table)) (length table, entry)
-      (filter (λ it. is_needed script it.0) (numbered (suc (length table)) nodes))))
+      (filter (λ it. is_needed script it.0) (collections_numbered (suc (length table)) nodes))))
 
   lists_counted : (lists : List (List Value)) (all : List (Option Collection))
       → meaning script lists ≡ Some all → length lists ≡ length (source_kinds script)

@@ -4,7 +4,7 @@ use Rattle.std.specs.Prelude.{if◌then◌else◌, slice_get}
 use Rattle.std.specs.List.{filter, flat_map}
 use Rattle.flume_types.specs.declared.types.Ty.{Ty}
 use Rattle.written_types.specs.Named.{Named}
-use Rattle.graph_build.specs.of_script_program.Needed.{is_needed, numbered}
+use Rattle.graph_build.specs.of_script_program.Needed.{is_needed, collections_numbered}
 use Rattle.graph_build.specs.of_script_program.declared.made.Made.{Made}
 use Rattle.graph_build.specs.of_script_program.declared.made.Made.TheVariants as made
 use Rattle.graph_build.specs.of_script_program.Script.{Node, Script}
@@ -32,7 +32,7 @@ module _ (script : Script) where
   abbrev sources_from : ℕ → Named Node → List Sourced
   sources_from origin nodes =
       flat_map (λ it. sourced_by it.1.1.made it.1.1.type)
-      (filter (λ it. is_needed script it.0) (numbered origin nodes))
+      (filter (λ it. is_needed script it.0) (collections_numbered origin nodes))
 
   abbrev sources_if : Bool → Made → Ty → List Sourced
   sources_if true how t = sourced_by how t
@@ -64,7 +64,7 @@ module _ (script : Script) where
   source_here whole pre (entry ∷ nodes) origin k zero how u x is size found has one =
       let own = if_some (is_needed script origin) entry.1.made how found in
       let same : entry.1.type ≡ u = cc in
-      let others = filter (λ it. is_needed script it.0) (numbered (suc origin) nodes) in
+      let others = filter (λ it. is_needed script it.0) (collections_numbered (suc origin) nodes) in
       let rest : List Sourced = flat_map (λ it. sourced_by it.1.1.made it.1.1.type) others in
       slice_seam whole pre rest x k
       (is ∙ ap (λ ws. pre ++ ws)
@@ -74,7 +74,7 @@ module _ (script : Script) where
       size
   source_here whole pre (entry ∷ nodes) origin k (suc t) how u x is size found has one =
       let b = is_needed script origin in
-      let others = filter (λ it. is_needed script it.0) (numbered (suc origin) nodes) in
+      let others = filter (λ it. is_needed script it.0) (collections_numbered (suc origin) nodes) in
       source_here whole (pre ++ sources_if b entry.1.made entry.1.type) nodes (suc origin)
       (next_wanted k (if b then Some entry.1.made else None)) t how u x
       (regrouped whole pre (sources_if b entry.1.made entry.1.type)

@@ -11,7 +11,7 @@ use Rattle.graph_build.specs.of_script_program.Script.{Script}
 use Rattle.direct_meaning.specs.of_script_laws.WellFormed.{IsWellFormed}
 use Rattle.direct_meaning.proofs.PlaceLemmas.{within}
 use Rattle.graph_build.specs.Built.{Built, built}
-use Rattle.graph_build.specs.Calls.{emitted_as, is_kept, kept_at, kept_from, other_names}
+use Rattle.graph_build.specs.Calls.{emitted_as, is_saved_made, is_kept_at, numbers_kept_from, other_names}
 use Rattle.graph_build.specs.Graphs.{next_source}
 use Rattle.graph_build.specs.Nodes.{sources_made}
 use Rattle.graph_build.specs.Wanted.{wanted}
@@ -58,7 +58,7 @@ built_next source (w ∷ ws) (suc t) = built_next (next_source source w) ws t
 
 -- an output of a call is a source where it is kept
 counted_as : (how : Made) (it : Emitted) (s name : ℕ) → emitted_as how ≡ Some it
-    → next_wanted s (Some how) ≡ s + length (if is_kept (Some how) then name ∷ [] else [])
+    → next_wanted s (Some how) ≡ s + length (if is_saved_made (Some how) then name ∷ [] else [])
 counted_as (made.Input file columns) it s name h = cc
 counted_as _ it s name h = refl
 
@@ -77,11 +77,11 @@ module _ (script : Script) (well : IsWellFormed script) where
     many = suc (other_names script f)
 
     abbrev keeps : List ℕ
-    keeps = kept_from script first (suc (other_names script f))
+    keeps = numbers_kept_from script first (suc (other_names script f))
 
     name_by : (k s name : ℕ) → k < many → (o : Option Made)
         → get_or (wanted script) (first + k) None ≡ o
-        → next_wanted s o ≡ s + length (if is_kept o then name ∷ [] else [])
+        → next_wanted s o ≡ s + length (if is_saved_made o then name ∷ [] else [])
     name_by k s name below None is = sym (add-zero s)
     name_by k s name below (Some how) is =
         counted_as how (emission f k) s name
@@ -90,40 +90,40 @@ module _ (script : Script) (well : IsWellFormed script) where
 
     one_name : (k s : ℕ) → k < many
         → next_wanted s (get_or (wanted script) (first + k) None)
-        ≡ s + length (if kept_at script (first + k) then (first + k) ∷ [] else [])
+        ≡ s + length (if is_kept_at script (first + k) then (first + k) ∷ [] else [])
     one_name k s below =
         name_by k s (first + k) below (get_or (wanted script) (first + k) None) refl
 
     -- of those from one name on
     names_from : (k more : ℕ) → k + more ≤ many
         → before_wanted ((first + k) + more)
-        ≡ before_wanted (first + k) + length (kept_from script (first + k) more)
+        ≡ before_wanted (first + k) + length (numbers_kept_from script (first + k) more)
     names_from k zero low =
         ap before_wanted (add-zero (first + k)) ∙ sym (add-zero (before_wanted (first + k)))
     names_from k (suc more) low =
         let x : ℕ = first + k in
-        let own : List ℕ = if kept_at script (first + k) then (first + k) ∷ [] else [] in
+        let own : List ℕ = if is_kept_at script (first + k) then (first + k) ∷ [] else [] in
         let e : (first + k) + suc more ≡ (first + suc k) + more = omega arith in
         let next : suc (first + k) ≡ first + suc k = omega arith in
-        let rest : List ℕ = kept_from script (suc (first + k)) more in
+        let rest : List ℕ = numbers_kept_from script (suc (first + k)) more in
         let step : before_wanted (suc (first + k)) ≡ before_wanted (first + k) + length own =
         wanted_next 0 (wanted script) (first + k)
         ∙ one_name k (before_wanted (first + k)) (omega arith) in
         let others : before_wanted ((first + suc k) + more)
         ≡ before_wanted (suc (first + k)) + length rest =
         names_from (suc k) more (omega arith)
-        ∙ ap (λ n. before_wanted n + length (kept_from script n more)) (sym next) in
+        ∙ ap (λ n. before_wanted n + length (numbers_kept_from script n more)) (sym next) in
         let both = length-append own rest in
         ap before_wanted e ∙ others ∙ omega (arith, step, both)
 
     names_wanted : (k : ℕ) → k ≤ many
         → before_wanted (first + k)
-        ≡ before_wanted first + length (kept_from script first k)
+        ≡ before_wanted first + length (numbers_kept_from script first k)
     names_wanted k low =
         let e : first + 0 ≡ first = add-zero first in
         ap (λ n. before_wanted (n + k)) (sym e)
         ∙ names_from 0 k (omega arith)
-        ∙ ap (λ n. before_wanted n + length (kept_from script n k)) e
+        ∙ ap (λ n. before_wanted n + length (numbers_kept_from script n k)) e
 
     -- the kept ones are built first
     keep_at : (k : ℕ) → k < length keeps
@@ -161,17 +161,19 @@ module _ (script : Script) (well : IsWellFormed script) where
             let few = few_kept script a.first a.place in
             let low = a.below in
             let same = same_place script well a.first first a.source source a.f f
-            (length (kept_from script a.first a.place)) k a.call call (omega arith) below a.slot in
+            (length (numbers_kept_from script a.first a.place)) k a.call call (omega arith) below
+            a.slot in
             let slot = a.slot in
             let here = same.1 in
             let start : a.first ≡ first = omega arith in
             let more = kept_before script a.first (suc (other_names script a.f)) a.place a.below
-            (ap (kept_at script) a.is
-            ∙ ap is_kept
+            (ap (is_kept_at script) a.is
+            ∙ ap is_saved_made
             (built_wanted script (first + k) it.number it.made is ∙ ap Some a.made)) in
-            let all : length (kept_from script a.first (suc (other_names script a.f)))
+            let all : length (numbers_kept_from script a.first (suc (other_names script a.f)))
             ≡ length keeps =
-            (λ i. length (kept_from script (start i) (suc (other_names script (same.0 i))))) in
+            (λ i. length (numbers_kept_from script (start i) (suc (other_names script (same.0 i)))))
+            in
             omega arith
 
         by : IsSlot script well (first + k) it.number it.made → next_source s (Some it) ≡ s
@@ -259,11 +261,12 @@ module _ (script : Script) (well : IsWellFormed script) where
   no_built x how is none needless it at (inr (inl a)) =
       let few = few_kept script a.first a.place in
       let low = a.below in
-      not_named script well a.first a.source a.f (length (kept_from script a.first a.place)) a.call
+      not_named script well a.first a.source a.f (length (numbers_kept_from script a.first a.place))
+      a.call
       (omega arith) how (ap (slice_get (made_of script)) a.slot ∙ is) none
   no_built x how is none needless it at (inr (inr a)) =
       not_named script well a.first a.source a.f
-      (length (kept_from script a.first (suc (other_names script a.f)))) a.call a.low how
+      (length (numbers_kept_from script a.first (suc (other_names script a.f)))) a.call a.low how
       (ap (slice_get (made_of script)) a.slot ∙ is) none
 
   stays : (x : ℕ) (how : Made) → slice_get (made_of script) x ≡ Some how
@@ -357,10 +360,10 @@ module _ (script : Script) (well : IsWellFormed script) where
       → get_or (built script) t None ≡ Some (built_of number mk)
       → IsKeptName script well t number mk → before_built t ≡ before_wanted number
   at_kept t number mk found a =
-      let front : List ℕ = kept_from script a.first a.place in
+      let front : List ℕ = numbers_kept_from script a.first a.place in
       let few = kept_before script a.first (suc (other_names script a.f)) a.place a.below
-      (ap (kept_at script) a.is
-      ∙ ap is_kept (built_wanted script t number mk found ∙ ap Some a.made)) in
+      (ap (is_kept_at script) a.is
+      ∙ ap is_saved_made (built_wanted script t number mk found ∙ ap Some a.made)) in
       let low = a.below in
       ap before_built (sym a.slot)
       ∙ keeps_built a.first a.source a.f a.call (length front) (omega arith)

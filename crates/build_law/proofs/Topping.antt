@@ -5,7 +5,7 @@ use Rattle.std.specs.Option.{option_to_list}
 use Rattle.bag_groups.specs.Combining.{combined_each, group_of, traps_of_each}
 use Rattle.bag_groups.specs.Groups.{grouped}
 use Rattle.bag_groups.proofs.Grouping.{grouped-bag_of}
-use Rattle.bag_step_laws.specs.Derived.{listed, pair_under_zero as zero_under}
+use Rattle.bag_step_laws.specs.Derived.{listed_values, pair_under_zero as zero_under}
 use Rattle.bag_step_laws.proofs.Tops.{listed-top, top-traps}
 use Rattle.bag_steps.proofs.RowOrder.{greatest-IsSorted}
 use Rattle.flume_value.proofs.BagLemmas.{bag_of-settled}
@@ -31,7 +31,7 @@ members_listed : (o : Option (Value × List Value))
 members_listed None = refl
 members_listed (Some group) = sym (append-nil group.1)
 
-spread_listed : spread ≡ listed
+spread_listed : spread ≡ listed_values
 spread_listed = λ i x. members_listed (group_of x) i
 
 pub zeros_grouped : (bag : List Value)

@@ -18,15 +18,15 @@ abbrev pub input_by : Made → Ty → List Sourced
 input_by (made.Input file columns) type = record { type = type; is_object = false } ∷ []
 input_by _ type = []
 
-abbrev pub kept_by : Made → Ty → List Sourced
-kept_by (made.Saved is_object call) type = record { type = type; is_object = is_object } ∷ []
-kept_by _ type = []
+abbrev pub saved_by : Made → Ty → List Sourced
+saved_by (made.Saved is_object call) type = record { type = type; is_object = is_object } ∷ []
+saved_by _ type = []
 
 -- the needed inputs, and behind them the needed kept collections, both in order of the script
 abbrev pub sources_of : Script → List Sourced
 sources_of script =
     flat_map (λ it. input_by it.1.1.made it.1.1.type) (needed_nodes script)
-    ++ flat_map (λ it. kept_by it.1.1.made it.1.1.type) (needed_nodes script)
+    ++ flat_map (λ it. saved_by it.1.1.made it.1.1.type) (needed_nodes script)
 
 -- what is not there has the type int, is no object, and gives nothing
 abbrev pub source_type : Option Sourced → Ty

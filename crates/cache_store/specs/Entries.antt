@@ -15,15 +15,15 @@ found_in (entry ∷ entries) key =
 
 -- the entries with one of this key and this value, in place of the one of that key or behind the
 -- others
-abbrev pub with_entry : List CacheEntry → List ℕ → List ℕ → List CacheEntry
-with_entry [] key value = record { key = key; value = value } ∷ []
-with_entry (entry ∷ entries) key value =
+abbrev pub with_cache_entry : List CacheEntry → List ℕ → List ℕ → List CacheEntry
+with_cache_entry [] key value = record { key = key; value = value } ∷ []
+with_cache_entry (entry ∷ entries) key value =
     if bytes_eq entry.key key then record { key = key; value = value } ∷ entries
-    else entry ∷ with_entry entries key value
+    else entry ∷ with_cache_entry entries key value
 
 -- the entries with these, one after the other: each in place of the one of its key or behind the
 -- others
 abbrev pub with_entries : List CacheEntry → List CacheEntry → List CacheEntry
 with_entries entries [] = entries
 with_entries entries (entry ∷ others) =
-    with_entries (with_entry entries entry.key entry.value) others
+    with_entries (with_cache_entry entries entry.key entry.value) others

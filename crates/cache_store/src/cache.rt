@@ -3,7 +3,7 @@ ghost use Rattle.std.specs.Prelude.{◌≡◌, ◌≤◌, is_ok, if◌then◌els
 ghost use Rattle.std.specs.Option.{option_map};
 ghost use Rattle.outside.specs.Cause.{HasCause};
 ghost use Rattle.cache_store.specs.Cause.{HasFindCause};
-ghost use Rattle.cache_store.specs.Entries.{found_in, with_entry};
+ghost use Rattle.cache_store.specs.Entries.{found_in, with_cache_entry};
 ghost use Rattle.cache_store.specs.Seen.{SeenCache};
 
 use outside::Failed;
@@ -51,7 +51,7 @@ pub trait Cache {
     /// Failed comes only where the count rose; no entry is changed then.
     fn keep(&mut self, key: &[u8], value: &[u8]) -> Result<(), Failed>
         ensures entries { (seen self.new).entries ≡ (if is_ok result then option_map
-            (λ entries. with_entry entries key.now value.now) (seen self.old).entries else
+            (λ entries. with_cache_entry entries key.now value.now) (seen self.old).entries else
             (seen self.old).entries) }
         ensures cause { HasCause (seen self.old).faults (seen self.new).faults result };
 }

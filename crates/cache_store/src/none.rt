@@ -3,7 +3,7 @@ ghost use Rattle.std.specs.Prelude.{◌≡◌, [], None, Some, Ok, Err, IsOk, Is
 ghost use Rattle.std.specs.Option.{option_map};
 ghost use Rattle.outside.specs.Cause.{HasCause, raised};
 ghost use Rattle.cache_store.specs.Cause.{HasFindCause};
-ghost use Rattle.cache_store.specs.Entries.{found_in, with_entry};
+ghost use Rattle.cache_store.specs.Entries.{found_in, with_cache_entry};
 
 use crate::cache::{Cache, FindFault};
 use outside::Failed;

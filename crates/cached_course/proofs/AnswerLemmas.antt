@@ -15,7 +15,7 @@ use Rattle.outside.specs.declared.file.File.{File as NamedBytes}
 use Rattle.run_course.specs.Answers.{IsRefused}
 use Rattle.run_course.specs.Asks.{AsksAll, AsksFor}
 use Rattle.run_course.specs.Hosts.{MayHaveRun}
-use Rattle.run_course.specs.World.{World}
+use Rattle.run_course.specs.Outside.{Outside}
 use Rattle.run_course.specs.declared.stop.Stop.{Stop}
 use Rattle.run_course.specs.declared.stop.Stop.TheVariants.{Refused, Trapped}
 use Rattle.run_course.specs.declared.stop.Trapped.{Trapped as NamedTrap}
@@ -177,7 +177,7 @@ module _ (cache middle later : SeenCache) (same : middle.entries ≡ cache.entri
 
   -- ---- what was written
 
-  module _ (words : List (List ℕ)) (before after : World) (files : List NamedBytes)
+  module _ (words : List (List ℕ)) (before after : Outside) (files : List NamedBytes)
       (text : List ℕ) (kept : List CacheEntry)
       (it : IsPrepared words before.source.files before.hosts after.hosts cache middle files text
       kept) where
@@ -239,7 +239,7 @@ module _ (cache middle later : SeenCache) (same : middle.entries ≡ cache.entri
 
 -- ---- what writes nothing
 
-module _ (words : List (List ℕ)) (before after : World) (cache later : SeenCache)
+module _ (words : List (List ℕ)) (before after : Outside) (cache later : SeenCache)
     (same : later.entries ≡ cache.entries) where
   refusal : (status : Status)
       → IsStop words before.source after.source before.hosts after.hosts cache later

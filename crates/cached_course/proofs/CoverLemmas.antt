@@ -12,7 +12,7 @@ use Rattle.kept_results.specs.of_script_laws.WellFormed.{IsWellFormed}
 use Rattle.key_meaning.proofs.Sources.{alone, alone_well}
 use Rattle.script_program.specs.declared.made.Made.{Made}
 use Rattle.script_program.specs.declared.made.Output.{Output}
-use Rattle.script_program.specs.Needed.{IsNeeded, LeadsToOutput, Reads, has, is_needed, made_of, operands, outputs_read}
+use Rattle.script_program.specs.Needed.{IsNeeded, LeadsToOutput, Reads, holds_number, is_needed, made_of, operands, outputs_read}
 use Rattle.script_program.specs.Rested.{rests}
 use Rattle.script_program.specs.Saved.{with_saved}
 use Rattle.script_program.specs.Script.{Script}
@@ -89,25 +89,27 @@ module _ (script : Script) (well : IsWellFormed script) (found : List ℕ)
   -- it is needed there, or one that is kept rests on it
   abbrev pub IsCovered : ℕ → Type 0
   IsCovered n =
-      (is_needed later n ≡ true) ⊎ ((m : ℕ) × (has found m ≡ true) × (rests script m n ≡ true))
+      (is_needed later n ≡ true)
+      ⊎ ((m : ℕ) × (holds_number found m ≡ true) × (rests script m n ≡ true))
 
-  reader_of : (m : ℕ) → has found m ≡ true → IsReadBy script.outputs m
+  reader_of : (m : ℕ) → holds_number found m ≡ true → IsReadBy script.outputs m
   reader_of m is =
       read_by script.outputs m (holds-at (IsRead script.outputs) found read m is)
 
-  self_rests : (m : ℕ) → has found m ≡ true → rests script m m ≡ true
+  self_rests : (m : ℕ) → holds_number found m ≡ true → rests script m m ≡ true
   self_rests m is =
       let by = reader_of m is in
       subst (λ k. rests script k k ≡ true) by.reads (rests_self script well by.output by.among)
 
-  more_rests : (m reader n : ℕ) → has found m ≡ true → rests script m reader ≡ true
+  more_rests : (m reader n : ℕ) → holds_number found m ≡ true → rests script m reader ≡ true
       → Reads script reader n → rests script m n ≡ true
   more_rests m reader n is own reads =
       let by = reader_of m is in
       subst (λ k. rests script k reader ≡ true → rests script k n ≡ true) by.reads
       (λ rest. rests_more script well by.output by.among reader n rest reads) own
 
-  operand_needed : (reader n : ℕ) → has found reader ≡ false → is_needed later reader ≡ true
+  operand_needed : (reader n : ℕ) → holds_number found reader ≡ false
+      → is_needed later reader ≡ true
       → (o : Option Made) → slice_get (made_of script) reader ≡ o
       → IsSomeAnd o (λ how. Contains (operands how) n) → is_needed later n ≡ true
   operand_needed reader n other needed None is reads = absurd reads
@@ -115,7 +117,7 @@ module _ (script : Script) (well : IsWellFormed script) (found : List ℕ)
       reads-needed script well found reader how is other needed n reads
 
   next_covered : (reader n : ℕ) → Reads script reader n → IsCovered reader → (b : Bool)
-      → has found reader ≡ b → IsCovered n
+      → holds_number found reader ≡ b → IsCovered n
   next_covered reader n reads (inr by) b is =
       inr (by.0, by.1, more_rests by.0 reader n by.1 by.2 reads)
   next_covered reader n reads (inl needed) true is =
@@ -128,7 +130,8 @@ module _ (script : Script) (well : IsWellFormed script) (found : List ℕ)
   path_covered [] n leads =
       inl ((needed_law later (saved-well script well found) n).1 ([], leads))
   path_covered (reader ∷ path) n leads =
-      next_covered reader n leads.0 (path_covered path reader leads.1) (has found reader) refl
+      next_covered reader n leads.0 (path_covered path reader leads.1) (holds_number found reader)
+      refl
 
   pub covered : (n : ℕ) → is_needed script n ≡ true → IsCovered n
   covered n needed =

@@ -4,7 +4,7 @@ use Rattle.std.specs.Prelude.{IfSome, IsSomeAnd}
 use Rattle.std.specs.List.{AllByRecursion as Each}
 use Rattle.std.specs.Str.{bytes_eq}
 use Rattle.std.proofs.lemmas.Slice.Eq.{bytes_eq-Decides}
-use Rattle.cache_store.specs.Entries.{found_in, with_entry}
+use Rattle.cache_store.specs.Entries.{found_in, with_cache_entry}
 use Rattle.cache_store.specs.declared.entry.CacheEntry.{CacheEntry}
 use Rattle.kept_results.specs.Keeping.{KeptUnlessFailed, WereKept}
 use Rattle.kept_results.proofs.FoundLemmas.{firsts}
@@ -21,8 +21,8 @@ IsSoundEntry entry = (it : Keyed) → key it ≡ entry.key → IsValueOf it entr
 -- what is found under a key behind an entry more: that, or what was found before
 abbrev FindsBehind : List CacheEntry → List ℕ → List ℕ → List ℕ → Type 0
 FindsBehind entries own value name =
-    ((found_in (with_entry entries own value) name ≡ Some value) × (name ≡ own))
-    ⊎ (found_in (with_entry entries own value) name ≡ found_in entries name)
+    ((found_in (with_cache_entry entries own value) name ≡ Some value) × (name ≡ own))
+    ⊎ (found_in (with_cache_entry entries own value) name ≡ found_in entries name)
 
 module _ (own value name : List ℕ) where
   last_found : (b : Bool) → bytes_eq own name ≡ b
@@ -46,9 +46,9 @@ module _ (own value name : List ℕ) where
   -- behind an entry of another
   behind_found : (entry : CacheEntry) (entries : List CacheEntry)
       → FindsBehind entries own value name → (b : Bool)
-      → (((if b then Some entry.value else found_in (with_entry entries own value) name)
+      → (((if b then Some entry.value else found_in (with_cache_entry entries own value) name)
       ≡ Some value) × (name ≡ own))
-      ⊎ ((if b then Some entry.value else found_in (with_entry entries own value) name)
+      ⊎ ((if b then Some entry.value else found_in (with_cache_entry entries own value) name)
       ≡ (if b then Some entry.value else found_in entries name))
   behind_found entry entries rest true = inr refl
   behind_found entry entries rest false = rest
@@ -57,10 +57,10 @@ module _ (own value name : List ℕ) where
       → FindsBehind entries own value name → (b : Bool) → bytes_eq entry.key own ≡ b
       → ((found_in
       (if b then record { key = own; value = value } ∷ entries
-      else entry ∷ with_entry entries own value) name ≡ Some value) × (name ≡ own))
+      else entry ∷ with_cache_entry entries own value) name ≡ Some value) × (name ≡ own))
       ⊎ (found_in
       (if b then record { key = own; value = value } ∷ entries
-      else entry ∷ with_entry entries own value) name ≡ found_in (entry ∷ entries) name)
+      else entry ∷ with_cache_entry entries own value) name ≡ found_in (entry ∷ entries) name)
   either_found entry entries rest true is =
       placed_found entry entries ((bytes_eq-Decides entry.key own).0 is) (bytes_eq own name) refl
   either_found entry entries rest false is =
@@ -73,14 +73,14 @@ module _ (own value name : List ℕ) where
 
 value_with : (entries : List CacheEntry) (entry : CacheEntry) → AreSound entries
     → IsSoundEntry entry → (it : Keyed) → FindsBehind entries entry.key entry.value (key it)
-    → IfSome (found_in (with_entry entries entry.key entry.value) (key it)) (IsValueOf it)
+    → IfSome (found_in (with_cache_entry entries entry.key entry.value) (key it)) (IsValueOf it)
 value_with entries entry sound own it (inl here) =
     subst (λ (o : Option (List ℕ)). IfSome o (IsValueOf it)) (sym here.0) (own it here.1)
 value_with entries entry sound own it (inr before) =
     subst (λ (o : Option (List ℕ)). IfSome o (IsValueOf it)) (sym before) (sound it)
 
 with_sound : (entries : List CacheEntry) (entry : CacheEntry) → AreSound entries
-    → IsSoundEntry entry → AreSound (with_entry entries entry.key entry.value)
+    → IsSoundEntry entry → AreSound (with_cache_entry entries entry.key entry.value)
 with_sound entries entry sound own = λ it.
     value_with entries entry sound own it (found_behind entry.key entry.value (key it) entries)
 
@@ -88,7 +88,7 @@ kept_sound : (lost : ℕ) (entries kept after : List CacheEntry) → AreSound en
     → Each IsSoundEntry kept → WereKept lost entries kept after → AreSound after
 kept_sound lost entries [] after sound own are = subst AreSound (sym are) sound
 kept_sound lost entries (entry ∷ kept) after sound own (inl are) =
-    kept_sound lost (with_entry entries entry.key entry.value) kept after
+    kept_sound lost (with_cache_entry entries entry.key entry.value) kept after
     (with_sound entries entry sound own.0) own.1 are
 kept_sound lost entries (entry ∷ kept) after sound own (inr are) =
     kept_sound are.0 entries kept after sound own.1 are.2

@@ -3,7 +3,7 @@ use Rattle.std.proofs.Common.{◌≡◌, ◌∙◌, ℕ, ◌+◌, ◌<◌, ◌�
 use Rattle.std.proofs.lemmas.List.{drop_all, drop_more, map-append}
 use Rattle.std.proofs.lemmas.List.Concat.{flat_map-append}
 use Rattle.kept_results.specs.Lists.{found_of}
-use Rattle.kept_results.specs.Sizes.{beside, rested_nodes, sizes_kept}
+use Rattle.kept_results.specs.Sizes.{size_pairs, rested_nodes, sizes_kept}
 use Rattle.saved_results.specs.declared.saved.Saved.{Saved}
 use Rattle.saved_results.specs.declared.saved.Size.{Size}
 use Rattle.script_program.specs.Script.{Script}
@@ -13,7 +13,7 @@ use Rattle.cached_course.specs.inner.Found.{IsApart, next_of}
 -- what was kept with one of sizes
 abbrev pub own_sizes : Script → ℕ × Saved → List (ℕ × ℕ)
 own_sizes script it =
-    beside (rested_nodes script it.0) (map (λ (size : Size). size.members) it.1.sizes)
+    size_pairs (rested_nodes script it.0) (map (λ (size : Size). size.members) it.1.sizes)
 
 -- one more
 pub apart_next : (script : Script) (so_far : List (ℕ × Saved)) (old new : Found) (number : ℕ)

@@ -7,7 +7,7 @@ use Rattle.flume_value.proofs.EachLemmas.{Each-append}
 use Rattle.flume_value.specs.declared.value.Value.{Value}
 use Rattle.kept_results.specs.Asked.{asked_nodes}
 use Rattle.kept_results.specs.Keyed.{keyed_nodes}
-use Rattle.kept_results.specs.Lists.{found_of, given_lists, given_to, input_numbers, later_of, number_of_input}
+use Rattle.kept_results.specs.Lists.{found_of, rows_given, rows_for_script, input_numbers, later_of, number_of_input}
 use Rattle.kept_results.specs.Sizes.{nodes_needed}
 use Rattle.kept_results.specs.of_direct_meaning.Inputs.{AreInputs}
 use Rattle.kept_results.proofs.FoundLemmas.{firsts}
@@ -87,15 +87,15 @@ module _ (script : Script) (asked : List (ℕ × List ℕ)) (looked : List (Opti
     (found : IsApart script (found_of asked looked) apart)
     (program : later ≡ with_saved apart.numbers.items script)
     (are : numbers ≡ input_numbers script)
-    (given : lists ≡ given_lists later numbers rows apart.members.items) where
+    (given : lists ≡ rows_given later numbers rows apart.members.items) where
   script_given : later ≡ later_of script (found_of asked looked)
   script_given = program ∙ ap (λ l. with_saved l script) found.numbers
 
-  lists_given : lists ≡ given_to script (found_of asked looked) rows
-  lists_given = given ∙ (λ i. given_lists (script_given i) (are i) rows (found.members i))
+  lists_given : lists ≡ rows_for_script script (found_of asked looked) rows
+  lists_given = given ∙ (λ i. rows_given (script_given i) (are i) rows (found.members i))
 
   pub inputs_given : AreInputs (later_of script (found_of asked looked))
-      (given_to script (found_of asked looked) rows)
+      (rows_for_script script (found_of asked looked) rows)
       → AreInputs later lists
   inputs_given have =
       subst (λ (s : Script). AreInputs s lists) (sym script_given)
@@ -110,7 +110,7 @@ pub was_given : (script : Script) (asked keyed : List (ℕ × List ℕ))
     → AreMissing script (not_found asked looked) given.missing.items
     → given.program.script ≡ with_saved apart.numbers.items script
     → numbers ≡ input_numbers script
-    → given.lists ≡ given_lists given.program.script numbers rows apart.members.items
+    → given.lists ≡ rows_given given.program.script numbers rows apart.members.items
     → given.known.items ≡ apart.known.items → given.needed.items ≡ nodes_needed script
     → WasGiven script keyed rows cache after given
 was_given script asked keyed looked rows cache after apart numbers given same was found missing

@@ -19,7 +19,7 @@ use Rattle.kept_results.specs.Keyed.{key_at}
 use Rattle.kept_results.specs.Lists.{HasMembers, found_of}
 use Rattle.kept_results.specs.of_direct_meaning.Direct.{made_at, meaning}
 use Rattle.kept_results.specs.of_direct_meaning.Inputs.{Wanted, inputs_of}
-use Rattle.kept_results.specs.of_saved_meaning.Found.{MayBeFound as IsClean, members_of}
+use Rattle.kept_results.specs.of_saved_meaning.Found.{MayBeFound as IsClean, bag_or_none}
 use Rattle.kept_results.proofs.SameLemmas.{saved_same}
 use Rattle.kept_results.proofs.Steps.{asked_from}
 use Rattle.key_meaning.specs.Keyed.{AllHaveRowsIn as TheyHaveRows, HasKeyLength, Keyed, Working, key}
@@ -31,12 +31,12 @@ use Rattle.run_course.specs.of_script_loading.Loads.{AllHaveRows}
 use Rattle.run_course.specs.Written.{CollectionTable}
 use Rattle.saved_results.specs.Saved.{saved_value}
 use Rattle.saved_results.specs.declared.saved.Saved.{Saved}
-use Rattle.script_keys.specs.Keys.{key_of, parts_from}
+use Rattle.script_keys.specs.Keys.{collection_key, key_parts_from}
 use Rattle.script_program.specs.declared.made.Output.{Output}
 use Rattle.script_program.specs.Script.{Node, Script}
 use Rattle.written_types.specs.Named.{Named}
 use Rattle.cached_course.specs.Looked.{AreKeyedOutputs}
-use Rattle.cached_course.specs.Sound.{AreSound, IsValueOf, saved_of, value_of}
+use Rattle.cached_course.specs.Sound.{AreSound, IsValueOf, what_is_saved, value_of_kept}
 
 -- ---- the files of inputs
 
@@ -219,8 +219,8 @@ module _ (told : List File) (name : List ℕ) (script : Script) (asked : List (�
   key_here : (output : List ℕ × Output) (among : Contains script.outputs output)
       → key_at is.outlines is.texts is.files output.1.name ≡ key (keyed_here output among)
   key_here output among =
-      λ i. key_of is.files
-      (parts_from output.1.name (is.loaded.2.outlined i) (is.loaded.2.texted i))
+      λ i. collection_key is.files
+      (key_parts_from output.1.name (is.loaded.2.outlined i) (is.loaded.2.texted i))
       output.1.name
 
   -- what is asked for is the collection of an output, under its key
@@ -258,7 +258,7 @@ module _ (told : List File) (name : List ℕ) (script : Script) (asked : List (�
     pub collection : Collection
     pub made_is : made_at made it.0 ≡ Some collection
     pub clean : collection.traps ≡ []
-    pub saved : it.1 ≡ saved_of collection (rested_sizes script made it.0)
+    pub saved : it.1 ≡ what_is_saved collection (rested_sizes script made it.0)
 
   module _ (entries : List CacheEntry) (sound : AreSound entries) where
     value_there : (it : ℕ × List ℕ) (own : IsKeyedBy it) (bytes : List ℕ)
@@ -274,15 +274,15 @@ module _ (told : List File) (name : List ℕ) (script : Script) (asked : List (�
         let value = value_there it own found.0 found.1 in
         let written = found.2 in
         let same = canonical-tells (saved_value saved)
-        (value_of (keyed_here own.output own.among) value.collection) written.held value.held
+        (value_of_kept (keyed_here own.output own.among) value.collection) written.held value.held
         (sym written.bytes_are ∙ value.bytes) in
         record {
           collection = value.collection;
           made_is = ap (made_at made) (sym own.reads) ∙ value.made;
           clean = value.clean;
           saved = saved_same saved
-              (saved_of value.collection (rested_sizes script made own.output.1.reads)) same
-              ∙ ap (λ n. saved_of value.collection (rested_sizes script made n)) own.reads;
+              (what_is_saved value.collection (rested_sizes script made own.output.1.reads)) same
+              ∙ ap (λ n. what_is_saved value.collection (rested_sizes script made n)) own.reads;
         }
 
     all_meant : (some : List (ℕ × List ℕ)) (looked : List (Option Saved)) → Each IsKeyedBy some
@@ -304,7 +304,7 @@ module _ (told : List File) (name : List ℕ) (script : Script) (asked : List (�
 
   pub has_members : (it : ℕ × Saved) → IsMeantBy it → HasMembers made it
   has_members it meant =
-      ap members_of meant.made_is ∙ ap (λ (x : Saved). x.members) (sym meant.saved)
+      ap bag_or_none meant.made_is ∙ ap (λ (x : Saved). x.members) (sym meant.saved)
 
   pub is_clean : (it : ℕ × Saved) → IsMeantBy it → IsClean made it.0
   is_clean it meant =

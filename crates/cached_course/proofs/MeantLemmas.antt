@@ -12,7 +12,7 @@ use Rattle.flume_value.specs.declared.value.Value.{Value}
 use Rattle.kept_results.specs.Asked.{asked_nodes}
 use Rattle.kept_results.specs.Keeping.{KeptUnlessFailed}
 use Rattle.kept_results.specs.Kept.{AreFound, AreKept}
-use Rattle.kept_results.specs.Lists.{HasMembers, found_of, given_to, later_of}
+use Rattle.kept_results.specs.Lists.{HasMembers, found_of, rows_for_script, later_of}
 use Rattle.kept_results.specs.of_direct_meaning.Direct.{made_at, meaning, traps_of}
 use Rattle.kept_results.specs.of_direct_meaning.Inputs.{AreInputs, inputs_of}
 use Rattle.kept_results.specs.of_direct_meaning.Made.{AreMade}
@@ -39,7 +39,7 @@ use Rattle.cached_course.specs.Kept.{HasKept, bytes_kept, entries_kept, value_ke
 use Rattle.cached_course.specs.Looked.{not_found}
 use Rattle.cached_course.specs.Promises.{IsAsMeant}
 use Rattle.cached_course.specs.Reused.{IsReused}
-use Rattle.cached_course.specs.Sound.{AreSound, TellsSoundEntries, line_size, saved_of, value_of}
+use Rattle.cached_course.specs.Sound.{AreSound, TellsSoundEntries, line_size, what_is_saved, value_of_kept}
 use Rattle.cached_course.proofs.AskedLemmas.{keyed_read, same_firsts}
 use Rattle.cached_course.proofs.KeyedLemmas.{IsKeyedBy, IsMeantBy, all_keyed, found_meant, has_members, is_clean, keyed_here}
 use Rattle.cached_course.proofs.SoundLemmas.{files_same, sizes_same, table_same, value_same}
@@ -59,12 +59,12 @@ pub record Laws : Type 0 where
       → firsts asked ≡ firsts (asked_nodes script) → AreKept script asked looked
       → AreInputs script rows
       → AreInputs (later_of script (found_of asked looked))
-      (given_to script (found_of asked looked) rows)
+      (rows_for_script script (found_of asked looked) rows)
   pub given_same : (script : Script) (asked : List (ℕ × List ℕ)) (looked : List (Option Saved))
       (rows : List (List Value)) (table : CollectionTable) → IsWellFormed script → HasNoSaved script
       → firsts asked ≡ firsts (asked_nodes script) → AreKept script asked looked
       → Each (HasMembers table) (found_of asked looked)
-      → given_to script (found_of asked looked) rows
+      → rows_for_script script (found_of asked looked) rows
       ≡ lists_for script (later_of script (found_of asked looked)) rows table
   pub saved_means : (script : Script) (numbers : List ℕ) (rows : List (List Value))
       (table : CollectionTable) → IsWellFormed script → HasNoSaved script
@@ -177,7 +177,8 @@ module _ (laws : Laws) (words : List (List ℕ)) (told : List File) (cache later
 
   own : AreMade (later_of script (found it)) (later_of script (found it)).nodes table
   own =
-      let all = laws.meaning_of (later_of script (found it)) (given_to script (found it) rows)
+      let all =
+      laws.meaning_of (later_of script (found it)) (rows_for_script script (found it) rows)
       (saved-well script well numbers)
       (laws.given_are script it.asked it.looked rows well plain firsts_here it.was.kept inputs) in
       let both : Some all.0 ≡ Some table = sym all.1 ∙ reused.means in
@@ -221,10 +222,11 @@ module _ (laws : Laws) (words : List (List ℕ)) (told : List File) (cache later
         let alike = key_law (keyed x by) other (sym by.key_is ∙ sym e) in
         let here : made_at made x.0 ≡ Some alike.here =
         ap (made_at made) (sym by.reads) ∙ alike.made_here in
-        let is : value_kept script (found it) table x.0 ≡ value_of other alike.there =
+        let is : value_kept script (found it) table x.0 ≡ value_of_kept other alike.there =
         value_same script well (found it) found_reads made table are own same sizes x.0 reads_it
         alike.here here
-        ∙ ap (λ n. saved_value (saved_of alike.here (rested_sizes script made n))) (sym by.reads)
+        ∙ ap (λ n. saved_value (what_is_saved alike.here (rested_sizes script made n)))
+        (sym by.reads)
         ∙ (λ i. saved_value (record {
           members = alike.same.bag i;
           sizes = map line_size (alike.sizes i);

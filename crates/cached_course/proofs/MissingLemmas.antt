@@ -12,7 +12,7 @@ use Rattle.flume_value.specs.Canonical.{canonical}
 use Rattle.flume_value.specs.Ranges.{IsHeld}
 use Rattle.flume_value.specs.declared.value.Value.{Value}
 use Rattle.kept_results.specs.of_direct_meaning.Direct.{made_at}
-use Rattle.kept_results.specs.of_saved_meaning.Found.{members_of}
+use Rattle.kept_results.specs.of_saved_meaning.Found.{bag_or_none}
 use Rattle.kept_results.specs.Sizes.{rested_nodes, to_keep}
 use Rattle.kept_results.proofs.FoundLemmas.{IsRead, firsts}
 use Rattle.kept_results.proofs.of_direct_meaning.PlaceLemmas.{zip_more}
@@ -86,7 +86,7 @@ not_found_each P (it ∷ asked) (found ∷ looked) all =
 -- ---- their members
 
 of_made : (o : Option Collection) (members : List Value) → IsSomeAnd o (λ c. members ≡ c.bag)
-    → members ≡ members_of o
+    → members ≡ bag_or_none o
 of_made None members are = absurd are
 of_made (Some c) members are = are
 
@@ -95,10 +95,10 @@ module _ (entry : List ℕ × Output) (outputs : Named Output) (members : List V
     (written : List (List Value)) (table : CollectionTable) (number : ℕ)
     (first : AreMembersOf table entry.1.reads members)
     (others : IsRead outputs number
-    → members_for outputs written number ≡ members_of (made_at table number)) where
+    → members_for outputs written number ≡ bag_or_none (made_at table number)) where
   other_right : eqb entry.1.reads number ≡ false
       → (entry.1.reads ≡ number) ⊎ IsRead outputs number
-      → members_for outputs written number ≡ members_of (made_at table number)
+      → members_for outputs written number ≡ bag_or_none (made_at table number)
   other_right apart (inl same) =
       absurd (true≢false (sym (eq-eqb entry.1.reads number same) ∙ apart))
   other_right apart (inr behind) = others behind
@@ -106,10 +106,10 @@ module _ (entry : List ℕ × Output) (outputs : Named Output) (members : List V
   either_right : IsRead (entry ∷ outputs) number → (b : Bool)
       → eqb entry.1.reads number ≡ b
       → (if b then members else members_for outputs written number)
-      ≡ members_of (made_at table number)
+      ≡ bag_or_none (made_at table number)
   either_right read true same =
       of_made (made_at table entry.1.reads) members first
-      ∙ ap (λ n. members_of (made_at table n)) (eqb-true entry.1.reads number same)
+      ∙ ap (λ n. bag_or_none (made_at table n)) (eqb-true entry.1.reads number same)
   either_right read false apart =
       other_right apart
       (head_or_tail entry.1.reads (map (λ (it : List ℕ × Output). it.1.reads) outputs) number
@@ -120,7 +120,7 @@ members_right : (outputs : Named Output) (written : List (List Value)) (table : 
     (number : ℕ)
     → AllZip (λ output members. AreMembersOf table output.1.reads members) outputs written
     → IsRead outputs number
-    → members_for outputs written number ≡ members_of (made_at table number)
+    → members_for outputs written number ≡ bag_or_none (made_at table number)
 members_right [] written table number are read = absurd (not_in_none number read)
 members_right (entry ∷ outputs) [] table number are read = absurd are
 members_right (entry ∷ outputs) (members ∷ written) table number are read =
@@ -178,7 +178,8 @@ module _ (script : Script) (nodes_of : Script) (known : List (ℕ × ℕ))
   -- of one, by its number, and its entry
   abbrev pub value_as : ℕ → Value
   value_as number =
-      saved_value (to_keep known (rested_nodes nodes_of number) (members_of (made_at table number)))
+      saved_value (to_keep known (rested_nodes nodes_of number)
+      (bag_or_none (made_at table number)))
 
   abbrev pub entry_as : ℕ × List ℕ → CacheEntry
   entry_as it = record { key = it.1; value = canonical (value_as it.0) }

@@ -21,7 +21,7 @@ use Rattle.run_course.specs.Asked.{tries_of}
 use Rattle.run_course.specs.Asks.{AsksFor}
 use Rattle.run_course.specs.Lent.{lent}
 use Rattle.run_course.specs.Promises.{EndsWith, IsEnded, IsUnlessFailed}
-use Rattle.run_course.specs.World.{Keeps, World}
+use Rattle.run_course.specs.Outside.{Keeps, Outside}
 use Rattle.run_course.specs.Written.{CollectionTable}
 use Rattle.run_course.specs.of_script_loading.Loads.{AllHaveRows}
 use Rattle.run_course.specs.of_script_run.Runs.{phases_of}
@@ -52,7 +52,7 @@ use Rattle.cached_course.proofs.ReadLemmas.{looked_reads}
 settings_of : (s t : RunSettings) → Run s None ≡ Run t None → s ≡ t
 settings_of s t same = cc
 
-module _ (words : List (List ℕ)) (before after : World) (cache later : SeenCache) where
+module _ (words : List (List ℕ)) (before after : Outside) (cache later : SeenCache) where
   abbrev told : Option (List NamedBytes)
   told = before.source.files
 
@@ -283,7 +283,7 @@ module _ (words : List (List ℕ)) (before after : World) (cache later : SeenCac
   }
 
 -- no memory was found, and nothing was asked for
-pub of_memory : MeantLaw → SoundLaw → (words : List (List ℕ)) (before after : World)
+pub of_memory : MeantLaw → SoundLaw → (words : List (List ℕ)) (before after : Outside)
     (cache : SeenCache) → IsRefused WantOfMemory before after → Keeps before after
     → after.source ≡ before.source → after.hosts ≡ before.hosts
     → ReusePromises words before after cache cache WantOfMemory
@@ -295,7 +295,7 @@ of_memory meant_law sound_law words before after cache refused kept same hosts =
 
 -- what a run promises that something stops
 pub stop_promises : (T : Type 0) → MeantLaw → SoundLaw → (words : List (List ℕ))
-    (before after : World) (cache later : SeenCache) (why : Stop) (status : Status)
+    (before after : Outside) (cache later : SeenCache) (why : Stop) (status : Status)
     → later.entries ≡ cache.entries
     → cache.faults ≤ later.faults
     → IsStop words before.source after.source before.hosts after.hosts cache later why

@@ -6,8 +6,8 @@ use Rattle.outside.specs.Accounts.{Account}
 use Rattle.exec_plan.specs.declared.plan.Plan.{Plan}
 use Rattle.flume_value.specs.Ranges.{IsHeld}
 use Rattle.flume_value.specs.declared.value.Value.{Value}
-use Rattle.kept_results.specs.Lists.{found_of, given_to, later_of}
-use Rattle.kept_results.specs.Sizes.{beside, nodes_needed, sizes_told}
+use Rattle.kept_results.specs.Lists.{found_of, rows_for_script, later_of}
+use Rattle.kept_results.specs.Sizes.{size_pairs, nodes_needed, sizes_told}
 use Rattle.kept_results.specs.of_direct_meaning.Direct.{meaning, sizes_of}
 use Rattle.kept_results.specs.of_direct_meaning.Inputs.{inputs_of}
 use Rattle.kept_results.proofs.FoundLemmas.{IsRead, firsts}
@@ -41,7 +41,7 @@ module _ (told : Option (List File)) (script : Script) (asked : List (ℕ × Lis
   script_here = later_of script found_here
 
   abbrev pub lists_here : List (List Value)
-  lists_here = given_to script found_here rows
+  lists_here = rows_for_script script found_here rows
 
   means_here : (table : CollectionTable) → meaning given.program.script given.lists ≡ Some table
       → meaning script_here lists_here ≡ Some table
@@ -59,7 +59,7 @@ module _ (told : Option (List File)) (script : Script) (asked : List (ℕ × Lis
   known_same : (table : CollectionTable) → known_by given table ≡ known script found_here table
   known_same table =
       λ i. is.known i
-      ++ beside (nodes_needed (is.program i))
+      ++ size_pairs (nodes_needed (is.program i))
       (map (λ (line : List ℕ × ℕ). line.1) (sizes_of (is.program i) table))
 
   ran_here : (s : RunSettings) (plan : Plan) (olds news : List Account)

@@ -4,10 +4,10 @@ use Rattle.std.specs.List.{AllByRecursion as Each, filter, flat_map}
 use Rattle.std.proofs.lemmas.Bool.{eq-eqb, eqb-true}
 use Rattle.flume_collection.specs.Collection.{Collection}
 use Rattle.kept_results.specs.of_direct_meaning.Direct.{made_at, size_of, sizes_from}
-use Rattle.kept_results.specs.Sizes.{beside, named_only, size_at}
-use Rattle.key_meaning.specs.Rested.{sized}
+use Rattle.kept_results.specs.Sizes.{size_pairs, named_only, size_at}
+use Rattle.key_meaning.specs.Rested.{name_sized}
 use Rattle.run_course.specs.Written.{CollectionTable}
-use Rattle.script_program.specs.Needed.{numbered}
+use Rattle.script_program.specs.Needed.{collections_numbered}
 use Rattle.script_program.specs.Script.{Node}
 use Rattle.written_types.specs.Named.{Named}
 
@@ -28,12 +28,12 @@ named_size f it = (it.1.0, size_in (f it.0))
 module _ (p : ℕ → Bool) (f : ℕ → Option Collection) where
   next_size : (entry : List ℕ × Node) (nodes : Named Node) (table : CollectionTable) (n : ℕ)
       → sizes_from nodes table
-      ≡ map (named_size f) (filter (λ it. p it.0) (numbered (suc n) nodes))
+      ≡ map (named_size f) (filter (λ it. p it.0) (collections_numbered (suc n) nodes))
       → (o : Option Collection) (b : Bool) → is_some o ≡ b → o ≡ f n
       → sizes_from (entry ∷ nodes) (o ∷ table)
       ≡ map (named_size f)
-      (cond b ((n, entry) ∷ filter (λ it. p it.0) (numbered (suc n) nodes))
-      (filter (λ it. p it.0) (numbered (suc n) nodes)))
+      (cond b ((n, entry) ∷ filter (λ it. p it.0) (collections_numbered (suc n) nodes))
+      (filter (λ it. p it.0) (collections_numbered (suc n) nodes)))
   next_size entry nodes table n rest None true some is = cc
   next_size entry nodes table n rest None false some is = rest
   next_size entry nodes table n rest (Some c) true some is =
@@ -45,7 +45,8 @@ module _ (p : ℕ → Bool) (f : ℕ → Option Collection) where
       → length nodes ≡ length table
       → ((k : ℕ) → k < length nodes → made_at table k ≡ f (n + k))
       → ((k : ℕ) → k < length nodes → is_some (made_at table k) ≡ p (n + k))
-      → sizes_from nodes table ≡ map (named_size f) (filter (λ it. p it.0) (numbered n nodes))
+      → sizes_from nodes table
+      ≡ map (named_size f) (filter (λ it. p it.0) (collections_numbered n nodes))
   sizes_by [] table n size at some = refl
   sizes_by (entry ∷ nodes) [] n size at some = absurd (omega (arith, size))
   sizes_by (entry ∷ nodes) (o ∷ table) n size at some =
@@ -62,13 +63,13 @@ module _ (p : ℕ → Bool) (f : ℕ → Option Collection) where
 
   -- of some collections that are all made
   pub sized_all : (xs : Numbered) → Each (λ it. is_some (f it.0) ≡ true) xs
-      → flat_map (λ it. sized it.1.0 (f it.0)) xs ≡ map (named_size f) xs
+      → flat_map (λ it. name_sized it.1.0 (f it.0)) xs ≡ map (named_size f) xs
   sized_all [] made = refl
   sized_all (it ∷ xs) made = one_sized (f it.0) made.0 (sized_all xs made.1)
     where
       one_sized : (o : Option Collection) → is_some o ≡ true
-          → flat_map (λ x. sized x.1.0 (f x.0)) xs ≡ map (named_size f) xs
-          → sized it.1.0 o ++ flat_map (λ x. sized x.1.0 (f x.0)) xs
+          → flat_map (λ x. name_sized x.1.0 (f x.0)) xs ≡ map (named_size f) xs
+          → name_sized it.1.0 o ++ flat_map (λ x. name_sized x.1.0 (f x.0)) xs
           ≡ (it.1.0, size_in o) ∷ map (named_size f) xs
       one_sized None some rest = cc
       one_sized (Some c) some rest = ap (λ l. (it.1.0, size_of c) ∷ l) rest
@@ -79,7 +80,7 @@ abbrev pub numbered_size : (ℕ → Option Collection) → ℕ × (List ℕ × N
 numbered_size f it = (it.0, size_in (f it.0))
 
 pub beside_sizes : (f : ℕ → Option Collection) (xs : Numbered)
-    → beside (map named_only xs) (map (λ (line : List ℕ × ℕ). line.1) (map (named_size f) xs))
+    → size_pairs (map named_only xs) (map (λ (line : List ℕ × ℕ). line.1) (map (named_size f) xs))
     ≡ map (numbered_size f) xs
 beside_sizes f [] = refl
 beside_sizes f (it ∷ xs) = ap (λ l. numbered_size f it ∷ l) (beside_sizes f xs)
@@ -141,10 +142,10 @@ module _ (p : ℕ → Bool) (f : ℕ → Option Collection) where
       behind_has (k, entry) rest n (others (omega (arith, low, other))) (p k)
 
   pub numbered_has : (nodes : Named Node) (k n : ℕ) → k ≤ n → n < k + length nodes
-      → p n ≡ true → HasNumber (sizes_in (filter (λ it. p it.0) (numbered k nodes))) n
+      → p n ≡ true → HasNumber (sizes_in (filter (λ it. p it.0) (collections_numbered k nodes))) n
   numbered_has [] k n low high is = absurd (omega (arith, low, high))
   numbered_has (entry ∷ nodes) k n low high is =
-      here_or_behind entry (filter (λ it. p it.0) (numbered (suc k) nodes)) k n low is
+      here_or_behind entry (filter (λ it. p it.0) (collections_numbered (suc k) nodes)) k n low is
       (λ more. numbered_has nodes (suc k) n more (omega (arith, high)) is) (eqb k n) refl
 
 -- ---- told
@@ -166,10 +167,10 @@ one_picked P it rest false own others = others
 
 pub picked : (p : ℕ → Bool) (P : ℕ → Type 0) (nodes : Named Node) (k : ℕ)
     → ((n : ℕ) → k ≤ n → n < k + length nodes → p n ≡ true → P n)
-    → Each (λ it. P it.0) (filter (λ it. p it.0) (numbered k nodes))
+    → Each (λ it. P it.0) (filter (λ it. p it.0) (collections_numbered k nodes))
 picked p P [] k holds = tt
 picked p P (entry ∷ nodes) k holds =
-    one_picked P (k, entry) (filter (λ it. p it.0) (numbered (suc k) nodes)) (p k)
+    one_picked P (k, entry) (filter (λ it. p it.0) (collections_numbered (suc k) nodes)) (p k)
     (holds k (omega arith) (omega arith))
     (picked p P nodes (suc k)
     (λ n low high is. holds n (omega (arith, low)) (omega (arith, high)) is))

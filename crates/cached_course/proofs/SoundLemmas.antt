@@ -9,11 +9,11 @@ use Rattle.flume_collection.specs.Collection.{Collection}
 use Rattle.flume_collection.proofs.Members.{at_head, at_tail}
 use Rattle.flume_value.proofs.EachLemmas.{Each-append, Each-map, Each-weaker}
 use Rattle.flume_value.specs.declared.value.Value.{Value}
-use Rattle.kept_results.specs.Lists.{given_to, later_of}
-use Rattle.kept_results.specs.Sizes.{beside, named_only, nodes_needed, rested_nodes, size_at, size_line, sizes_kept}
+use Rattle.kept_results.specs.Lists.{rows_for_script, later_of}
+use Rattle.kept_results.specs.Sizes.{size_pairs, named_only, nodes_needed, rested_nodes, size_at, size_entry, sizes_kept}
 use Rattle.kept_results.specs.of_direct_meaning.Direct.{made_at, meaning, sizes_of}
 use Rattle.kept_results.specs.of_direct_meaning.Made.{AreMade, IsMadeFor}
-use Rattle.kept_results.specs.of_saved_meaning.Found.{IsSame, MeansSame, lists_for, members_of, where_needed}
+use Rattle.kept_results.specs.of_saved_meaning.Found.{IsSame, MeansSame, lists_for, bag_or_none, where_needed}
 use Rattle.kept_results.specs.of_script_laws.WellFormed.{IsWellFormed}
 use Rattle.kept_results.proofs.FoundLemmas.{IsRead}
 use Rattle.kept_results.proofs.ListLemmas.{numbers_of}
@@ -27,14 +27,14 @@ use Rattle.saved_results.specs.Saved.{saved_value}
 use Rattle.saved_results.specs.declared.saved.Saved.{Saved}
 use Rattle.saved_results.specs.declared.saved.Size.{Size}
 use Rattle.script_program.specs.declared.made.Output.{Output}
-use Rattle.script_program.specs.Needed.{has, is_needed, needed_nodes, outputs_read}
+use Rattle.script_program.specs.Needed.{holds_number, is_needed, needed_nodes, outputs_read}
 use Rattle.script_program.specs.Rested.{rested, rests}
-use Rattle.script_program.specs.Saved.{saved_from}
+use Rattle.script_program.specs.Saved.{saved_among}
 use Rattle.script_program.specs.Script.{Node, Script}
 use Rattle.written_types.specs.Named.{Named}
 use Rattle.cached_course.specs.Kept.{value_kept}
 use Rattle.cached_course.specs.Reused.{Found, all_sizes, known}
-use Rattle.cached_course.specs.Sound.{line_size, saved_of}
+use Rattle.cached_course.specs.Sound.{line_size, what_is_saved}
 use Rattle.cached_course.proofs.CoverLemmas.{covered, read_by, rests_needed}
 use Rattle.cached_course.proofs.FoundLemmas.{own_sizes}
 use Rattle.cached_course.proofs.SizedLemmas.{HasNumber, Numbered, beside_sizes, has_left, has_right, named_size, numbered_has, numbered_size, picked, size_in, size_there, sized_all, sizes_by, told_same}
@@ -45,8 +45,8 @@ use Rattle.cached_course.proofs.SizedLemmas.{HasNumber, Numbered, beside_sizes, 
 pub table_same : (script : Script) (found : Found) (rows : List (List Value))
     (made table : CollectionTable)
     → MeansSame script (later_of script found) rows made
-    → given_to script found rows ≡ lists_for script (later_of script found) rows made
-    → meaning (later_of script found) (given_to script found rows) ≡ Some table
+    → rows_for_script script found rows ≡ lists_for script (later_of script found) rows made
+    → meaning (later_of script found) (rows_for_script script found rows) ≡ Some table
     → IsSame (later_of script found) made table
 table_same script found rows made table it given means =
     let both : Some it.own ≡ Some table =
@@ -81,14 +81,14 @@ files_from made table (output ∷ outputs) same =
     record { name = output.0; bytes = table_text output.1.columns c.bag }) (same.0 i))
 
 pub saved_length : (numbers : List ℕ) (k : ℕ) (nodes : Named Node)
-    → length (saved_from numbers k nodes) ≡ length nodes
+    → length (saved_among numbers k nodes) ≡ length nodes
 saved_length numbers k [] = refl
 saved_length numbers k (entry ∷ nodes) = ap suc (saved_length numbers (suc k) nodes)
 
 -- the sizes of what is kept, by names
 lines_same : (known : List (ℕ × ℕ)) (f : ℕ → Option Collection) (xs : Numbered)
     → Each (λ it. size_at known it.0 ≡ size_in (f it.0)) xs
-    → map (size_line known) (map named_only xs) ≡ map line_size (map (named_size f) xs)
+    → map (size_entry known) (map named_only xs) ≡ map line_size (map (named_size f) xs)
 lines_same known f [] same = refl
 lines_same known f (it ∷ xs) same =
     λ i. record { name = it.1.0; members = same.0 i } ∷ lines_same known f xs same.1 i
@@ -133,13 +133,13 @@ module _ (script : Script) (well : IsWellFormed script) (found : Found)
       (λ k below. ap (made_at made) (sym (zero-add k)))
       (λ k below. are.needed k below ∙ ap (is_needed script) (sym (zero-add k)))
 
-  run_sizes : beside (nodes_needed later)
+  run_sizes : size_pairs (nodes_needed later)
       (map (λ (line : List ℕ × ℕ). line.1) (sizes_of later table))
       ≡ map (numbered_size (made_at table)) (needed_nodes later)
   run_sizes =
       ap
       (λ (l : List (List ℕ × ℕ)).
-      beside (nodes_needed later) (map (λ (line : List ℕ × ℕ). line.1) l))
+      size_pairs (nodes_needed later) (map (λ (line : List ℕ × ℕ). line.1) l))
       (sizes_by (is_needed later) (made_at table) later.nodes table 0
       (sym (as_many IsMadeFor later.nodes table own.each))
       (λ k below. ap (made_at table) (sym (zero-add k)))
@@ -166,10 +166,10 @@ module _ (script : Script) (well : IsWellFormed script) (found : Found)
       ≡ map (λ (line : List ℕ × ℕ). line.1) (rested_sizes script made it.0)
       → own_sizes script it ≡ rested_known it
   own_known it reads sizes =
-      ap (beside (rested_nodes script it.0)) sizes
+      ap (size_pairs (rested_nodes script it.0)) sizes
       ∙ ap
       (λ (l : List (List ℕ × ℕ)).
-      beside (rested_nodes script it.0) (map (λ (line : List ℕ × ℕ). line.1) l))
+      size_pairs (rested_nodes script it.0) (map (λ (line : List ℕ × ℕ). line.1) l))
       (sized_all (is_needed script) (made_at made) (rested script it.0) (rested_made it.0 reads))
       ∙ beside_sizes (made_at made) (rested script it.0)
 
@@ -212,8 +212,9 @@ module _ (script : Script) (well : IsWellFormed script) (found : Found)
   -- and has each that is needed
   first_kept : (it : ℕ × Saved) (xs : Found) (m n : ℕ) → rests script m n ≡ true
       → n < length script.nodes
-      → (has (numbers_of xs) m ≡ true → HasNumber (flat_map rested_known xs) n) → (b : Bool)
-      → eqb it.0 m ≡ b → (b || has (numbers_of xs) m) ≡ true
+      → (holds_number (numbers_of xs) m ≡ true → HasNumber (flat_map rested_known xs) n)
+      → (b : Bool)
+      → eqb it.0 m ≡ b → (b || holds_number (numbers_of xs) m) ≡ true
       → HasNumber (rested_known it ++ flat_map rested_known xs) n
   first_kept it xs m n is below others true e among =
       has_left (rested_known it) (flat_map rested_known xs) n
@@ -224,14 +225,14 @@ module _ (script : Script) (well : IsWellFormed script) (found : Found)
       has_right (rested_known it) (flat_map rested_known xs) n (others among)
 
   has_kept : (m n : ℕ) → rests script m n ≡ true → n < length script.nodes → (xs : Found)
-      → has (numbers_of xs) m ≡ true → HasNumber (flat_map rested_known xs) n
+      → holds_number (numbers_of xs) m ≡ true → HasNumber (flat_map rested_known xs) n
   has_kept m n is below [] among = cc among
   has_kept m n is below (it ∷ xs) among =
       first_kept it xs m n is below (has_kept m n is below xs) (eqb it.0 m) refl among
 
   known_has : (n : ℕ) → n < length script.nodes
       → (is_needed later n ≡ true)
-      ⊎ ((m : ℕ) × (has (numbers_of found) m ≡ true) × (rests script m n ≡ true))
+      ⊎ ((m : ℕ) × (holds_number (numbers_of found) m ≡ true) × (rests script m n ≡ true))
       → HasNumber known_here n
   known_has n below (inl needed) =
       subst (λ (l : List (ℕ × ℕ)). HasNumber l n) (sym known_is)
@@ -269,7 +270,7 @@ module _ (script : Script) (well : IsWellFormed script) (found : Found)
   -- of what an output reads just what the script means is kept
   pub value_same : (n : ℕ) → IsRead script.outputs n → (c : Collection)
       → made_at made n ≡ Some c
-      → value_kept script found table n ≡ saved_value (saved_of c (rested_sizes script made n))
+      → value_kept script found table n ≡ saved_value (what_is_saved c (rested_sizes script made n))
   value_same n reads c made_is =
       let here = at_needed n
       ((needed_law later (saved-well script well (numbers_of found)) n).1 ([], reads)) in
@@ -284,6 +285,6 @@ module _ (script : Script) (well : IsWellFormed script) (found : Found)
       let told = ap (map line_size)
       (sym (sized_all (is_needed script) (made_at made) (rested script n) (rested_made n reads))) in
       λ i. saved_value (record {
-        members = members_of ((here ∙ made_is) i);
+        members = bag_or_none ((here ∙ made_is) i);
         sizes = (lines ∙ told) i;
       })

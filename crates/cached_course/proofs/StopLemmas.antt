@@ -31,8 +31,8 @@ use Rattle.run_course.specs.of_script_run.Runs.{AsksSomePhases, IsLostOf, phases
 use Rattle.run_settings.specs.Settings.{RunSettings}
 use Rattle.run_texts.specs.declared.status.Status.{Status}
 use Rattle.run_texts.specs.declared.status.Status.TheVariants.{WantOfMemory}
-use Rattle.script_program.specs.Needed.{has}
-use Rattle.script_program.specs.Saved.{saved_from, saved_node}
+use Rattle.script_program.specs.Needed.{holds_number}
+use Rattle.script_program.specs.Saved.{saved_among, saved_node}
 use Rattle.script_program.specs.Script.{Node, Script}
 use Rattle.written_types.specs.Named.{Named}
 use Rattle.cached_course.specs.Answers.{AsksRun, HasLooked, IsRunning}
@@ -50,10 +50,10 @@ saved_name true entry = refl
 saved_name false entry = refl
 
 names_from : (found : List ℕ) (k : ℕ) (nodes : Named Node) (n : ℕ)
-    → option_map (λ (entry : List ℕ × Node). entry.0) (slice_get (saved_from found k nodes) n)
+    → option_map (λ (entry : List ℕ × Node). entry.0) (slice_get (saved_among found k nodes) n)
     ≡ option_map (λ (entry : List ℕ × Node). entry.0) (slice_get nodes n)
 names_from found k [] n = refl
-names_from found k (entry ∷ nodes) zero = ap Some (saved_name (has found k) entry)
+names_from found k (entry ∷ nodes) zero = ap Some (saved_name (holds_number found k) entry)
 names_from found k (entry ∷ nodes) (suc n) = names_from found (suc k) nodes n
 
 -- ---- what it comes to

@@ -11,7 +11,7 @@ use Rattle.exec_plan.specs.declared.plan.Plan.{Plan}
 use Rattle.flume_value.specs.declared.fault.Kind.{Kind}
 use Rattle.flume_value.specs.Ranges.{IsHeld}
 use Rattle.flume_value.specs.declared.value.Value.{Value}
-use Rattle.kept_results.specs.Lists.{found_of, given_to, later_of}
+use Rattle.kept_results.specs.Lists.{found_of, rows_for_script, later_of}
 use Rattle.outside.specs.Saves.{HasFiles}
 use Rattle.outside.specs.Says.{HasLine}
 use Rattle.outside.specs.declared.file.File.{File as NamedBytes}
@@ -21,7 +21,7 @@ use Rattle.run_course.specs.Answers.{FailsAtFile, HasShown, IsCause, IsCutOff, I
 use Rattle.run_course.specs.Asked.{AskFor}
 use Rattle.run_course.specs.Hosts.{MayHaveRun}
 use Rattle.run_course.specs.Lent.{lent}
-use Rattle.run_course.specs.World.{World}
+use Rattle.run_course.specs.Outside.{Outside}
 use Rattle.run_course.specs.Written.{CollectionTable}
 use Rattle.run_settings.specs.Settings.{RunSettings}
 use Rattle.run_texts.specs.Lines.{line_of, trap_line}
@@ -61,7 +61,7 @@ module _ {words : List (List ℕ)} {told : Option (List NamedBytes)} {cache late
   script_run = later_of it.script found
 
   abbrev pub lists_run : List (List Value) → List (List Value)
-  lists_run rows = given_to it.script found rows
+  lists_run rows = rows_for_script it.script found rows
 
 -- a plan of what is run, over what it is run over, which means this table
 pub record IsRunning (words : List (List ℕ)) (told : Option (List NamedBytes))
@@ -76,14 +76,14 @@ pub record IsRunning (words : List (List ℕ)) (told : Option (List NamedBytes))
 -- ---- what is written
 
 -- the call came to its writing, with these files and this text
-pub record WasReused (words : List (List ℕ)) (before after : World) (cache later : SeenCache)
+pub record WasReused (words : List (List ℕ)) (before after : Outside) (cache later : SeenCache)
     (files : List NamedBytes) (text : List ℕ) : Type 0 where
   pub it : HasLooked words before.source.files cache later
   pub table : CollectionTable
   pub writes : WritesReused it.settings before.source.files before.hosts after.hosts it.script
       (found it) files text table
 
-module _ (words : List (List ℕ)) (before after : World) (cache later : SeenCache) where
+module _ (words : List (List ℕ)) (before after : Outside) (cache later : SeenCache) where
   -- and behind its files each collection that is asked for and was not found was kept, as a
   -- program holds it
   pub record IsKept {files : List NamedBytes} {text : List ℕ}

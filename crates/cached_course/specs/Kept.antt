@@ -12,7 +12,7 @@ use Rattle.kept_results.specs.Sizes.{rested_nodes, to_keep}
 use Rattle.outside.specs.Cause.{Rose}
 use Rattle.outside.specs.Told.{WhereTold}
 use Rattle.run_course.specs.Written.{CollectionTable}
-use Rattle.kept_results.specs.of_saved_meaning.Found.{members_of}
+use Rattle.kept_results.specs.of_saved_meaning.Found.{bag_or_none}
 use Rattle.saved_results.specs.Saved.{saved_value}
 use Rattle.saved_results.specs.declared.saved.Saved.{Saved}
 use Rattle.script_program.specs.Script.{Script}
@@ -25,7 +25,7 @@ abbrev pub value_kept : Script → Found → CollectionTable → ℕ → Value
 value_kept script found table number =
     saved_value
     (to_keep (known script found table) (rested_nodes script number)
-    (members_of (made_at table number)))
+    (bag_or_none (made_at table number)))
 
 abbrev pub bytes_kept : Script → Found → CollectionTable → ℕ → List ℕ
 bytes_kept script found table number = canonical (value_kept script found table number)

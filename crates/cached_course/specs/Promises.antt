@@ -16,7 +16,7 @@ use Rattle.run_course.specs.Asked.{AskOn}
 use Rattle.run_course.specs.Asks.{AsksFor}
 use Rattle.run_course.specs.Lent.{lent}
 use Rattle.run_course.specs.Promises.{EndsWith, IsAlwaysRefused, IsEnded}
-use Rattle.run_course.specs.World.{Keeps, World}
+use Rattle.run_course.specs.Outside.{Keeps, Outside}
 use Rattle.run_course.specs.Written.{IsMeant, CollectionTable, files_of}
 use Rattle.run_settings.specs.Settings.{RunSettings}
 use Rattle.run_texts.specs.declared.status.Status.{Status}
@@ -47,7 +47,7 @@ pub record IsAsMeant (told : Option (List File)) (script : Script) (found : Foun
 -- All is there that the run needs: files are told, the words ask for it on this script, the inputs
 -- that it needs have these rows, the source fails less often than each file may be tried, neither
 -- the shelf nor the screen fails, and its hosts can end its tasks, whatever is found.
-pub record CanRun (words : List (List ℕ)) (before after : World) (cache later : SeenCache)
+pub record CanRun (words : List (List ℕ)) (before after : Outside) (cache later : SeenCache)
     (s : RunSettings) (script : Script) (rows : List (List Value)) : Type 0 where
   pub told : IsSome before.source.files
   pub reads : AskOn words before.source.files (Run s None) script
@@ -62,7 +62,7 @@ pub record CanRun (words : List (List ℕ)) (before after : World) (cache later 
       (lent s after.hosts)
 
 -- the run came to its end by the meaning of what it ran
-pub record Ends (words : List (List ℕ)) (before : World) (cache later : SeenCache)
+pub record Ends (words : List (List ℕ)) (before : Outside) (cache later : SeenCache)
     (rows : List (List Value)) (status : Status) : Type 0 where
   pub it : HasLooked words before.source.files cache later
   pub table : CollectionTable
@@ -73,7 +73,7 @@ pub record Ends (words : List (List ℕ)) (before : World) (cache later : SeenCa
 
 -- What is so after a run with these words, which found the one world and cache and left the other,
 -- and answered so.
-pub record ReusePromises (words : List (List ℕ)) (before after : World) (cache later : SeenCache)
+pub record ReusePromises (words : List (List ℕ)) (before after : Outside) (cache later : SeenCache)
     (status : Status) : Type 0 where
   -- what each answer says: what was written and kept, or why not
   pub answers : Answers words before after cache later status

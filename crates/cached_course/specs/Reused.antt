@@ -5,7 +5,7 @@ use Rattle.kept_results.specs.of_direct_meaning.Direct.{meaning, sizes_of, traps
 use Rattle.kept_results.specs.of_direct_meaning.Inputs.{inputs_of}
 use Rattle.exec_plan.specs.declared.plan.Plan.{Plan}
 use Rattle.flume_value.specs.declared.value.Value.{Value}
-use Rattle.kept_results.specs.Lists.{given_to, later_of}
+use Rattle.kept_results.specs.Lists.{rows_for_script, later_of}
 use Rattle.kept_results.specs.Sizes.{nodes_needed, sizes_known, sizes_told}
 use Rattle.outside.specs.declared.file.File.{File}
 use Rattle.run_course.specs.Lent.{lent}
@@ -34,7 +34,7 @@ all_sizes script found table = sizes_told (known script found table) (nodes_need
 pub record IsReused (told : Option (List File)) (script : Script) (found : Found)
     (rows : List (List Value)) (table : CollectionTable) : Type 0 where
   pub inputs : AllHaveRows told (inputs_of script) rows
-  pub means : meaning (later_of script found) (given_to script found rows) ≡ Some table
+  pub means : meaning (later_of script found) (rows_for_script script found rows) ≡ Some table
 
 -- The same, without a trap: the files of the outputs, and a text of all sizes behind another text.
 pub record IsThrough (told : Option (List File)) (script : Script) (found : Found)
@@ -55,5 +55,6 @@ pub record WritesReused (s : RunSettings) (told : Option (List File)) (olds news
   pub planned : IsScriptPlan (later_of script found) plan
   pub through : IsThrough told script found (text_shown (later_of script found) plan) files
       text rows table
-  pub ran : AllTasksRan s (later_of script found) (given_to script found rows) plan (lent s olds)
+  pub ran : AllTasksRan s (later_of script found) (rows_for_script script found rows) plan
+      (lent s olds)
       (lent s news)

@@ -19,14 +19,15 @@ abbrev pub line_size : List ℕ × ℕ → Size
 line_size line = record { name = line.0; members = line.1 }
 
 -- what is kept of a collection without traps, whose members these are, and which rests on so much
-abbrev pub saved_of : Collection → List (List ℕ × ℕ) → Saved
-saved_of collection sizes =
+abbrev pub what_is_saved : Collection → List (List ℕ × ℕ) → Saved
+what_is_saved collection sizes =
     record { members = collection.bag; sizes = map line_size sizes }
 
 -- the same, as a value, of the collection that an output reads
-abbrev pub value_of : Keyed → Collection → Value
-value_of it collection =
-    saved_value (saved_of collection (rested_sizes it.work.script it.work.made it.output.reads))
+abbrev pub value_of_kept : Keyed → Collection → Value
+value_of_kept it collection =
+    saved_value (what_is_saved collection (rested_sizes it.work.script it.work.made
+    it.output.reads))
 
 -- The bytes are those of the collection that this output reads, as a program holds it, and it has
 -- no trap.
@@ -34,8 +35,8 @@ pub record IsValueOf (it : Keyed) (value : List ℕ) : Type 0 where
   pub collection : Collection
   pub made : made_at it.work.made it.output.reads ≡ Some collection
   pub clean : collection.traps ≡ []
-  pub held : IsHeld (value_of it collection)
-  pub bytes : value ≡ canonical (value_of it collection)
+  pub held : IsHeld (value_of_kept it collection)
+  pub bytes : value ≡ canonical (value_of_kept it collection)
 
 -- under each key of an output of an accepted script, over files, stands that output's value, or
 -- nothing

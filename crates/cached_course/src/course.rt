@@ -5,7 +5,7 @@ ghost use Rattle.std.specs.Option.{option_map};
 ghost use Rattle.command_words.specs.declared.words.Command.TheVariants.{Run};
 ghost use Rattle.outside.specs.Saves.{output_file};
 ghost use Rattle.run_course.specs.Asked.{AskFor};
-ghost use Rattle.run_course.specs.World.{world};
+ghost use Rattle.run_course.specs.Outside.{world};
 ghost use Rattle.cached_course.specs.Kept.{HasKept};
 ghost use Rattle.cached_course.specs.Promises.{ReusePromises};
 ghost use Rattle.cached_course.specs.inner.Course.{DeliversKept};

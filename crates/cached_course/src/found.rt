@@ -3,7 +3,7 @@ ghost use Rattle.std.specs.Prelude.{◌≡◌, ◌++◌, ◌∷◌, [], IfOk, Li
 ghost use Rattle.std.specs.Option.{option_flatten};
 ghost use Rattle.std.specs.Vec.Iter.{into_iter_items};
 ghost use Rattle.kept_results.specs.Lists.{found_of};
-ghost use Rattle.kept_results.specs.Sizes.{beside, rested_nodes as rested};
+ghost use Rattle.kept_results.specs.Sizes.{size_pairs, rested_nodes as rested};
 ghost use Rattle.saved_results.specs.declared.saved.Saved.{Saved as Kept};
 ghost use Rattle.cached_course.specs.inner.Found.{IsApart, found_as, next_of};
 
@@ -111,7 +111,7 @@ fn push_found(
     ensures members { OnOk result
         (found.new.members.items ≡ found.old.members.items ++ saved.members ∷ []) }
     ensures known { OnOk result (found.new.known.items ≡ found.old.known.items
-        ++ beside (rested program.now.script number)
+        ++ size_pairs (rested program.now.script number)
         (map (λ size. size.members) saved.sizes)) }
 {
     let Saved { members, sizes } = saved;
@@ -131,7 +131,7 @@ fn push_known(
     known: &mut Vec<(u32, u64)>,
 ) -> Result<(), AllocError>
     ensures { OnOk result (known.new.items ≡ known.old.items
-        ++ beside (rested program.now.script number) (map (λ size. size.members) sizes.now)) }
+        ++ size_pairs (rested program.now.script number) (map (λ size. size.members) sizes.now)) }
 {
     let nodes = rested_nodes(alloc, program, number as usize)?;
     let rested = nodes.as_slice();

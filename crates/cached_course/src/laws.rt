@@ -2,7 +2,7 @@
 ghost use Rattle.std.specs.Prelude.{◌≡◌, List, ℕ};
 ghost use Rattle.cache_store.specs.Seen.{SeenCache};
 ghost use Rattle.run_course.specs.Answers.{IsRefused};
-ghost use Rattle.run_course.specs.World.{Keeps, World};
+ghost use Rattle.run_course.specs.Outside.{Keeps, Outside};
 ghost use Rattle.run_texts.specs.declared.status.Status.TheVariants.{WantOfMemory};
 ghost use Rattle.cached_course.specs.Promises.{ReusePromises};
 ghost use Rattle.cached_course.specs.inner.Laws.{MeantLaw, SoundLaw};
@@ -28,7 +28,7 @@ pub(crate) fn reuse_law()
 
 /// What a call promises that found no memory before it asked for anything.
 pub fn memory_law()
-    ensures { (words : List (List ℕ)) (before after : World) (cache : SeenCache) →
+    ensures { (words : List (List ℕ)) (before after : Outside) (cache : SeenCache) →
         IsRefused WantOfMemory before after → Keeps before after → after.source ≡ before.source →
         after.hosts ≡ before.hosts → ReusePromises words before after cache cache WantOfMemory }
 {

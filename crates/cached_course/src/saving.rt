@@ -151,7 +151,7 @@ fn taken_for(
     requires { it.inputs.items ≡ lists.input_numbers program.script }
     ensures program { IfOk result (λ given. given.program.script
         ≡ with_saved it.found.numbers.items program.script) }
-    ensures lists { IfOk result (λ given. given.lists ≡ lists.given_lists given.program.script
+    ensures lists { IfOk result (λ given. given.lists ≡ lists.rows_given given.program.script
         it.inputs.items rows it.found.members.items) }
     ensures known { IfOk result (λ given. given.known.items ≡ it.found.known.items) }
     ensures missing { IfOk result (λ given. given.missing.items ≡ it.missing.items) }

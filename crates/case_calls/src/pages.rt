@@ -56,7 +56,8 @@ fn print_entry<X: Threads + Sync + Print, C: Caller>(
     println!(rt; "{page}")
 }
 
-fn page_of<X: Threads + Sync, C: Caller>(
+/// What came of the calls of a case, in order, or the mistake in it.
+pub fn page_of<X: Threads + Sync, C: Caller>(
     rt: &X,
     caller: &C,
     alloc: Global,

@@ -4,7 +4,7 @@ use Rattle.std.specs.Bool.{MatchBool}
 use Rattle.std.proofs.lemmas.Bool.Decides.{eqb_tells}
 use Rattle.std.proofs.lemmas.List.Elements.{All-head, All-tail}
 use Rattle.std.specs.Prelude.{All}
-use Rattle.claim_board.specs.Counts.{one_if, times}
+use Rattle.claim_board.specs.Counts.{one_if, times_in_list}
 use Rattle.claim_board.specs.Protocol.{PassState, task_of, attempt_of, drawn, looked, winning, losing}
 use Rattle.claim_board.specs.Boards.{Board, Drawn, IsOpenDraw, Saw, HasWon, HasLost, KeepsClaims, KeepsOtherClaims}
 use Rattle.claim_board.specs.Told.{draw_of}

@@ -7,7 +7,7 @@ use Rattle.std.proofs.lemmas.Nat.{mod-mul-add}
 use mathlib.Core.Option.{some}
 use lib.ListN.{get_elem?}
 use Rattle.std.specs.Prelude.{sum_by, All}
-use Rattle.claim_board.specs.Counts.{one_if, times}
+use Rattle.claim_board.specs.Counts.{one_if, times_in_list}
 use Rattle.claim_board.specs.Protocol.{PassState, limit, of_task, IsGoodPass, IsGood}
 use Rattle.claim_board.specs.Boards.{Board, Pass, Tally, states_of}
 use Rattle.claim_board.specs.Told.{closing_state, draw_of, DrawnOnce, WonOnce, SawWinners, LostToWinners, EndedPastLimit}
@@ -51,7 +51,7 @@ same_test tasks t w d small is = ⊎_elim
 -- the draws of a task that a good pass won are those that name its word
 won_counts : (tasks tries t : ℕ) (words ds : List ℕ) → t < tasks
     → All (λ d. (d < limit tasks tries) × (get_or words (d % tasks) 0 ≡ d / tasks + 1)) ds
-    → of_task tasks t ds ≡ times (draw_of tasks t (get_or words t 0)) ds
+    → of_task tasks t ds ≡ times_in_list (draw_of tasks t (get_or words t 0)) ds
 won_counts tasks tries t words [] small h = refl
 won_counts tasks tries t words (d ∷ ds) small h =
     let W : ℕ → Type 0 =
@@ -65,7 +65,7 @@ won_counts tasks tries t words (d ∷ ds) small h =
 won_totals : (tasks tries t : ℕ) (words : List ℕ) (ps : List PassState) → t < tasks
     → All (IsGoodPass tasks tries words) ps
     → sum_by (λ p. of_task tasks t p.won) ps
-    ≡ sum_by (λ p. times (draw_of tasks t (get_or words t 0)) p.won) ps
+    ≡ sum_by (λ p. times_in_list (draw_of tasks t (get_or words t 0)) p.won) ps
 won_totals tasks tries t words [] small h = refl
 won_totals tasks tries t words (p ∷ ps) small h =
     let good = All-head (IsGoodPass tasks tries words) p ps h in
@@ -76,7 +76,7 @@ won_totals tasks tries t words (p ∷ ps) small h =
     omega (
       arith,
       sum_by-cons (λ (q : PassState). of_task tasks t q.won) p ps,
-      sum_by-cons (λ (q : PassState). times named q.won) p ps,
+      sum_by-cons (λ (q : PassState). times_in_list named q.won) p ps,
     )
 
 module _ (b : Board) (r : Tally) (ps : List Pass) (h : IsGood b.tasks b.tries (closing_state r ps))
@@ -88,7 +88,8 @@ module _ (b : Board) (r : Tally) (ps : List Pass) (h : IsGood b.tasks b.tries (c
         (all_map (IsGoodPass b.tasks b.tries r.winners) P (states_of ps) f h.passes)
 
     pub drawn_once : DrawnOnce r ps
-    drawn_once d = let e = sym (total_states (λ p. times d p.draws) ps) in let o = h.each_once d in
+    drawn_once d =
+        let e = sym (total_states (λ p. times_in_list d p.draws) ps) in let o = h.each_once d in
         ((λ l. e ∙ o.0 l), λ l. e ∙ o.1 l)
 
     pub won_once : WonOnce b r ps
@@ -96,7 +97,8 @@ module _ (b : Board) (r : Tally) (ps : List Pass) (h : IsGood b.tasks b.tries (c
         let o = h.one_winner t small in
         let wins = sym (total_states (λ p. of_task b.tasks t p.won) ps) in
         let same = won_totals b.tasks b.tries t r.winners (states_of ps) small h.passes in
-        let named = sym (total_states (λ p. times (draw_of b.tasks t (get_or r.winners t 0)) p.won)
+        let named =
+        sym (total_states (λ p. times_in_list (draw_of b.tasks t (get_or r.winners t 0)) p.won)
         ps) in
         ((λ z. wins ∙ o.0 z), λ n. (wins ∙ o.1 n, named ∙ (sym same ∙ o.1 n)))
 

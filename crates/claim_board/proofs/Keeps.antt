@@ -6,7 +6,7 @@ use mathlib.Core.Logic.{dite}
 use mathlib.Core.Option.{some}
 use lib.ListN.{get_elem?}
 use Rattle.std.specs.Prelude.{sum_by}
-use Rattle.claim_board.specs.Counts.{one_if, times, times_first}
+use Rattle.claim_board.specs.Counts.{one_if, times_in_list, times_first}
 use Rattle.claim_board.specs.Protocol.{PassState, BoardState, DrewNumber, SawWord, WonTask, LostTask, steps_of, drawn, looked, winning, losing, of_task, IsOpen, IsInOrder, IsGoodPass, IsGood, Event, Draw, Look, Win, Lose, Step}
 use Rattle.std.proofs.lemmas.List.Elements.{All-push}
 use Rattle.std.proofs.lemmas.List.Sums.{sum_by_push}
@@ -78,9 +78,11 @@ module _ (tasks tries : ℕ) where
     lost = h.lost;
     seen = h.seen;
     own = λ x. let p = sum_by_push (λ (y : ℕ). one_if (eqb y x)) v.won d in let o = h.own x in
-        let F : ℕ → Type 0 = λ n. times x v.won + n + times_first x v.lost ≤ times x v.draws in
+        let F : ℕ → Type 0 =
+        λ n. times_in_list x v.won + n + times_first x v.lost ≤ times_in_list x v.draws in
         let q : F (one_if (eqb d x)) = at_test d x F
-        (λ e. subst (λ y. times y v.won + 1 + times_first y v.lost ≤ times y v.draws) e
+        (λ e. subst (λ y. times_in_list y v.won + 1 + times_first y v.lost ≤ times_in_list y
+        v.draws) e
         (let a = may.0 in let b = may.2 in let c = may.3 in omega arith))
         (λ n. omega arith) in omega arith;
   }
@@ -96,9 +98,11 @@ module _ (tasks tries : ℕ) where
     seen = h.seen;
     own = λ x. let p = sum_by_push (λ (y : ℕ × ℕ). one_if (eqb y.0 x)) v.lost
         (d, get_or words (d % tasks) 0) in let o = h.own x in
-        let F : ℕ → Type 0 = λ n. times x v.won + times_first x v.lost + n ≤ times x v.draws in
+        let F : ℕ → Type 0 =
+        λ n. times_in_list x v.won + times_first x v.lost + n ≤ times_in_list x v.draws in
         let q : F (one_if (eqb d x)) = at_test d x F
-        (λ e. subst (λ y. times y v.won + times_first y v.lost + 1 ≤ times y v.draws) e
+        (λ e. subst (λ y. times_in_list y v.won + times_first y v.lost + 1 ≤ times_in_list y
+        v.draws) e
         (let a = may.0 in let b = may.2 in let c = may.3 in omega arith))
         (λ n. omega arith) in omega arith;
   }
@@ -115,7 +119,7 @@ module _ (tasks tries : ℕ) where
   draw_good s p v h at may =
       let w = drawn (tasks * tries) v (steps_of s.passes) s.next in record {
         sized = h.sized;
-        each_once = λ d. let f : PassState → ℕ = λ u. times d u.draws in
+        each_once = λ d. let f : PassState → ℕ = λ u. times_in_list d u.draws in
             let up = total_up f s.passes p (one_if (eqb s.next d)) v w at
             (sum_by_push (λ (x : ℕ). one_if (eqb x d)) v.draws s.next) in
             let before = h.each_once d in
@@ -149,8 +153,10 @@ module _ (tasks tries : ℕ) where
       → IsGood tasks tries record { next = s.next; words = s.words; passes = set s.passes p w }
   still_good s p v w h at draws won good order = record {
     sized = h.sized;
-    each_once = λ d. let same = total_up (λ (u : PassState). times d u.draws) s.passes p 0 v w at
-        (let e : times d w.draws ≡ times d v.draws = ap (times d) draws in omega arith) in let o =
+    each_once =
+        λ d. let same = total_up (λ (u : PassState). times_in_list d u.draws) s.passes p 0 v w at
+        (let e : times_in_list d w.draws ≡ times_in_list d v.draws = ap (times_in_list d) draws in
+        omega arith) in let o =
         h.each_once d in
         ((λ z. let r = o.0 z in omega arith), λ n. let r = o.1 n in omega arith);
     one_winner = λ t small. let same =
@@ -180,7 +186,8 @@ module _ (tasks tries : ℕ) where
       let is : get_or new t 0 ≡ a = get_or-set_same s.words t a 0 inside in
       let stay = stay_set s.words t a empty in record {
         sized = length-set s.words t a ∙ h.sized;
-        each_once = λ x. let same = total_up (λ (u : PassState). times x u.draws) s.passes p 0 v w
+        each_once =
+            λ x. let same = total_up (λ (u : PassState). times_in_list x u.draws) s.passes p 0 v w
             at (omega arith) in let o = h.each_once x in
             ((λ z. let r = o.0 z in omega arith), λ n. let r = o.1 n in omega arith);
         one_winner = λ u small. let f : PassState → ℕ = λ k. of_task tasks u k.won in

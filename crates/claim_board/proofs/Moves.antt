@@ -13,7 +13,7 @@ use prog.Atomic.{either}
 use Rattle.atomic_table.specs.Table.{step, keeps, stepped, Allows}
 use Rattle.claim_board.specs.declared.size.Size.{Size}
 use Rattle.std.specs.Prelude.{sum_by, All}
-use Rattle.claim_board.specs.Counts.{one_if, times}
+use Rattle.claim_board.specs.Counts.{one_if, times_in_list}
 use Rattle.claim_board.specs.Protocol.{PassState, BoardState, steps_of, drawn, looked, winning, losing, of_task, IsOpen, IsGoodPass, IsGood, Draw, Look, Win, Lose}
 use Rattle.claim_board.specs.Seats.{View, limit_at, pass_view, all_passes, task_words, Rule}
 use Rattle.claim_board.specs.inner.Seats.{pass_in, Drawing, Looking, Claiming, Seated, Steps, draw_tells, look_tells, commit_tells}
@@ -26,12 +26,12 @@ use Rattle.claim_board.proofs.Ruling.{place, total_all, total_ones, total_least,
 use Rattle.claim_board.proofs.Stepping.{draw_steps, look_steps, win_steps, lose_steps}
 
 -- each number of a list is one that the list has
-each_member : (xs : List ℕ) → All (λ x. 0 < times x xs) xs
-each_member [] = All-nil (λ (x : ℕ). 0 < times x [])
+each_member : (xs : List ℕ) → All (λ x. 0 < times_in_list x xs) xs
+each_member [] = All-nil (λ (x : ℕ). 0 < times_in_list x [])
 each_member (x ∷ xs) =
     let one = one_if_eq x x refl in
-    All-cons (λ y. 0 < times y (x ∷ xs)) x xs (omega (arith, times-cons x x xs))
-    (all_map (λ y. 0 < times y xs) (λ y. 0 < times y (x ∷ xs)) xs
+    All-cons (λ y. 0 < times_in_list y (x ∷ xs)) x xs (omega (arith, times-cons x x xs))
+    (all_map (λ y. 0 < times_in_list y xs) (λ y. 0 < times_in_list y (x ∷ xs)) xs
     (λ y h. omega (arith, times-cons y x xs)) (each_member xs))
 
 -- a total that is not 0 has a part that is not
@@ -95,8 +95,9 @@ module _ (k : Size) (p : PassState) (slots id : ℕ) where
       let mine = all_at (IsGoodPass k.tasks k.tries (task_words s.words)) (all_passes s.views) pl.0
       p good.passes pl.1 in
       let none = (good.each_once n).1 (omega arith) in
-      let mine_none : times n p.draws
-      ≡ 0 = let a = total_at (λ (v : PassState). times n v.draws) (all_passes s.views) pl.0 p
+      let mine_none : times_in_list n p.draws
+      ≡ 0 =
+      let a = total_at (λ (v : PassState). times_in_list n v.draws) (all_passes s.views) pl.0 p
       pl.1 in omega arith in
       let own = mine.own n in (
         pass_view k q,
@@ -116,10 +117,11 @@ module _ (k : Size) (p : PassState) (slots id : ℕ) where
               omega arith,
               omega arith,
             )),
-            all_map (λ x. 0 < times x p.draws) (λ x. x < n) p.draws
+            all_map (λ x. 0 < times_in_list x p.draws) (λ x. x < n) p.draws
                 (λ x l. ⊎_elim (λ (y : (leb n x ≡ true) × (n ≤ x)). let z =
                 (good.each_once x).1 y.1 in let a =
-                total_at (λ (v : PassState). times x v.draws) (all_passes s.views) pl.0 p pl.1
+                total_at (λ (v : PassState). times_in_list x v.draws) (all_passes s.views) pl.0 p
+                pl.1
                 in absurd (omega arith)) (λ (y : (leb n x ≡ false) × (x < n)). y.1)
                 (leb_tells n x))
                 (each_member p.draws),

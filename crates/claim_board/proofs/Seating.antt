@@ -7,8 +7,8 @@ use Rattle.atomic_table.specs.Table.{Splits, Joins, Final, Seen, opening}
 use Rattle.atomic_table.proofs.Lists.{at_set, at_snoc}
 use Rattle.claim_board.specs.declared.size.Size.{Size}
 use Rattle.std.specs.Prelude.{sum_by, All}
-use Rattle.claim_board.specs.Counts.{one_if, times}
-use Rattle.claim_board.specs.Protocol.{Deed, PassState, BoardState, times_placed, fresh, of_task, IsGoodPass, IsGood}
+use Rattle.claim_board.specs.Counts.{one_if, times_in_list}
+use Rattle.claim_board.specs.Protocol.{Deed, PassState, BoardState, times_placed, pass_begun, of_task, IsGoodPass, IsGood}
 use Rattle.claim_board.specs.Seats.{View, IsSize, maker_view, pass_view, all_passes, task_words, state_of, Rule, spent_view}
 use Rattle.claim_board.specs.inner.Seats.{make_left, make_right, take_over}
 use Rattle.std.proofs.lemmas.List.Elements.{All-push, All-nil, All-cons, All-head}
@@ -41,43 +41,45 @@ fresh_good : (tasks tries : ℕ) (s : BoardState) (m : ℕ) → IsGood tasks tri
       next = s.next;
       words = s.words;
       passes =
-          s.passes ++ fresh m ∷ [];
+          s.passes ++ pass_begun m ∷ [];
     }
 fresh_good tasks tries s m h = record {
   sized = h.sized;
-  each_once = λ d. let p = sum_by_push (λ (v : PassState). times d v.draws) s.passes (fresh m) in
+  each_once =
+      λ d. let p =
+      sum_by_push (λ (v : PassState). times_in_list d v.draws) s.passes (pass_begun m) in
       let o = h.each_once d in
       ((λ l. let a = o.0 l in omega arith), λ l. let a = o.1 l in omega arith);
   one_winner = λ t small. let p =
-      sum_by_push (λ (v : PassState). of_task tasks t v.won) s.passes (fresh m) in let o =
+      sum_by_push (λ (v : PassState). of_task tasks t v.won) s.passes (pass_begun m) in let o =
       h.one_winner t small in
       ((λ l. let a = o.0 l in omega arith), λ l. let a = o.1 l in omega arith);
-  passes = All-push (IsGoodPass tasks tries s.words) s.passes (fresh m) h.passes
+  passes = All-push (IsGoodPass tasks tries s.words) s.passes (pass_begun m) h.passes
       (fresh_pass tasks tries s.words m);
   order = let o = h.order in record {
     deeds = o.deeds;
     lead = o.lead;
-    count = let p = sum_by_push (λ (v : PassState). length v.deeds) s.passes (fresh m) in
+    count = let p = sum_by_push (λ (v : PassState). length v.deeds) s.passes (pass_begun m) in
         let c = o.count in omega arith;
     placed = All-push (λ (v : PassState). All (λ x. get_elem? o.deeds x.0 ≡ some x.1) v.deeds)
-        s.passes (fresh m) o.placed
+        s.passes (pass_begun m) o.placed
         (All-nil (λ (x : ℕ × Deed). get_elem? o.deeds x.0 ≡ some x.1));
     each_once = λ n. let p =
-        sum_by_push (λ (v : PassState). times_placed n v.deeds) s.passes (fresh m) in
+        sum_by_push (λ (v : PassState). times_placed n v.deeds) s.passes (pass_begun m) in
         let e = o.each_once n in
         ((λ l. let a = e.0 l in omega arith), λ l. let a = e.1 l in omega arith);
   };
 }
 
 pub makes : (k : Size) (n : ℕ) (ps : List PassState) → n < k.crew
-    → Splits (Rule k) 0 (maker_view k n ps) (maker_view k (n + 1) ps) (pass_view k (fresh n))
+    → Splits (Rule k) 0 (maker_view k n ps) (maker_view k (n + 1) ps) (pass_view k (pass_begun n))
 makes k n ps some_left s h at =
     let left : View = maker_view k (n + 1) ps in
-    let right : View = pass_view k (fresh n) in
+    let right : View = pass_view k (pass_begun n) in
     let views : List View = set s.views 0 left ++ right ∷ [] in
-    let now : all_passes views ≡ all_passes s.views ++ fresh n ∷ [] =
+    let now : all_passes views ≡ all_passes s.views ++ pass_begun n ∷ [] =
     all_passes-append (set s.views 0 left) (right ∷ [])
-    ∙ ap (λ (l : List PassState). l ++ fresh n ∷ [])
+    ∙ ap (λ (l : List PassState). l ++ pass_begun n ∷ [])
     (all_passes_same s.views 0 (maker_view k n ps) left at refl) in
     let count = made_total s.views (maker_view k n ps) at h.one_maker in
     let made : sum_by (λ (v : View). v.made) views ≡ n + 1 =
@@ -90,7 +92,7 @@ makes k n ps some_left s h at =
     let ended : sum_by (λ (v : PassState). one_if v.ended) (all_passes views)
     ≡ sum_by (λ (v : PassState). one_if v.ended) (all_passes s.views) =
     ap (λ (l : List PassState). sum_by (λ (v : PassState). one_if v.ended) l) now
-    ∙ (sum_by_push (λ (v : PassState). one_if v.ended) (all_passes s.views) (fresh n)
+    ∙ (sum_by_push (λ (v : PassState). one_if v.ended) (all_passes s.views) (pass_begun n)
     ∙ add-zero _) in
     record {
       size = h.size;
@@ -114,7 +116,7 @@ makes k n ps some_left s h at =
           (eqb n x) =
           ap (λ (l : List PassState). sum_by (λ (v : PassState). one_if (eqb v.number x)) l) now
           ∙ sum_by_push (λ (v : PassState). one_if (eqb v.number x)) (all_passes s.views)
-          (fresh n) in
+          (pass_begun n) in
           let T : ℕ = sum_by (λ (v : PassState). one_if (eqb v.number x)) (all_passes s.views) in
           let M : ℕ = sum_by (λ (v : View). v.made) s.views in
           let F : ℕ → Type 0 = λ y. (x < n + 1 → T + y ≡ 1) × (n + 1 ≤ x → T + y ≡ 0) in
@@ -139,7 +141,8 @@ regroup : (tasks tries next : ℕ) (ws : List ℕ) (ps qs : List PassState)
     → IsGood tasks tries record { next = next; words = ws; passes = qs }
 regroup tasks tries next ws ps qs same each h = record {
   sized = h.sized;
-  each_once = λ d. let e = same (λ (v : PassState). times d v.draws) in let o = h.each_once d in
+  each_once =
+      λ d. let e = same (λ (v : PassState). times_in_list d v.draws) in let o = h.each_once d in
       ((λ l. e ∙ o.0 l), λ l. e ∙ o.1 l);
   one_winner = λ t small. let e = same (λ (v : PassState). of_task tasks t v.won) in let o =
       h.one_winner t small in ((λ l. e ∙ o.0 l), λ l. e ∙ o.1 l);

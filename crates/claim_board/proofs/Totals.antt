@@ -6,7 +6,7 @@ use Rattle.std.proofs.lemmas.List.Sums.{sum_by-cons}
 use Rattle.std.specs.Prelude.{All, sum_by}
 use mathlib.Core.Option.{some, some-ne-none, some-injective}
 use lib.ListN.{get_elem?}
-use Rattle.claim_board.specs.Counts.{one_if, times, times_first}
+use Rattle.claim_board.specs.Counts.{one_if, times_in_list, times_first}
 
 module _ {A : Type 0} (f : A → ℕ) where
   pub total_set : (xs : List A) (i : ℕ) (v w : A) → get_elem? xs i ≡ some v
@@ -74,7 +74,7 @@ at_test x y F hit miss = ⊎_elim
     (eqb_tells x y)
 
 -- where no element is d
-pub times_none : (d : ℕ) (xs : List ℕ) → All (λ x. x ≢ d) xs → times d xs ≡ 0
+pub times_none : (d : ℕ) (xs : List ℕ) → All (λ x. x ≢ d) xs → times_in_list d xs ≡ 0
 times_none d xs h =
     total_none (λ (x : ℕ). one_if (eqb x d)) xs
     (all_map (λ x. x ≢ d) (λ x. one_if (eqb x d) ≡ 0) xs (λ x n. one_if_ne x d n) h)
@@ -85,5 +85,6 @@ times_first_none d xs h =
     (all_map (λ x. x.0 ≢ d) (λ x. one_if (eqb x.0 d) ≡ 0) xs (λ x n. one_if_ne x.0 d n) h)
 
 -- one number more in front
-pub times-cons : (d x : ℕ) (xs : List ℕ) → times d (x ∷ xs) ≡ one_if (eqb x d) + times d xs
+pub times-cons : (d x : ℕ) (xs : List ℕ)
+    → times_in_list d (x ∷ xs) ≡ one_if (eqb x d) + times_in_list d xs
 times-cons d x xs = sum_by-cons (λ (y : ℕ). one_if (eqb y d)) x xs

@@ -1,6 +1,6 @@
 -- What callers see of a board, of its passes, of a draw and of a tally.
 use Rattle.std.specs.Prelude.{◌≡◌, ◌≢◌, ℕ, zero, suc, ◌<◌, ◌≤◌, List, [], ◌∷◌, ◌++◌, map, All}
-use Rattle.claim_board.specs.Protocol.{PassState, fresh, drawn, looked, winning, losing, limit, task_of, attempt_of, IsOpen}
+use Rattle.claim_board.specs.Protocol.{PassState, pass_begun, drawn, looked, winning, losing, limit, task_of, attempt_of, IsOpen}
 
 -- a board: a name, by which its passes know it, and its size
 pub record Board : Type 0 where
@@ -37,7 +37,7 @@ limit_of b = limit b.tasks b.tries
 -- n passes with the numbers 0, 1, .. in order, that have done nothing
 abbrev pub fresh_passes : Board → ℕ → List Pass
 fresh_passes b zero = []
-fresh_passes b (suc n) = fresh_passes b n ++ record { board = b; state = fresh n } ∷ []
+fresh_passes b (suc n) = fresh_passes b n ++ record { board = b; state = pass_begun n } ∷ []
 
 -- the passes of a board, as it is made
 abbrev pub new_passes : Board → Passes

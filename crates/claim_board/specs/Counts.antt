@@ -5,8 +5,8 @@ abbrev pub one_if : Bool → ℕ
 one_if b = if b then 1 else 0
 
 -- how often n stands in the list
-abbrev pub times : ℕ → List ℕ → ℕ
-times n xs = count_by (λ x. eqb x n) xs
+abbrev pub times_in_list : ℕ → List ℕ → ℕ
+times_in_list n xs = count_by (λ x. eqb x n) xs
 
 -- how often n stands first in a pair of the list
 abbrev pub times_first : ℕ → List (ℕ × ℕ) → ℕ

@@ -2,8 +2,8 @@
 use Rattle.std.specs.Prelude.{◌≡◌, ◌≢◌, ℕ, ◌+◌, ◌*◌, ◌<◌, ◌≤◌, true, eqb, List, [], ◌∷◌, sum_by}
 use mathlib.Core.Option.{some}
 use lib.ListN.{get_elem?}
-use Rattle.claim_board.specs.Counts.{times, times_first, one_if}
-use Rattle.claim_board.specs.Protocol.{PassState, BoardState, word, Event, Draw, Look, Win, Lose, start, Runs, task_of, limit, IsGood}
+use Rattle.claim_board.specs.Counts.{times_in_list, times_first, one_if}
+use Rattle.claim_board.specs.Protocol.{PassState, BoardState, word_of_task, Event, Draw, Look, Win, Lose, start, Runs, task_of, limit, IsGood}
 
 -- every list of events leads from the start to a good state
 abbrev pub EveryStateIsGood : Type 0
@@ -15,7 +15,8 @@ EveryStateIsGood =
 abbrev pub WordsStay : Type 0
 WordsStay =
     (tasks tries : ℕ) (events : List Event) (old new : BoardState) (t : ℕ)
-    → Runs tasks tries old events new → word old t ≢ 0 → word new t ≡ word old t
+    → Runs tasks tries old events new → word_of_task old t ≢ 0
+    → word_of_task new t ≡ word_of_task old t
 
 -- how often the events win the task
 abbrev pub wins : ℕ → ℕ → List Event → ℕ
@@ -37,9 +38,9 @@ abbrev pub UndecidedWereDrawn : Type 0
 UndecidedWereDrawn =
     (tasks tries : ℕ) (s : BoardState) (i : ℕ) (p : PassState) (t k : ℕ) → IsGood tasks tries s
     → get_elem? s.passes i ≡ some p → p.ended ≡ true
-    → t < tasks → word s t ≡ 0 → k < tries
-    → (sum_by (λ q. times (k * tasks + t) q.draws) s.passes ≡ 1)
-    × (sum_by (λ q. times (k * tasks + t) q.won) s.passes ≡ 0)
+    → t < tasks → word_of_task s t ≡ 0 → k < tries
+    → (sum_by (λ q. times_in_list (k * tasks + t) q.draws) s.passes ≡ 1)
+    × (sum_by (λ q. times_in_list (k * tasks + t) q.won) s.passes ≡ 0)
     × (sum_by (λ q. times_first (k * tasks + t) q.lost) s.passes ≡ 0)
 
 -- where a pass has ended, there were more draws than attempts
@@ -51,4 +52,5 @@ EndedMeansUsedUp =
 -- a word is 0 or one of the tries
 abbrev pub WordsAreTries : Type 0
 WordsAreTries =
-    (tasks tries : ℕ) (s : BoardState) (t : ℕ) → IsGood tasks tries s → t < tasks → word s t ≤ tries
+    (tasks tries : ℕ) (s : BoardState) (t : ℕ) → IsGood tasks tries s → t < tasks
+    → word_of_task s t ≤ tries

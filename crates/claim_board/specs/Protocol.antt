@@ -5,7 +5,7 @@
 use Rattle.std.specs.Prelude.{◌≡◌, ◌≢◌, ℕ, zero, suc, ◌+◌, ◌*◌, ◌/◌, ◌%◌, ◌<◌, ◌≤◌, Bool, false, eqb, leb, ◌⊎◌, List, [], ◌∷◌, ◌++◌, length, slice_index, slice_set, replicate, All, sum_by, count_by}
 use mathlib.Core.Option.{some}
 use lib.ListN.{get_elem?}
-use Rattle.claim_board.specs.Counts.{one_if, times, times_first, from_on}
+use Rattle.claim_board.specs.Counts.{one_if, times_in_list, times_first, from_on}
 
 -- what a pass does in one step, and what it finds: it draws a number, looks at a task and sees a
 -- word, wins the task of a draw, or loses it to a word
@@ -33,8 +33,8 @@ pub record BoardState : Type 0 where
   pub words : List ℕ
   pub passes : List PassState
 
-abbrev pub word : BoardState → ℕ → ℕ
-word s t = slice_index s.words t
+abbrev pub word_of_task : BoardState → ℕ → ℕ
+word_of_task s t = slice_index s.words t
 
 -- the task of a draw
 abbrev pub task_of : ℕ → ℕ → ℕ
@@ -57,8 +57,8 @@ abbrev pub of_task : ℕ → ℕ → List ℕ → ℕ
 of_task tasks t xs = count_by (λ d. eqb (task_of tasks d) t) xs
 
 -- a pass that has done nothing
-abbrev pub fresh : ℕ → PassState
-fresh number = record {
+abbrev pub pass_begun : ℕ → PassState
+pass_begun number = record {
   number = number;
   draws = [];
   seen = [];
@@ -110,7 +110,7 @@ pub data Event : Type 0 where
 -- the passes k, k + 1, .., as many as n, that have done nothing
 abbrev pub fresh_from : ℕ → ℕ → List PassState
 fresh_from k zero = []
-fresh_from k (suc n) = fresh k ∷ fresh_from (k + 1) n
+fresh_from k (suc n) = pass_begun k ∷ fresh_from (k + 1) n
 
 abbrev pub start : ℕ → ℕ → BoardState
 start tasks crew = record { next = 0; words = replicate tasks 0; passes = fresh_from 0 crew }
@@ -119,7 +119,7 @@ module _ (tasks tries : ℕ) where
   -- d is a draw of the pass below the limit, neither won nor lost: it may claim its task
   abbrev pub IsOpen : PassState → ℕ → Type 0
   IsOpen p d =
-      (0 < times d p.draws) × (d < limit tasks tries) × (times d p.won ≡ 0)
+      (0 < times_in_list d p.draws) × (d < limit tasks tries) × (times_in_list d p.won ≡ 0)
       × (times_first d p.lost ≡ 0)
 
   -- the event leads from the old state to the new one
@@ -134,22 +134,22 @@ module _ (tasks tries : ℕ) where
   Step old (Look i t) new =
       (p : PassState) × (get_elem? old.passes i ≡ some p) × (t < tasks)
       × (new ≡ record old {
-        passes = slice_set old.passes i (looked p (steps_of old.passes) t (word old t));
+        passes = slice_set old.passes i (looked p (steps_of old.passes) t (word_of_task old t));
       })
   Step old (Win i d) new =
       (p : PassState) × (get_elem? old.passes i ≡ some p) × IsOpen p d
-      × (word old (task_of tasks d) ≡ 0)
+      × (word_of_task old (task_of tasks d) ≡ 0)
       × (new ≡ record old {
         words = slice_set old.words (task_of tasks d) (attempt_of tasks d);
         passes = slice_set old.passes i (winning p (steps_of old.passes) d);
       })
   Step old (Lose i d) new =
       (p : PassState) × (get_elem? old.passes i ≡ some p) × IsOpen p d
-      × (word old (task_of tasks d) ≢ 0)
+      × (word_of_task old (task_of tasks d) ≢ 0)
       × (new ≡ record old {
         passes =
             slice_set old.passes i
-            (losing p (steps_of old.passes) d (word old (task_of tasks d)));
+            (losing p (steps_of old.passes) d (word_of_task old (task_of tasks d)));
       })
 
   -- the events lead from the old state to the new one
@@ -197,19 +197,19 @@ module _ (tasks tries : ℕ) where
     -- each word that it saw is 0 or the word that stands
     pub seen : All (λ x. (x.0 < tasks) × ((x.1 ≡ 0) ⊎ (slice_index words x.0 ≡ x.1))) p.seen
     -- what it won or lost are draws of its own, each in one of the two lists at most, and once
-    pub own : (d : ℕ) → times d p.won + times_first d p.lost ≤ times d p.draws
+    pub own : (d : ℕ) → times_in_list d p.won + times_first d p.lost ≤ times_in_list d p.draws
 
   pub record IsGood (s : BoardState) : Type 0 where
     pub sized : length s.words ≡ tasks
     -- the draws of all passes together are the numbers below `next`, each once
     pub each_once : (d : ℕ) →
-        (d < s.next → sum_by (λ p. times d p.draws) s.passes ≡ 1)
-        × (s.next ≤ d → sum_by (λ p. times d p.draws) s.passes ≡ 0)
+        (d < s.next → sum_by (λ p. times_in_list d p.draws) s.passes ≡ 1)
+        × (s.next ≤ d → sum_by (λ p. times_in_list d p.draws) s.passes ≡ 0)
     -- of each task just one draw is in the won lists of all passes where its word is not 0,
     -- and none where it is 0
     pub one_winner : (t : ℕ) → t < tasks →
-        (word s t ≡ 0 → sum_by (λ p. of_task tasks t p.won) s.passes ≡ 0)
-        × (word s t ≢ 0 → sum_by (λ p. of_task tasks t p.won) s.passes ≡ 1)
+        (word_of_task s t ≡ 0 → sum_by (λ p. of_task tasks t p.won) s.passes ≡ 0)
+        × (word_of_task s t ≢ 0 → sum_by (λ p. of_task tasks t p.won) s.passes ≡ 1)
     pub passes : All (IsGoodPass s.words) s.passes
     -- in the one order of their steps, what each pass has found is what stood there
     pub order : IsInOrder s

@@ -50,8 +50,8 @@ abbrev pub state_of : List ℕ → List View → BoardState
 state_of ws vs = words_state ws (all_passes vs)
 
 -- how many passes the seats have made, and how many they stand for
-abbrev pub all_made : List View → ℕ
-all_made vs = sum_by (λ v. v.made) vs
+abbrev pub passes_made : List View → ℕ
+passes_made vs = sum_by (λ v. v.made) vs
 
 abbrev pub all_held : List View → ℕ
 all_held vs = sum_by (λ v. length v.passes) vs
@@ -71,10 +71,10 @@ pub record Rule (k : Size) (s : TableState (Unit {0}) View) : Type 0 where
   pub room : slice_index s.words 0 ≤ limit_at k + all_ended (all_passes s.views)
   -- only the first seat makes passes
   pub one_maker : (j : ℕ) (v : View) → get_elem? s.views j ≡ some v → j ≢ 0 → v.made ≡ 0
-  pub few : all_made s.views ≤ k.crew
+  pub few : passes_made s.views ≤ k.crew
   -- the passes, with those that were taken over, have the numbers below the count of those made,
   -- each once
-  pub counted : all_held s.views ≡ all_made s.views
+  pub counted : all_held s.views ≡ passes_made s.views
   pub numbers : (x : ℕ) →
-      (x < all_made s.views → all_numbered x (all_passes s.views) ≡ 1)
-      × (all_made s.views ≤ x → all_numbered x (all_passes s.views) ≡ 0)
+      (x < passes_made s.views → all_numbered x (all_passes s.views) ≡ 1)
+      × (passes_made s.views ≤ x → all_numbered x (all_passes s.views) ≡ 0)

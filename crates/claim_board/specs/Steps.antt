@@ -5,7 +5,7 @@ use mathlib.Core.Option.{some}
 use lib.ListN.{get_elem?}
 use Rattle.atomic_table.specs.Table.{Splits, Joins, State as TableState}
 use Rattle.claim_board.specs.declared.size.Size.{Size}
-use Rattle.claim_board.specs.Protocol.{PassState, fresh, steps_of, drawn, looked, winning, losing, task_of, attempt_of, IsOpen, Event, Draw, Look, Win, Lose, Step}
+use Rattle.claim_board.specs.Protocol.{PassState, pass_begun, steps_of, drawn, looked, winning, losing, task_of, attempt_of, IsOpen, Event, Draw, Look, Win, Lose, Step}
 use Rattle.claim_board.specs.Seats.{View, limit_at, maker_view, pass_view, spent_view, all_passes, state_of, Rule}
 
 -- a state of the table
@@ -72,7 +72,7 @@ LoseSteps =
 abbrev pub MakeSteps : Type 0
 MakeSteps =
     (k : Size) (n : ℕ) (ps : List PassState) → n < k.crew
-    → Splits (Rule k) 0 (maker_view k n ps) (maker_view k (n + 1) ps) (pass_view k (fresh n))
+    → Splits (Rule k) 0 (maker_view k n ps) (maker_view k (n + 1) ps) (pass_view k (pass_begun n))
 
 -- the maker takes a pass over, under its number, and leaves a spent view
 abbrev pub JoinSteps : Type 0

@@ -1,6 +1,6 @@
 -- What a closed board tells of the passes that it was closed with.
 use Rattle.std.specs.Prelude.{◌≡◌, ◌≢◌, ℕ, ◌+◌, ◌-◌, ◌*◌, ◌<◌, ◌≤◌, true, ◌⊎◌, List, slice_index, All, sum_by}
-use Rattle.claim_board.specs.Counts.{times}
+use Rattle.claim_board.specs.Counts.{times_in_list}
 use Rattle.claim_board.specs.Protocol.{BoardState, task_of, of_task}
 use Rattle.claim_board.specs.Boards.{Board, Pass, Tally, limit_of, states_of}
 
@@ -10,10 +10,10 @@ closing_state r ps = record { next = r.draws; words = r.winners; passes = states
 
 -- how often the draw d is in the draws, and in the won lists, of all passes
 abbrev pub times_drawn : ℕ → List Pass → ℕ
-times_drawn d ps = sum_by (λ p. times d p.state.draws) ps
+times_drawn d ps = sum_by (λ p. times_in_list d p.state.draws) ps
 
 abbrev pub times_won : ℕ → List Pass → ℕ
-times_won d ps = sum_by (λ p. times d p.state.won) ps
+times_won d ps = sum_by (λ p. times_in_list d p.state.won) ps
 
 -- how many draws of the task are in the won lists of all passes
 abbrev pub wins_of : ℕ → ℕ → List Pass → ℕ

@@ -17,7 +17,7 @@ use Rattle.flume_value.proofs.BagLemmas.{IsSorted-bag_of, bag_of-settled, bag_of
 use Rattle.combine_table.specs.declared.comb.Comb.{Comb}
 use Rattle.combine_table.specs.declared.comb.Comb.TheVariants as by
 use Rattle.combine_table.specs.Contents.{truth_of, wide_or_zero, sum_in, count_in, first_wide, second_wide}
-use Rattle.combine_table.specs.Combinations.{total, wrapped, least, greatest, distinct}
+use Rattle.combine_table.specs.Combinations.{int_total, wrapped, least, greatest, distinct}
 use Rattle.combine_table.specs.Accumulators.{sum_and_count, accumulator, IsWideAt, AreTwoWide, HasShapeAt, HasShape, merged}
 use Rattle.combine_table.proofs.Kept.{IsKept, bag_of-kept, kept-assoc, least-IsKept, greatest-IsKept, length-greatest, greatest-all}
 use Rattle.combine_table.proofs.Repeats.{distinct-IsKept, distinct-ascends, distinct-settled, strict_sorted}
@@ -55,7 +55,7 @@ top_shape n xs =
     )
 
 pub accumulator-HasShape : (c : Comb) (xs : List Value) → HasShape c (accumulator c (bag_of xs))
-accumulator-HasShape by.Sum xs = wide_shape by.Sum (total (bag_of xs)) (λ k h. h)
+accumulator-HasShape by.Sum xs = wide_shape by.Sum (int_total (bag_of xs)) (λ k h. h)
 accumulator-HasShape by.Count xs = wide_shape by.Count (pos (length (bag_of xs))) (λ k h. h)
 accumulator-HasShape by.Min xs = list_shape by.Min
     (least 1 (bag_of xs)) (omega (arith, length-take 1 (bag_of xs)))
@@ -64,7 +64,7 @@ accumulator-HasShape by.Max xs =
 accumulator-HasShape by.All xs = bool_shape by.All (list_all truth_of (bag_of xs)) tt
 accumulator-HasShape by.Any xs = bool_shape by.Any (list_any truth_of (bag_of xs)) tt
 accumulator-HasShape (by.Top n) xs = top_shape n xs
-accumulator-HasShape by.Mean xs = mean_shape (total (bag_of xs)) (pos (length (bag_of xs)))
+accumulator-HasShape by.Mean xs = mean_shape (int_total (bag_of xs)) (pos (length (bag_of xs)))
 accumulator-HasShape by.Distinct xs =
     list_shape by.Distinct (distinct (bag_of xs)) (distinct-ascends xs)
 

@@ -12,7 +12,7 @@ use Rattle.flume_value.proofs.BagLemmas.{length-bag_of}
 use Rattle.combine_table.specs.declared.comb.Comb.{Comb}
 use Rattle.combine_table.specs.declared.comb.Comb.TheVariants as by
 use Rattle.combine_table.specs.Contents.{int_or_zero, truth_of, wide_or_zero, first_wide, second_wide, sum_in, count_in}
-use Rattle.combine_table.specs.Combinations.{total, wrapped, least, greatest, combined, int_or_overflow, first_or_bad_index, mean, distinct}
+use Rattle.combine_table.specs.Combinations.{int_total, wrapped, least, greatest, combined, int_or_overflow, first_or_bad_index, mean, distinct}
 use Rattle.combine_table.specs.Accumulators.{sum_and_count, accumulator, merged, finished}
 use Rattle.combine_table.proofs.Kept.{IsKept, kept-append, least-IsKept, greatest-IsKept}
 use Rattle.combine_table.proofs.Repeats.{distinct-IsKept}
@@ -62,7 +62,7 @@ count_in-both s c =
 -- ---- finish
 
 pub finished-accumulator : (c : Comb) (b : List Value) → finished c (accumulator c b) ≡ combined c b
-finished-accumulator by.Sum b = ap int_or_overflow (wide_or_zero-Wide (wrapped (total b)))
+finished-accumulator by.Sum b = ap int_or_overflow (wide_or_zero-Wide (wrapped (int_total b)))
 finished-accumulator by.Count b = ap int_or_overflow (wide_or_zero-Wide (wrapped (pos (length b))))
 finished-accumulator by.Min b = ap first_or_bad_index (members_or_none-List (least 1 b))
 finished-accumulator by.Max b = ap first_or_bad_index (members_or_none-List (greatest 1 b))
@@ -71,8 +71,9 @@ finished-accumulator by.Any b = refl
 finished-accumulator (by.Top n) b = refl
 finished-accumulator by.Mean b =
     ap (λ (n : ℤ). mean n (count_in (accumulator by.Mean b)))
-    (sum_in-both (wrapped (total b)) (wrapped (pos (length b))))
-    ∙ ap (mean (wrapped (total b))) (count_in-both (wrapped (total b)) (wrapped (pos (length b))))
+    (sum_in-both (wrapped (int_total b)) (wrapped (pos (length b))))
+    ∙ ap (mean (wrapped (int_total b))) (count_in-both (wrapped (int_total b))
+    (wrapped (pos (length b))))
 finished-accumulator by.Distinct b = refl
 
 -- ---- merge
@@ -88,10 +89,10 @@ wide m n k e =
     ∙ ap value.Wide (int_wrap-add_left w128 m (wrapped n) ∙ int_wrap-add_right w128 m n ∙ e)
 
 total_of_both : (xs ys : List Value)
-    → total (bag_of xs) +ℤ total (bag_of ys) ≡ total (bag_of (xs ++ ys))
+    → int_total (bag_of xs) +ℤ int_total (bag_of ys) ≡ int_total (bag_of (xs ++ ys))
 total_of_both xs ys =
-    ap (λ n. n +ℤ total (bag_of ys)) (total-bag_of xs)
-    ∙ ap (λ n. total xs +ℤ n) (total-bag_of ys) ∙ sym (total-append xs ys)
+    ap (λ n. n +ℤ int_total (bag_of ys)) (total-bag_of xs)
+    ∙ ap (λ n. int_total xs +ℤ n) (total-bag_of ys) ∙ sym (total-append xs ys)
     ∙ sym (total-bag_of (xs ++ ys))
 
 length_of_both : (xs ys : List Value)
@@ -106,13 +107,14 @@ length_of_both xs ys =
     )
 
 -- the sums and the counts of two parts, added
-sums_added : (m n : ℤ) (xs ys : List Value) → m ≡ wrapped (total (bag_of xs))
-    → n ≡ wrapped (total (bag_of ys)) → wrapped (m +ℤ n) ≡ wrapped (total (bag_of (xs ++ ys)))
+sums_added : (m n : ℤ) (xs ys : List Value) → m ≡ wrapped (int_total (bag_of xs))
+    → n ≡ wrapped (int_total (bag_of ys))
+    → wrapped (m +ℤ n) ≡ wrapped (int_total (bag_of (xs ++ ys)))
 sums_added m n xs ys left right =
     ap (λ (k : ℤ). wrapped (k +ℤ n)) left
-    ∙ ap (λ (k : ℤ). wrapped (wrapped (total (bag_of xs)) +ℤ k)) right
-    ∙ int_wrap-add_left w128 (total (bag_of xs)) (wrapped (total (bag_of ys)))
-    ∙ int_wrap-add_right w128 (total (bag_of xs)) (total (bag_of ys))
+    ∙ ap (λ (k : ℤ). wrapped (wrapped (int_total (bag_of xs)) +ℤ k)) right
+    ∙ int_wrap-add_left w128 (int_total (bag_of xs)) (wrapped (int_total (bag_of ys)))
+    ∙ int_wrap-add_right w128 (int_total (bag_of xs)) (int_total (bag_of ys))
     ∙ ap wrapped (total_of_both xs ys)
 
 counts_added : (m n : ℤ) (xs ys : List Value) → m ≡ wrapped (pos (length (bag_of xs)))
@@ -129,13 +131,13 @@ means_merged : (xs ys : List Value)
     → merged by.Mean (accumulator by.Mean (bag_of xs)) (accumulator by.Mean (bag_of ys))
     ≡ accumulator by.Mean (bag_of (xs ++ ys))
 means_merged xs ys =
-    let m = wrapped (total (bag_of xs)) in let n = wrapped (total (bag_of ys)) in
+    let m = wrapped (int_total (bag_of xs)) in let n = wrapped (int_total (bag_of ys)) in
     let j = wrapped (pos (length (bag_of xs))) in let k = wrapped (pos (length (bag_of ys))) in
     ap (λ (s : ℤ). sum_and_count s
     (wrapped (count_in (sum_and_count m j) +ℤ count_in (sum_and_count n k))))
     (sums_added (sum_in (sum_and_count m j)) (sum_in (sum_and_count n k)) xs ys (sum_in-both m j)
     (sum_in-both n k))
-    ∙ ap (sum_and_count (wrapped (total (bag_of (xs ++ ys)))))
+    ∙ ap (sum_and_count (wrapped (int_total (bag_of (xs ++ ys)))))
     (counts_added (count_in (sum_and_count m j)) (count_in (sum_and_count n k)) xs ys
     (count_in-both m j) (count_in-both n k))
 
@@ -157,7 +159,7 @@ pub merged-accumulator : (c : Comb) (xs ys : List Value)
     → merged c (accumulator c (bag_of xs)) (accumulator c (bag_of ys)) ≡ accumulator c
     (bag_of (xs ++ ys))
 merged-accumulator by.Sum xs ys =
-    wide (total (bag_of xs)) (total (bag_of ys)) (wrapped (total (bag_of (xs ++ ys))))
+    wide (int_total (bag_of xs)) (int_total (bag_of ys)) (wrapped (int_total (bag_of (xs ++ ys))))
     (ap wrapped (total_of_both xs ys))
 merged-accumulator by.Count xs ys =
     wide (pos (length (bag_of xs))) (pos (length (bag_of ys)))

@@ -11,7 +11,7 @@ use Rattle.flume_value.specs.Equality.{value_eq}
 use Rattle.flume_value.specs.Bag.{bag_of}
 use Rattle.flume_value.proofs.OrderLemmas.{value_cmp-step}
 use Rattle.combine_table.specs.declared.comb.Comb.TheVariants as by
-use Rattle.combine_table.specs.Combinations.{total, wrapped, mean, combined, distinct, quotient, IsQuotient}
+use Rattle.combine_table.specs.Combinations.{int_total, wrapped, mean, combined, distinct, mean_quotient, IsQuotient}
 use Rattle.combine_table.proofs.Means.{combined-Mean}
 use Rattle.combine_table.proofs.Parts.{int_or_zero-Int}
 
@@ -21,7 +21,7 @@ mean_of_two : (m n : ℤ) → combined by.Mean (bag_of (value.Int m ∷ value.In
     ≡ mean (wrapped (m +ℤ (n +ℤ pos 0))) (wrapped (pos 2))
 mean_of_two m n =
     combined-Mean (value.Int m ∷ value.Int n ∷ [])
-    ∙ ap (λ (k : ℤ). mean (wrapped (k +ℤ total (value.Int n ∷ []))) (wrapped (pos 2)))
+    ∙ ap (λ (k : ℤ). mean (wrapped (k +ℤ int_total (value.Int n ∷ []))) (wrapped (pos 2)))
     (int_or_zero-Int m)
     ∙ ap (λ (k : ℤ). mean (wrapped (m +ℤ (k +ℤ pos 0))) (wrapped (pos 2))) (int_or_zero-Int n)
 
@@ -71,11 +71,11 @@ repeated =
 div_is : (n c q : ℕ) → 0 < c → q * c ≤ n → n < q * c + c → q ≡ n / c
 div_is n c q h low high = grind arith
 
-at_quotient : (s : ℤ) (c : ℕ) → 0 < c → IsQuotient s c (quotient s c)
+at_quotient : (s : ℤ) (c : ℕ) → 0 < c → IsQuotient s c (mean_quotient s c)
 at_quotient (pos a) c h = (grind (arith, ints), grind (arith, ints))
 at_quotient (negsuc a) c h = (grind (arith, ints), grind (arith, ints))
 
-is_quotient : (s q : ℤ) (c : ℕ) → 0 < c → IsQuotient s c q → q ≡ quotient s c
+is_quotient : (s q : ℤ) (c : ℕ) → 0 < c → IsQuotient s c q → q ≡ mean_quotient s c
 is_quotient (pos a) (pos n) c h w =
     ap pos (div_is a c n h (grind (arith, ints, w.0)) (grind (arith, ints, w.1)))
 is_quotient (pos a) (negsuc n) c h w = absurd (grind (arith, ints, w.1))
@@ -83,7 +83,7 @@ is_quotient (negsuc a) (pos n) c h w = absurd (grind (arith, ints, w.0))
 is_quotient (negsuc a) (negsuc n) c h w =
     ap negsuc (div_is a c n h (grind (arith, ints, w.1)) (grind (arith, ints, w.0)))
 
-pub quotient_is : (s q : ℤ) (c : ℕ) → 0 < c → (q ≡ quotient s c) ↔ IsQuotient s c q
+pub quotient_is : (s q : ℤ) (c : ℕ) → 0 < c → (q ≡ mean_quotient s c) ↔ IsQuotient s c q
 quotient_is s q c h = (
   λ e. subst (IsQuotient s c) (sym e) (at_quotient s c h),
   is_quotient s q c h,

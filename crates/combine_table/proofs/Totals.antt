@@ -13,7 +13,7 @@ use Rattle.flume_value.specs.Order.{value_cmp}
 use Rattle.flume_value.specs.Bag.{put, bag_of}
 use Rattle.flume_value.proofs.BagLemmas.{length-bag_of}
 use Rattle.combine_table.specs.Contents.{int_or_zero}
-use Rattle.combine_table.specs.Combinations.{total, wrapped}
+use Rattle.combine_table.specs.Combinations.{int_total, wrapped}
 
 -- F takes in one member after the other, in any order
 module _ (X : Type 0) (F : List Value → X) (step : Value → X → X)
@@ -46,9 +46,9 @@ or_swap false b c = refl
 or_swap true true c = refl
 or_swap true false c = refl
 
-pub total-bag_of : (xs : List Value) → total (bag_of xs) ≡ total xs
+pub total-bag_of : (xs : List Value) → int_total (bag_of xs) ≡ int_total xs
 total-bag_of =
-    of_bag_of ℤ total (λ v n. int_or_zero v +ℤ n) (λ v vs. refl)
+    of_bag_of ℤ int_total (λ v n. int_or_zero v +ℤ n) (λ v vs. refl)
     (λ v w n. add_swap (int_or_zero v) (int_or_zero w) n)
 
 pub list_all-bag_of : (p : Value → Bool) (xs : List Value) → list_all p (bag_of xs) ≡ list_all p xs
@@ -59,28 +59,29 @@ pub list_any-bag_of : (p : Value → Bool) (xs : List Value) → list_any p (bag
 list_any-bag_of p =
     of_bag_of Bool (list_any p) (λ v b. p v || b) (λ v vs. refl) (λ v w b. or_swap (p v) (p w) b)
 
-pub total-append : (xs ys : List Value) → total (xs ++ ys) ≡ total xs +ℤ total ys
-total-append [] ys = sym (+ℤ_idl (total ys))
+pub total-append : (xs ys : List Value) → int_total (xs ++ ys) ≡ int_total xs +ℤ int_total ys
+total-append [] ys = sym (+ℤ_idl (int_total ys))
 total-append (x ∷ xs) ys = ap (λ n. int_or_zero x +ℤ n) (total-append xs ys)
-    ∙ sym (+ℤ_assoc (int_or_zero x) (total xs) (total ys))
+    ∙ sym (+ℤ_assoc (int_or_zero x) (int_total xs) (int_total ys))
 
 total_more : (xs : List Value) (i : ℕ) (d : Value) → i < length xs
-    → total (take (i + 1) xs) ≡ total (take i xs) +ℤ int_or_zero (get_or xs i d)
-total_more xs i d h = ap total (take_more xs i d h) ∙ total-append (take i xs) (get_or xs i d ∷ [])
-    ∙ ap (λ n. total (take i xs) +ℤ n) (+ℤ_idr (int_or_zero (get_or xs i d)))
+    → int_total (take (i + 1) xs) ≡ int_total (take i xs) +ℤ int_or_zero (get_or xs i d)
+total_more xs i d h =
+    ap int_total (take_more xs i d h) ∙ total-append (take i xs) (get_or xs i d ∷ [])
+    ∙ ap (λ n. int_total (take i xs) +ℤ n) (+ℤ_idr (int_or_zero (get_or xs i d)))
 
 -- a loop's step: m are the bits of the sum so far
 pub wrapped-total_more : (xs : List Value) (i : ℕ) (v : Value) (m : ℕ) (n : ℤ) → i < length xs
     → v ≡ get_or xs i v → m < 2 ^ bits w128 → FitsSigned w128 n → n ≡ int_or_zero v
-    → cast_signed w128 m ≡ wrapped (total (take i xs))
+    → cast_signed w128 m ≡ wrapped (int_total (take i xs))
     → cast_signed w128 ((m + cast_unsigned w128 n) % 2 ^ bits w128) ≡ wrapped
-    (total (take (i + 1) xs))
+    (int_total (take (i + 1) xs))
 wrapped-total_more xs i v m n within is m_fits n_fits value so_far =
     wrapping_add_onto w128 m n m_fits n_fits
     ∙ ap (λ k. wrapped (k +ℤ n)) so_far
-    ∙ int_wrap-add_left w128 (total (take i xs)) n
+    ∙ int_wrap-add_left w128 (int_total (take i xs)) n
     ∙ ap wrapped
-    (ap (λ k. total (take i xs) +ℤ k) (value ∙ ap int_or_zero is)
+    (ap (λ k. int_total (take i xs) +ℤ k) (value ∙ ap int_or_zero is)
     ∙ sym (total_more xs i v within))
 
 pub ruleset bags = (total-bag_of, list_all-bag_of, list_any-bag_of, length-bag_of)

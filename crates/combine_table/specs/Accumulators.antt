@@ -13,7 +13,7 @@ use Rattle.flume_value.specs.Parts.{members_or_none}
 use Rattle.combine_table.specs.declared.comb.Comb.{Comb}
 use Rattle.combine_table.specs.declared.comb.Comb.TheVariants as by
 use Rattle.combine_table.specs.Contents.{truth_of, wide_or_zero, sum_in, count_in}
-use Rattle.combine_table.specs.Combinations.{total, wrapped, least, greatest, int_or_overflow, first_or_bad_index, mean, distinct}
+use Rattle.combine_table.specs.Combinations.{int_total, wrapped, least, greatest, int_or_overflow, first_or_bad_index, mean, distinct}
 
 -- a sum beside a count
 abbrev pub sum_and_count : ℤ → ℤ → Value
@@ -21,14 +21,14 @@ sum_and_count s c = value.Rec (value.Wide s ∷ value.Wide c ∷ [])
 
 -- the accumulator that stands for a bag
 abbrev pub accumulator : Comb → List Value → Value
-accumulator by.Sum b = value.Wide (wrapped (total b))
+accumulator by.Sum b = value.Wide (wrapped (int_total b))
 accumulator by.Count b = value.Wide (wrapped (pos (length b)))
 accumulator by.Min b = value.List (least 1 b)
 accumulator by.Max b = value.List (greatest 1 b)
 accumulator by.All b = value.Bool (list_all truth_of b)
 accumulator by.Any b = value.Bool (list_any truth_of b)
 accumulator (by.Top n) b = value.List (greatest n b)
-accumulator by.Mean b = sum_and_count (wrapped (total b)) (wrapped (pos (length b)))
+accumulator by.Mean b = sum_and_count (wrapped (int_total b)) (wrapped (pos (length b)))
 accumulator by.Distinct b = value.List (distinct b)
 
 -- a number of 128 bits

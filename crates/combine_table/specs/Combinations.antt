@@ -23,9 +23,9 @@ Suits by.Mean v = IsInt v
 Suits _ v = Unit {0}
 
 -- the sum of a bag's ints
-abbrev pub total : List Value → ℤ
-total [] = pos 0
-total (v ∷ vs) = int_or_zero v +ℤ total vs
+abbrev pub int_total : List Value → ℤ
+int_total [] = pos 0
+int_total (v ∷ vs) = int_or_zero v +ℤ int_total vs
 
 -- a number as 128 bits with a sign hold it
 abbrev pub wrapped : ℤ → ℤ
@@ -40,13 +40,13 @@ abbrev pub IsQuotient : ℤ → ℕ → ℤ → Type 0
 IsQuotient s c q = ((q *ℤ pos c) ≤ℤ s) × (s <ℤ ((q *ℤ pos c) +ℤ pos c))
 
 -- the one such quotient
-abbrev pub quotient : ℤ → ℕ → ℤ
-quotient s c = int_div_euclid s (pos c)
+abbrev pub mean_quotient : ℤ → ℕ → ℤ
+mean_quotient s c = int_div_euclid s (pos c)
 
 -- the mean of values with that sum and count
 abbrev pub mean : ℤ → ℤ → Result Value Kind
 mean s (pos zero) = Err BadIndex
-mean s (pos (suc n)) = int_or_overflow (quotient s (suc n))
+mean s (pos (suc n)) = int_or_overflow (mean_quotient s (suc n))
 mean s (negsuc n) = Err Overflow
 
 -- the first n members of a bag, all where there are fewer
@@ -68,14 +68,14 @@ first_or_bad_index (v ∷ vs) = Ok v
 
 -- what the values come to, or why they trap
 abbrev pub combined : Comb → List Value → Result Value Kind
-combined by.Sum b = int_or_overflow (wrapped (total b))
+combined by.Sum b = int_or_overflow (wrapped (int_total b))
 combined by.Count b = int_or_overflow (wrapped (pos (length b)))
 combined by.Min b = first_or_bad_index (least 1 b)
 combined by.Max b = first_or_bad_index (greatest 1 b)
 combined by.All b = Ok (value.Bool (list_all truth_of b))
 combined by.Any b = Ok (value.Bool (list_any truth_of b))
 combined (by.Top n) b = Ok (value.List (greatest n b))
-combined by.Mean b = mean (wrapped (total b)) (wrapped (pos (length b)))
+combined by.Mean b = mean (wrapped (int_total b)) (wrapped (pos (length b)))
 combined by.Distinct b = Ok (value.List (distinct b))
 
 -- the answer of a call that takes no memory

@@ -6,7 +6,7 @@ ghost use Rattle.flume_value.specs.declared.fault.Kind.TheVariants.{BadIndex};
 ghost use Rattle.flume_value.specs.Bag.{bag_of};
 ghost use Rattle.combine_table.specs.declared.comb.Comb.{Comb};
 ghost use Rattle.combine_table.specs.declared.comb.Comb.TheVariants as by;
-ghost use Rattle.combine_table.specs.Combinations.{combined, quotient, IsQuotient};
+ghost use Rattle.combine_table.specs.Combinations.{combined, mean_quotient, IsQuotient};
 ghost use Rattle.combine_table.specs.Accumulators.{accumulator, HasShape, merged, finished};
 
 /// A bag may be combined in parts, in any order, with any merges of the parts' accumulators.
@@ -32,7 +32,7 @@ pub fn merge_law()
 
 /// The quotient is rounded down, and no other number is.
 pub fn quotient_law()
-    ensures { (s q : ℤ) (c : ℕ) → 0 < c → (q ≡ quotient s c) ↔ IsQuotient s c q }
+    ensures { (s q : ℤ) (c : ℕ) → 0 < c → (q ≡ mean_quotient s c) ↔ IsQuotient s c q }
 {}
 
 /// What some bags are combined to.

@@ -4,7 +4,7 @@ ghost use Rattle.std.specs.List.{list_all, list_any};
 ghost use Rattle.std.specs.Option.{option_copied, option_to_list};
 ghost use Rattle.flume_value.specs.Bag.{bag_of};
 ghost use Rattle.combine_table.specs.Contents.{IsInt, IsBool, truth_of};
-ghost use Rattle.combine_table.specs.Combinations.{Suits, combined, IsTrapFault, total as total_of, wrapped, first_or_bad_index, least as least_of, greatest as greatest_of, distinct as distinct_of};
+ghost use Rattle.combine_table.specs.Combinations.{Suits, combined, IsTrapFault, int_total as total_of, wrapped, first_or_bad_index, least as least_of, greatest as greatest_of, distinct as distinct_of};
 
 use crate::comb::Comb;
 use crate::contents::{int, truth};

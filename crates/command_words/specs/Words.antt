@@ -119,8 +119,9 @@ abbrev pub most_made : ℕ
 most_made = 1000000
 
 -- a number that is no more than that
-abbrev pub count_in : Text → Option ℕ
-count_in text = option_and_then (λ n. if nat_le n most_made then Some n else None) (number_in text)
+abbrev pub bounded_count : Text → Option ℕ
+bounded_count text =
+    option_and_then (λ n. if nat_le n most_made then Some n else None) (number_in text)
 
 -- a made workload: the number before the first row's, and how many rows there are
 abbrev pub workload : ℕ → ℕ → Workload
@@ -129,8 +130,8 @@ workload start rows = record { start = start; rows = rows }
 -- the workload of two words
 abbrev pub workload_in : Option Text → Option Text → Option Workload
 workload_in start rows =
-    option_and_then (λ first. option_map (workload first) (option_and_then count_in rows))
-    (option_and_then count_in start)
+    option_and_then (λ first. option_map (workload first) (option_and_then bounded_count rows))
+    (option_and_then bounded_count start)
 
 -- the workload of a command that was met, by the matches of its own arguments: `make` has one
 abbrev pub workload_at : Text → List Row → Option Workload
@@ -165,8 +166,8 @@ form_of json rewrites =
     else Some (if is_set rewrites then Rewrites else AsText)
 
 -- the command that shows a plan so
-abbrev pub plan_of : Option Text → Option Text → Option Command
-plan_of json rewrites = option_map Plan (form_of json rewrites)
+abbrev pub command_of_plan : Option Text → Option Text → Option Command
+command_of_plan json rewrites = option_map Plan (form_of json rewrites)
 
 -- the name of a plan's file, where it names something
 abbrev pub plan_named : Text → Option (Option Text)
@@ -192,7 +193,7 @@ abbrev pub command_of : Text → List Row → Option Command
 command_of name rows =
     if bytes_eq name (codes "check") then Some Check
     else if bytes_eq name (codes "plan")
-    then plan_of (first_of (codes "json") rows) (first_of (codes "rewrites") rows)
+    then command_of_plan (first_of (codes "json") rows) (first_of (codes "rewrites") rows)
     else if bytes_eq name (codes "direct") then Some Direct
     else if bytes_eq name (codes "run") then run_of rows
     else None

@@ -172,7 +172,7 @@ fn plan_named(alloc: Global, text: &str) -> Result<Option<Option<FileName>>, All
 
 // The command that shows a plan, where one flag at most is set.
 fn plan_shown(json: Option<&str>, rewrites: Option<&str>) -> Option<Command>
-    ensures { result ≡ spec.plan_of (option_map (λ text. text.now) json.entry)
+    ensures { result ≡ spec.command_of_plan (option_map (λ text. text.now) json.entry)
         (option_map (λ text. text.now) rewrites.entry) }
 {
     if is_set(json) {

@@ -75,7 +75,7 @@ fn workload_in(start: Option<&str>, rows: Option<&str>) -> Option<Workload>
 // The number of a word, where it is not too great.
 fn count_in(word: Option<&str>) -> Option<u32>
     ensures value { result
-        ≡ option_and_then spec.count_in (option_map (λ text. text.now) word.entry) }
+        ≡ option_and_then spec.bounded_count (option_map (λ text. text.now) word.entry) }
     ensures within { IfSome result (λ n. n ≤ spec.most_made) }
 {
     number_in(word?).filter(|number| *number <= MOST_MADE)

@@ -10,14 +10,14 @@ use native.Mathlib.Decide.{ℕ_discrete}
 use mathlib.Core.Logic.{dite}
 use Rattle.outside.specs.declared.host.At.{At}
 use Rattle.outside.specs.Notes.{Notes, no_notes}
-use Rattle.claim_board.specs.Counts.{one_if, times}
-use Rattle.claim_board.specs.Protocol.{PassState, BoardState, fresh, limit, IsGood}
+use Rattle.claim_board.specs.Counts.{one_if, times_in_list}
+use Rattle.claim_board.specs.Protocol.{PassState, BoardState, pass_begun, limit, IsGood}
 use Rattle.claim_board.specs.Told.{draw_of}
 use Rattle.crew.specs.declared.drill.Entry.{Entry}
 use Rattle.outside.specs.Accounts.{Account}
 use Rattle.crew.specs.Hosts.{at_place, places_below}
 use Rattle.crew.specs.Drills.{Settings, names, same_phase}
-use Rattle.crew.specs.Work.{Turn, Worker, IsAsked, TookTurns, AreWorkers, all_passed, all_downs, drawn_attempt}
+use Rattle.crew.specs.Work.{Turn, Worker, IsAsked, TookTurns, AreWorkers, places_passed, all_downs, drawn_attempt}
 use Rattle.crew.specs.Phases.{HaveGained, all_places, attempt_of_place, times_asked, IsPlaceOf, AreAskedOnce}
 use Rattle.crew.proofs.Accounts.{gains_nothing}
 use Rattle.crew.proofs.Lists.{one_if_eq, all_of_map}
@@ -57,12 +57,13 @@ fourth_fails true false p = refl
 fourth_fails false c p = refl
 
 -- how often a number is among those that pass a test
-times_filter : (d : ℕ) (test : ℕ → Bool) (xs : List ℕ) → times d (filter test xs) ≤ times d xs
+times_filter : (d : ℕ) (test : ℕ → Bool) (xs : List ℕ)
+    → times_in_list d (filter test xs) ≤ times_in_list d xs
 times_filter d test [] = omega arith
 times_filter d test (x ∷ xs) = go (test x) (times_filter d test xs)
   where
-    go : (b : Bool) → times d (filter test xs) ≤ times d xs
-        → times d (cond b (x ∷ filter test xs) (filter test xs)) ≤ times d (x ∷ xs)
+    go : (b : Bool) → times_in_list d (filter test xs) ≤ times_in_list d xs
+        → times_in_list d (cond b (x ∷ filter test xs) (filter test xs)) ≤ times_in_list d (x ∷ xs)
     go true l =
         omega (
           arith,
@@ -174,8 +175,8 @@ module _ (x : At) where
               (λ other. let z = other_below t.draw (suc h.through) other in omega arith)
 
       turns_once : (ts : List Turn) → All (IsAsked tasks s places) ts
-          → times_asked x (all_passed ts) + times_asked x (all_downs ts)
-          ≤ times its_draw (map (λ t. t.draw) ts)
+          → times_asked x (places_passed ts) + times_asked x (all_downs ts)
+          ≤ times_in_list its_draw (map (λ t. t.draw) ts)
       turns_once [] h = omega arith
       turns_once (t ∷ ts) h =
           let A = IsAsked tasks s places in
@@ -183,18 +184,18 @@ module _ (x : At) where
           let o = turn_once t (All-head A t ts h) in
           omega (
             arith,
-            sum_by-append (λ (y : At). one_if (is_it y)) t.passed (all_passed ts),
+            sum_by-append (λ (y : At). one_if (is_it y)) t.passed (places_passed ts),
             sum_by-append (λ (y : At). one_if (is_it y)) t.downs (all_downs ts),
             sum_by-cons (λ (d : ℕ). one_if (eqb d its_draw)) t.draw (map (λ (u : Turn). u.draw) ts),
           )
 
 -- what the host of a worker gained
 abbrev gained_by : Worker → Notes
-gained_by w = record { passed = all_passed w.turns; downs = all_downs w.turns }
+gained_by w = record { passed = places_passed w.turns; downs = all_downs w.turns }
 
 module _ (tasks : ℕ) (s : Settings) (places : ℕ → ℕ) where
   abbrev HasTaken : Worker → Type 0
-  HasTaken w = TookTurns tasks s places (fresh w.pass.number) w.pass w.before w.after w.turns
+  HasTaken w = TookTurns tasks s places (pass_begun w.pass.number) w.pass w.before w.after w.turns
 
   have_gained : (ws : List Worker) → All HasTaken ws
       → HaveGained (map (λ w. w.before) ws) (map (λ w. w.after) ws) (map gained_by ws)
@@ -205,20 +206,23 @@ module _ (tasks : ℕ) (s : Settings) (places : ℕ → ℕ) where
   )
 
   worker_once : (x : At) (w : Worker) → HasTaken w
-      → times_asked x (all_passed w.turns) + times_asked x (all_downs w.turns)
-      ≤ times (its_draw x tasks s) w.pass.draws
+      → times_asked x (places_passed w.turns) + times_asked x (all_downs w.turns)
+      ≤ times_in_list (its_draw x tasks s) w.pass.draws
   worker_once x w h =
       let d = its_draw x tasks s in
       let test : ℕ → Bool = λ y. ltb y (limit tasks s.tries) in
       let a = turns_once x tasks s places w.turns h.asked in
-      let b : times d (map (λ (t : Turn). t.draw) w.turns) ≡ times d (filter test h.gained) =
-      ap (times d) h.each in
+      let b : times_in_list d (map (λ (t : Turn). t.draw) w.turns)
+      ≡ times_in_list d (filter test h.gained) =
+      ap (times_in_list d) h.each in
       let c = times_filter d test h.gained in
-      let e : times d w.pass.draws ≡ times d h.gained = ap (times d) h.draws in omega arith
+      let e : times_in_list d w.pass.draws ≡ times_in_list d h.gained =
+      ap (times_in_list d) h.draws in omega arith
 
   workers_once : (x : At) (ws : List Worker) → All HasTaken ws
       → times_asked x (all_places (map gained_by ws))
-      ≤ sum_by (λ (q : PassState). times (its_draw x tasks s) q.draws) (map (λ w. w.pass) ws)
+      ≤ sum_by (λ (q : PassState). times_in_list (its_draw x tasks s) q.draws)
+      (map (λ w. w.pass) ws)
   workers_once x [] h = omega arith
   workers_once x (w ∷ ws) h =
       let r = workers_once x ws (All-tail HasTaken w ws h) in
@@ -227,9 +231,9 @@ module _ (tasks : ℕ) (s : Settings) (places : ℕ → ℕ) where
       let rest = all_places (map gained_by ws) in
       omega (
         arith,
-        sum_by-append f (all_passed w.turns) (all_downs w.turns ++ rest),
+        sum_by-append f (places_passed w.turns) (all_downs w.turns ++ rest),
         sum_by-append f (all_downs w.turns) rest,
-        sum_by-cons (λ (q : PassState). times (its_draw x tasks s) q.draws) w.pass
+        sum_by-cons (λ (q : PassState). times_in_list (its_draw x tasks s) q.draws) w.pass
             (map (λ (v : Worker). v.pass) ws),
       )
 
@@ -276,14 +280,14 @@ module _ (tasks : ℕ) (s : Settings) (places : ℕ → ℕ) where
         )
 
     our_turns : (ts : List Turn) → All (λ t. t.draw < limit tasks s.tries) ts
-        → All (IsAsked tasks s places) ts → All Ours (all_passed ts) × All Ours (all_downs ts)
+        → All (IsAsked tasks s places) ts → All Ours (places_passed ts) × All Ours (all_downs ts)
     our_turns [] low h = (All-nil Ours, All-nil Ours)
     our_turns (t ∷ ts) low h =
         let L : Turn → Type 0 = λ u. u.draw < limit tasks s.tries in
         let A = IsAsked tasks s places in
         let one = our_turn t (All-head L t ts low) (All-head A t ts h) in
         let rest = our_turns ts (All-tail L t ts low) (All-tail A t ts h) in (
-          All-append Ours t.passed (all_passed ts) one.0 rest.0,
+          All-append Ours t.passed (places_passed ts) one.0 rest.0,
           All-append Ours t.downs (all_downs ts) one.1 rest.1,
         )
 
@@ -305,7 +309,7 @@ module _ (tasks : ℕ) (s : Settings) (places : ℕ → ℕ) where
         let k = All-head HasTaken w ws h in
         let o = our_turns w.turns (low_draws w k) k.asked in
         let rest = all_places (map gained_by ws) in
-        All-append Ours (all_passed w.turns) (all_downs w.turns ++ rest) o.0
+        All-append Ours (places_passed w.turns) (all_downs w.turns ++ rest) o.0
         (All-append Ours (all_downs w.turns) rest o.1 (our_workers ws (All-tail HasTaken w ws h)))
 
     -- where the board is a good one
@@ -320,14 +324,16 @@ module _ (tasks : ℕ) (s : Settings) (places : ℕ → ℕ) where
       ours = our_workers ws h.took;
       once = λ x.
           let d = its_draw x tasks s in
-          let count : List PassState → ℕ = λ ps. sum_by (λ (q : PassState). times d q.draws) ps in
+          let count : List PassState → ℕ =
+          λ ps. sum_by (λ (q : PassState). times_in_list d q.draws) ps in
           let a = workers_once x ws h.took in
           let b : count (map (λ (w : Worker). w.pass) ws) ≡ count board.passes =
           ap count h.passes in
           let c = at_most_once d in omega arith;
     }
       where
-        at_most_once : (d : ℕ) → sum_by (λ (q : PassState). times d q.draws) board.passes ≤ 1
+        at_most_once : (d : ℕ)
+            → sum_by (λ (q : PassState). times_in_list d q.draws) board.passes ≤ 1
         at_most_once d =
             ⊎_elim
             (λ (t : (leb board.next d ≡ true) × (board.next ≤ d)).

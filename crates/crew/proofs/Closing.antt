@@ -9,7 +9,7 @@ use Rattle.std.proofs.lemmas.List.Sums.{sum_by-cons, sum_by-append}
 use Rattle.std.proofs.Math.Nat.{mul-le-mul_right}
 use Rattle.std.proofs.Common.{suc-mul, length-append}
 use Rattle.claim_board.specs.Counts.{one_if}
-use Rattle.claim_board.specs.Protocol.{PassState, fresh, of_task, IsGood}
+use Rattle.claim_board.specs.Protocol.{PassState, pass_begun, of_task, IsGood}
 use Rattle.claim_board.specs.Boards.{Board, Pass, Passes, Tally, states_of, AreOfBoard, fresh_passes, new_passes}
 use Rattle.claim_board.specs.Told.{closing_state}
 use Rattle.crew.specs.declared.kept.KeptOut.{KeptOut}
@@ -23,7 +23,8 @@ fresh_are_of : (b : Board) (n : ℕ) → AreOfBoard b (fresh_passes b n)
 fresh_are_of b zero = All-nil (λ (p : Pass). p.board ≡ b)
 fresh_are_of b (suc n) =
     let Q : Pass → Type 0 = λ p. p.board ≡ b in
-    All-append Q (fresh_passes b n) (record { board = b; state = fresh n } ∷ []) (fresh_are_of b n)
+    All-append Q (fresh_passes b n) (record { board = b; state = pass_begun n } ∷ [])
+    (fresh_are_of b n)
     (All-cons Q _ [] refl (All-nil Q))
 
 fresh_done_nothing : (b : Board) (n : ℕ)
@@ -31,7 +32,7 @@ fresh_done_nothing : (b : Board) (n : ℕ)
 fresh_done_nothing b zero = All-nil (λ (p : Pass). IsFresh p.state)
 fresh_done_nothing b (suc n) =
     let Q : Pass → Type 0 = λ p. IsFresh p.state in
-    All-append Q (fresh_passes b n) (record { board = b; state = fresh n } ∷ [])
+    All-append Q (fresh_passes b n) (record { board = b; state = pass_begun n } ∷ [])
     (fresh_done_nothing b n)
     (All-cons Q _ [] (record { won = refl; draws = refl; seen = refl; deeds = refl }) (All-nil Q))
 
@@ -39,7 +40,11 @@ length_fresh : (b : Board) (n : ℕ) → length (fresh_passes b n) ≡ n
 length_fresh b zero = refl
 length_fresh b (suc n) =
     let r = length_fresh b n in
-    omega (arith, length-append (fresh_passes b n) (record { board = b; state = fresh n } ∷ []))
+    omega (
+      arith,
+      length-append (fresh_passes b n) (record { board = b; state = pass_begun n } ∷
+          []),
+    )
 
 pub can_start : (b : Board) (count tries hosts : ℕ) (ps : List Pass) → ps ≡ fresh_passes b b.crew
     → b.tasks ≡ count → b.tries ≡ tries → b.crew ≡ hosts → 0 < count → 0 < hosts

@@ -10,8 +10,8 @@ use Rattle.std.proofs.lemmas.List.Sums.{sum_by-cons}
 use Rattle.std.proofs.lemmas.List.Sorted.{All-permutation, sum_by-IsPermutation}
 use mathlib.Core.Option.{some}
 use lib.ListN.{get_elem?}
-use Rattle.claim_board.specs.Counts.{one_if, times, times_first}
-use Rattle.claim_board.specs.Protocol.{PassState, limit, fresh, of_task, IsGood, IsGoodPass}
+use Rattle.claim_board.specs.Counts.{one_if, times_in_list, times_first}
+use Rattle.claim_board.specs.Protocol.{PassState, limit, pass_begun, of_task, IsGood, IsGoodPass}
 use Rattle.claim_board.specs.Boards.{Pass, Tally, states_of}
 use Rattle.claim_board.specs.Laws.{UndecidedWereDrawn}
 use Rattle.claim_board.specs.Told.{closing_state}
@@ -144,10 +144,10 @@ module _ (tasks : ℕ) (s : Settings) {O : Type 0} (is_value : ℕ → O → Typ
       abbrev Why : ℕ → Type 0
       Why k =
           (is_drilled s.drill (attempt_in s task (k + 1)) ≡ true)
-          ⊎ (0 < times (k * tasks + task) of_draws.downs)
+          ⊎ (0 < times_in_list (k * tasks + task) of_draws.downs)
 
       -- a fate that no winner and no loss has
-      fate_left_over : (k : ℕ) (q : PassState) → times (k * tasks + task) q.won ≡ 0
+      fate_left_over : (k : ℕ) (q : PassState) → times_in_list (k * tasks + task) q.won ≡ 0
           → times_first (k * tasks + task) q.lost ≡ 0 → IsGoodPass tasks s.tries r.winners q
           → Fate tasks s of_draws.downs q (k * tasks + task) → Why k
       fate_left_over k q no_win no_loss g (Won x) = absurd (omega arith)
@@ -174,16 +174,17 @@ module _ (tasks : ℕ) (s : Settings) {O : Type 0} (is_value : ℕ → O → Typ
           let C : PassState → Type 0 =
           λ q. All (λ x. x < limit tasks s.tries → Fate tasks s of_draws.downs q x) q.draws in
           let G : PassState → Type 0 = λ q. IsGoodPass tasks s.tries r.winners q in
-          let W : PassState → Type 0 = λ q. times d q.won ≡ 0 in
+          let W : PassState → Type 0 = λ q. times_in_list d q.won ≡ 0 in
           let L : PassState → Type 0 = λ q. times_first d q.lost ≡ 0 in
-          let some_one : 0 < sum_by (λ (q : PassState). times d q.draws) states =
+          let some_one : 0 < sum_by (λ (q : PassState). times_in_list d q.draws) states =
           (let e = drawn.0 in omega arith) in
           let all = all_both (λ q. C q × G q) (λ q. W q × L q) states
           (all_both C G states of_draws.fates good.passes)
           (all_both W L states
-          (all_zero (λ (q : PassState). times d q.won) states drawn.1)
+          (all_zero (λ (q : PassState). times_in_list d q.won) states drawn.1)
           (all_zero (λ (q : PassState). times_first d q.lost) states drawn.2)) in
-          let q = part (λ q. (C q × G q) × (W q × L q)) (λ (q : PassState). times d q.draws) states
+          let q =
+          part (λ q. (C q × G q) × (W q × L q)) (λ (q : PassState). times_in_list d q.draws) states
           all some_one in
           let low = inside_limit tasks s.tries task k small few in
           let why = all_times (λ x. x < limit tasks s.tries → Fate tasks s of_draws.downs q.0 x) d
@@ -191,7 +192,7 @@ module _ (tasks : ℕ) (s : Settings) {O : Type 0} (is_value : ℕ → O → Typ
           fate_left_over k q.0 q.1.1.0 q.1.1.1 q.1.0.1 why
         where
           first_state : (qs : List Pass) → PassState
-          first_state [] = fresh 0
+          first_state [] = pass_begun 0
           first_state (p ∷ qs) = p.state
 
           first_at : (qs : List Pass) → 0 < length qs
@@ -217,7 +218,7 @@ module _ (tasks : ℕ) (s : Settings) {O : Type 0} (is_value : ℕ → O → Typ
           (λ (t : (eqb a b ≡ false) × (a ≢ b)). absurd (t.1 e)) (eqb_tells a b)
 
       -- a down of a draw of the task counts for its attempt
-      down_counts : (k : ℕ) (ds : List ℕ) → 0 < times (k * tasks + task) ds
+      down_counts : (k : ℕ) (ds : List ℕ) → 0 < times_in_list (k * tasks + task) ds
           → 0 < just (λ _. true) (λ d. eqb (d % tasks) task) (λ d. d / tasks + 1) (k + 1) ds
       down_counts k [] l = absurd (omega arith)
       down_counts k (d ∷ ds) l =
@@ -251,7 +252,7 @@ module _ (tasks : ℕ) (s : Settings) {O : Type 0} (is_value : ℕ → O → Typ
           ⊎_elim
           (λ (x : is_drilled s.drill (attempt_in s task (k + 1)) ≡ true).
           inl (any_counts (names (attempt_in s task (k + 1))) s.drill x))
-          (λ (x : 0 < times (k * tasks + task) of_draws.downs).
+          (λ (x : 0 < times_in_list (k * tasks + task) of_draws.downs).
           inr (down_counts k of_draws.downs x))
           (attempt_fate k few) in
           let le = all_accounted p q a p' q' a' s.drill of_draws.downs s.tries each in
@@ -270,7 +271,7 @@ module _ (tasks : ℕ) (s : Settings) {O : Type 0} (is_value : ℕ → O → Typ
             ⊎ SomeHost (λ a b. RefusedPlace a b (attempt_in s task n)) us vs in
             subst Told is
             (⊎_elim (λ (x : is_drilled s.drill (attempt_in s task (k + 1)) ≡ true). inl x)
-            (λ (x : 0 < times (k * tasks + task) of_draws.downs).
+            (λ (x : 0 < times_in_list (k * tasks + task) of_draws.downs).
             inr (subst
             (λ (y : ℕ × ℕ).
             SomeHost (λ a b. RefusedPlace a b (attempt_in s y.0 (y.1 + 1))) us vs)

@@ -8,8 +8,8 @@ use Rattle.std.proofs.lemmas.List.Elements.{All-nil, All-cons, All-head, All-tai
 use Rattle.std.proofs.lemmas.List.Sums.{sum_by-append}
 use Rattle.outside.specs.Cause.{RoseBy}
 use Rattle.outside.specs.declared.host.At.{At}
-use Rattle.claim_board.specs.Counts.{times}
-use Rattle.claim_board.specs.Protocol.{PassState, fresh, limit}
+use Rattle.claim_board.specs.Counts.{times_in_list}
+use Rattle.claim_board.specs.Protocol.{PassState, pass_begun, limit}
 use Rattle.outside.specs.Accounts.{Account}
 use Rattle.crew.specs.Hosts.{HaveRisen, RefusedPlace, SomeHost, at_place}
 use Rattle.crew.specs.Drills.{Settings}
@@ -22,7 +22,8 @@ use Rattle.crew.proofs.Lists.{some_host_left, some_host_right, times_left, times
 module _ (tasks : ℕ) (s : Settings) where
   -- a fate stays one beside other downs
   fate_among : (downs all : List ℕ) (q : PassState) (d : ℕ)
-      → (0 < times d downs → 0 < times d all) → Fate tasks s downs q d → Fate tasks s all q d
+      → (0 < times_in_list d downs → 0 < times_in_list d all) → Fate tasks s downs q d
+      → Fate tasks s all q d
   fate_among downs all q d among (Won h) = Won h
   fate_among downs all q d among (Lost h) = Lost h
   fate_among downs all q d among (Taken x full h) = Taken x full h
@@ -76,20 +77,21 @@ looks tasks (t ∷ ts) =
 
 -- the draw of each turn that was refused a place is among the downs
 drops_in : (ts : List Turn)
-    → All (λ t. (x : At) → t.downs ≡ x ∷ [] → 0 < times t.draw (downed ts)) ts
-drops_in [] = All-nil (λ t. (x : At) → t.downs ≡ x ∷ [] → 0 < times t.draw [])
+    → All (λ t. (x : At) → t.downs ≡ x ∷ [] → 0 < times_in_list t.draw (downed ts)) ts
+drops_in [] = All-nil (λ t. (x : At) → t.downs ≡ x ∷ [] → 0 < times_in_list t.draw [])
 drops_in (t ∷ ts) =
-    All-cons (λ u. (x : At) → u.downs ≡ x ∷ [] → 0 < times u.draw (drops t ++ downed ts)) t ts
+    All-cons (λ u. (x : At) → u.downs ≡ x ∷ [] → 0 < times_in_list u.draw (drops t ++ downed ts)) t
+    ts
     (λ x e. times_left t.draw (drops t) (downed ts)
-    (subst (λ (l : List At). 0 < times t.draw (map (λ (y : At). t.draw) l)) (sym e)
+    (subst (λ (l : List At). 0 < times_in_list t.draw (map (λ (y : At). t.draw) l)) (sym e)
     (times_one t.draw)))
-    (All-weaker (λ u. (x : At) → u.downs ≡ x ∷ [] → 0 < times u.draw (downed ts))
-    (λ u. (x : At) → u.downs ≡ x ∷ [] → 0 < times u.draw (drops t ++ downed ts))
+    (All-weaker (λ u. (x : At) → u.downs ≡ x ∷ [] → 0 < times_in_list u.draw (downed ts))
+    (λ u. (x : At) → u.downs ≡ x ∷ [] → 0 < times_in_list u.draw (drops t ++ downed ts))
     (λ u h x e. times_right u.draw (drops t) (downed ts) (h x e)) ts (drops_in ts))
 
 module _ (tasks : ℕ) (s : Settings) (places : ℕ → ℕ) where
   fate_of : (downs : List ℕ) (q : PassState) (t : Turn) → Contains q.seen (look_of tasks t)
-      → ((x : At) → t.downs ≡ x ∷ [] → 0 < times t.draw downs) → Cause tasks s places q t
+      → ((x : At) → t.downs ≡ x ∷ [] → 0 < times_in_list t.draw downs) → Cause tasks s places q t
       → Fate tasks s downs q t.draw
   fate_of downs q t saw down (cause.Taken full passed none commit) = Taken t.word full saw
   fate_of downs q t saw down (cause.Won made h) = Won h
@@ -105,7 +107,8 @@ module _ (tasks : ℕ) (s : Settings) (places : ℕ → ℕ) where
   fates_of p q a b ts no_draw no_look w causes =
       let F : ℕ → Type 0 = λ d. Fate tasks s (downed ts) q d in
       let S : Turn → Type 0 = λ t. Contains q.seen (look_of tasks t) in
-      let D : Turn → Type 0 = λ t. (x : At) → t.downs ≡ x ∷ [] → 0 < times t.draw (downed ts) in
+      let D : Turn → Type 0 =
+      λ t. (x : At) → t.downs ≡ x ∷ [] → 0 < times_in_list t.draw (downed ts) in
       let C : Turn → Type 0 = λ t. Cause tasks s places q t in
       let draw : Turn → ℕ = λ t. t.draw in
       let seen : q.seen ≡ map (look_of tasks) ts =
@@ -244,7 +247,7 @@ module _ (tasks : ℕ) (s : Settings) where
 
 module _ (tasks : ℕ) (s : Settings) (places : ℕ → ℕ) where
   abbrev HasTaken : Worker → Type 0
-  HasTaken w = TookTurns tasks s places (fresh w.pass.number) w.pass w.before w.after w.turns
+  HasTaken w = TookTurns tasks s places (pass_begun w.pass.number) w.pass w.before w.after w.turns
 
   abbrev HasCauses : Worker → Type 0
   HasCauses w = All (Cause tasks s places w.pass) w.turns
@@ -252,7 +255,7 @@ module _ (tasks : ℕ) (s : Settings) (places : ℕ → ℕ) where
   fated_one : (w : Worker) → HasTaken w → HasCauses w
       → Fated tasks s (w.pass ∷ []) (w.before ∷ []) (w.after ∷ [])
   fated_one w took causes =
-      let old = fresh w.pass.number in
+      let old = pass_begun w.pass.number in
       let downs = downed w.turns in
       let a = w.before in
       let b = w.after in record {

@@ -4,7 +4,7 @@ use Rattle.std.specs.Prelude.{All, Result, Ok, Err, IfOk, IsOkAnd, OnOk}
 use Rattle.std.specs.List.{AllZip}
 use Rattle.std.proofs.lemmas.List.{map-append}
 use Rattle.std.proofs.lemmas.List.Elements.{All-nil, All-cons, All-head, All-append, All-weaker, length_all_zip}
-use Rattle.claim_board.specs.Protocol.{PassState, Deed, DrewNumber, fresh}
+use Rattle.claim_board.specs.Protocol.{PassState, Deed, DrewNumber, pass_begun}
 use Rattle.claim_board.specs.Boards.{Pass, states_of}
 use Rattle.crew.specs.declared.kept.KeptOut.{KeptOut}
 use Rattle.outside.specs.Accounts.{Account}
@@ -31,7 +31,7 @@ module _ (tasks : ℕ) (s : Settings) (places : ℕ → ℕ) where
     before = map-append (λ (w : Worker). w.before) ws zs ∙ (λ i. h.before i ++ k.before i);
     after = map-append (λ (w : Worker). w.after) ws zs ∙ (λ i. h.after i ++ k.after i);
     took = All-append
-        (λ (w : Worker). TookTurns tasks s places (fresh w.pass.number) w.pass w.before w.after
+        (λ (w : Worker). TookTurns tasks s places (pass_begun w.pass.number) w.pass w.before w.after
         w.turns) ws zs h.took k.took;
   }
 
@@ -71,7 +71,7 @@ module _ (tasks : ℕ) (s : Settings) (places : ℕ → ℕ) where
       (record { pass = q.state; before = a; after = b; turns = ts } ∷ [])
   are_one old q a b ts f w =
       let T : Worker → Type 0 =
-      λ v. TookTurns tasks s places (fresh v.pass.number) v.pass v.before v.after v.turns in
+      λ v. TookTurns tasks s places (pass_begun v.pass.number) v.pass v.before v.after v.turns in
       let one : Worker = record { pass = q.state; before = a; after = b; turns = ts } in record {
         passes = refl;
         before = refl;

@@ -5,7 +5,7 @@ use Rattle.std.specs.Prelude.{All, sum_by}
 use Rattle.std.proofs.lemmas.Bool.Decides.{eqb_tells}
 use Rattle.std.proofs.lemmas.List.Elements.{All-nil, All-cons, All-head, All-tail}
 use Rattle.std.proofs.lemmas.List.Sums.{sum_by-cons, sum_by-append}
-use Rattle.claim_board.specs.Counts.{one_if, times, times_first}
+use Rattle.claim_board.specs.Counts.{one_if, times_in_list, times_first}
 use Rattle.claim_board.proofs.Moves.{part}
 use Rattle.outside.specs.Accounts.{Account}
 use Rattle.crew.specs.Hosts.{SomeHost}
@@ -36,10 +36,10 @@ one_if_ne x y n =
     ⊎_elim (λ (t : (eqb x y ≡ true) × (x ≡ y)). absurd (n t.1))
     (λ (t : (eqb x y ≡ false) × (x ≢ y)). ap one_if t.0) (eqb_tells x y)
 
-pub times_left : (d : ℕ) (xs ys : List ℕ) → 0 < times d xs → 0 < times d (xs ++ ys)
+pub times_left : (d : ℕ) (xs ys : List ℕ) → 0 < times_in_list d xs → 0 < times_in_list d (xs ++ ys)
 times_left d xs ys h = let a = sum_by-append (λ (x : ℕ). one_if (eqb x d)) xs ys in omega arith
 
-pub times_right : (d : ℕ) (xs ys : List ℕ) → 0 < times d ys → 0 < times d (xs ++ ys)
+pub times_right : (d : ℕ) (xs ys : List ℕ) → 0 < times_in_list d ys → 0 < times_in_list d (xs ++ ys)
 times_right d xs ys h = let a = sum_by-append (λ (x : ℕ). one_if (eqb x d)) xs ys in omega arith
 
 pub times_first_left : (d : ℕ) (xs ys : List (ℕ × ℕ)) → 0 < times_first d xs
@@ -52,14 +52,14 @@ pub times_first_right : (d : ℕ) (xs ys : List (ℕ × ℕ)) → 0 < times_firs
 times_first_right d xs ys h =
     let a = sum_by-append (λ (x : ℕ × ℕ). one_if (eqb x.0 d)) xs ys in omega arith
 
-pub times_one : (d : ℕ) → 0 < times d (d ∷ [])
+pub times_one : (d : ℕ) → 0 < times_in_list d (d ∷ [])
 times_one d = let e = one_if_eq d d refl in omega arith
 
 pub times_first_one : (d x : ℕ) → 0 < times_first d ((d, x) ∷ [])
 times_first_one d x = let e = one_if_eq d d refl in omega arith
 
 -- what stands in a list has what each element has
-pub all_times : (P : ℕ → Type 0) (d : ℕ) (xs : List ℕ) → All P xs → 0 < times d xs → P d
+pub all_times : (P : ℕ → Type 0) (d : ℕ) (xs : List ℕ) → All P xs → 0 < times_in_list d xs → P d
 all_times P d xs h l =
     let r = part P (λ (x : ℕ). one_if (eqb x d)) xs h l in
     ⊎_elim (λ (t : (eqb r.0 d ≡ true) × (r.0 ≡ d)). subst P t.1 r.1)

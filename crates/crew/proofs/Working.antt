@@ -7,7 +7,7 @@ use Rattle.std.proofs.lemmas.List.{map-append}
 use Rattle.std.proofs.lemmas.List.Elements.{All-nil, All-cons, All-head, All-tail, All-append, All-push, All-weaker, filter-append}
 use Rattle.outside.specs.Cause.{RoseBy}
 use Rattle.outside.specs.declared.host.At.{At}
-use Rattle.claim_board.specs.Counts.{times, times_first}
+use Rattle.claim_board.specs.Counts.{times_in_list, times_first}
 use Rattle.claim_board.specs.Protocol.{PassState, Deed, DrewNumber, SawWord, drawn, limit, task_of}
 use Rattle.claim_board.specs.Boards.{AreBefore, Board, Drawn, Drew}
 use Rattle.crew.specs.declared.kept.KeptOut.{KeptOut}
@@ -15,18 +15,19 @@ use Rattle.outside.specs.Accounts.{Account, Gains}
 use Rattle.crew.specs.Hosts.{Grew}
 use Rattle.crew.specs.Drills.{Settings}
 use Rattle.crew.specs.Outs.{IsOut, RanOn, draw_by}
-use Rattle.crew.specs.Work.{Turn, HasDone, IsAsked, Cause, CameFar, TookTurns, Took, Worked, all_passed, all_downs, all_deeds, deeds_of, look_of}
+use Rattle.crew.specs.Work.{Turn, HasDone, IsAsked, Cause, CameFar, TookTurns, Took, Worked, places_passed, all_downs, all_deeds, deeds_of, look_of}
 use Rattle.crew.specs.Work.Cause.{Won, Lost, Taken, Drilled, WentDown}
 use Rattle.crew.specs.inner.Turns.{TookTurn, TookOne, Turned, WorkedSoFar}
 use Rattle.crew.proofs.Accounts.{rises, gains_nothing, gains_on, passed_later, passed_before}
 use Rattle.crew.proofs.Lists.{times_left, times_first_left}
 
 -- the places of one turn more
-passed_push : (ts : List Turn) (t : Turn) → all_passed (ts ++ t ∷ []) ≡ all_passed ts ++ t.passed
+passed_push : (ts : List Turn) (t : Turn)
+    → places_passed (ts ++ t ∷ []) ≡ places_passed ts ++ t.passed
 passed_push [] t = append-nil t.passed
 passed_push (u ∷ ts) t =
     ap (λ (l : List At). u.passed ++ l) (passed_push ts t)
-    ∙ sym (append_assoc u.passed (all_passed ts) t.passed)
+    ∙ sym (append_assoc u.passed (places_passed ts) t.passed)
 
 downs_push : (ts : List Turn) (t : Turn) → all_downs (ts ++ t ∷ []) ≡ all_downs ts ++ t.downs
 downs_push [] t = append-nil t.downs
@@ -146,7 +147,7 @@ module _ (tasks : ℕ) (s : Settings) (places : ℕ → ℕ) where
           deeds = turn_done old mid next new a b c ts t m d w none before drew o;
           gains = subst (λ (x : List At × List At). Gains a c x.0 x.1)
               (λ i. (sym (passed_push ts t) i, sym (downs_push ts t) i))
-              (gains_on a b c (all_passed ts) t.passed (all_downs ts) t.downs w.gains o.gains);
+              (gains_on a b c (places_passed ts) t.passed (all_downs ts) t.downs w.gains o.gains);
           lost = subst (λ (n : ℕ). RoseBy n a.losses c.losses)
               (sym (ap length (downs_push ts t) ∙ length-append (all_downs ts) t.downs))
               (rises a.losses b.losses c.losses (length (all_downs ts)) (length t.downs) up on
@@ -183,7 +184,8 @@ module _ (tasks : ℕ) (s : Settings) (places : ℕ → ℕ) where
       → Cause tasks s places p t → Cause tasks s places q t
   cause_later p q t w l ew el (Taken full passed downs commit) = Taken full passed downs commit
   cause_later p q t w l ew el (Won made h) =
-      Won made (subst (λ (y : List ℕ). 0 < times t.draw y) (sym ew) (times_left t.draw p.won w h))
+      Won made (subst (λ (y : List ℕ). 0 < times_in_list t.draw y) (sym ew)
+      (times_left t.draw p.won w h))
   cause_later p q t w l ew el (Lost x made h) =
       Lost x made (subst (λ (y : List (ℕ × ℕ)). 0 < times_first t.draw y) (sym el)
       (times_first_left t.draw p.lost l h))

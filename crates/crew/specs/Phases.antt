@@ -2,7 +2,7 @@
 use Rattle.std.specs.Prelude.{◌≡◌, ◌≢◌, ℕ, ◌+◌, ◌-◌, ◌<◌, ◌≤◌, true, eqb, ◌&&◌, ◌⊎◌, List, [], ◌∷◌, ◌++◌, length, slice_index_or, All, count_by, ⊤}
 use Rattle.outside.specs.declared.host.At.{At}
 use Rattle.outside.specs.Notes.{Notes}
-use Rattle.claim_board.specs.Protocol.{BoardState, IsGood, word}
+use Rattle.claim_board.specs.Protocol.{BoardState, IsGood, word_of_task}
 use Rattle.crew.specs.declared.drill.Entry.{Entry}
 use Rattle.crew.specs.declared.kept.KeptOut.{KeptOut}
 use Rattle.crew.specs.declared.phase.PhaseFault.{PhaseFault}
@@ -107,7 +107,7 @@ module _ (tasks : ℕ) (s : Settings) where
       pub count : length ks ≡ n
       pub order : (t : ℕ) (d : KeptOut O) → t < n → (slice_index_or ks t d).task ≡ t
       pub outs : All (IsOut is_value tasks s) ks
-      pub winners : All (λ k. word board k.task ≡ k.attempt) ks
+      pub winners : All (λ k. word_of_task board k.task ≡ k.attempt) ks
       pub ran : All (λ k. SomeHost (λ a b. RanOn places s a b k) olds news) ks
 
     -- each task has an out, and the board's passes are those of workers that ran
@@ -123,8 +123,8 @@ module _ (tasks : ℕ) (s : Settings) where
       pub board : BoardState
       pub closed : IsClosed (length olds) board
       pub is_task : task < tasks
-      pub none : word board task ≡ 0
-      pub least : (t : ℕ) → t < task → word board t ≢ 0
+      pub none : word_of_task board task ≡ 0
+      pub least : (t : ℕ) → t < task → word_of_task board t ≢ 0
       pub lost : IsLostTask olds news task
       pub below : AreWinnersOuts olds news board task ks
       pub worked : HaveWorked tasks s places board.passes olds news

@@ -3,8 +3,8 @@ use Rattle.std.specs.Prelude.{◌≡◌, ◌≢◌, ℕ, ◌+◌, ◌<◌, ◌�
 use Rattle.std.specs.List.{filter}
 use Rattle.outside.specs.Cause.{RoseBy}
 use Rattle.outside.specs.declared.host.At.{At}
-use Rattle.claim_board.specs.Counts.{times, times_first}
-use Rattle.claim_board.specs.Protocol.{PassState, Deed, DrewNumber, SawWord, WonTask, LostTask, fresh, task_of, attempt_of, limit}
+use Rattle.claim_board.specs.Counts.{times_in_list, times_first}
+use Rattle.claim_board.specs.Protocol.{PassState, Deed, DrewNumber, SawWord, WonTask, LostTask, pass_begun, task_of, attempt_of, limit}
 use Rattle.crew.specs.declared.kept.KeptOut.{KeptOut}
 use Rattle.crew.specs.declared.drill.Entry.{Entry}
 use Rattle.outside.specs.Accounts.{Account, Gains}
@@ -23,9 +23,9 @@ pub record Turn : Type 0 where
   pub commit : List Deed
 
 -- the places of all turns, turn behind turn
-abbrev pub all_passed : List Turn → List At
-all_passed [] = []
-all_passed (t ∷ ts) = t.passed ++ all_passed ts
+abbrev pub places_passed : List Turn → List At
+places_passed [] = []
+places_passed (t ∷ ts) = t.passed ++ places_passed ts
 
 abbrev pub all_downs : List Turn → List At
 all_downs [] = []
@@ -99,7 +99,7 @@ module _ (tasks : ℕ) (s : Settings) where
     -- committed; or the host was down.
     pub data Cause (p : PassState) (t : Turn) : Type 0 where
       Taken : t.word ≢ 0 → t.passed ≡ [] → t.downs ≡ [] → t.commit ≡ [] → Cause p t
-      Won : IsCommitted t (WonTask t.draw) → 0 < times t.draw p.won → Cause p t
+      Won : IsCommitted t (WonTask t.draw) → 0 < times_in_list t.draw p.won → Cause p t
       Lost : (x : ℕ) → IsCommitted t (LostTask t.draw x) → 0 < times_first t.draw p.lost
           → Cause p t
       Drilled : WasMade t → is_drilled s.drill (drawn_attempt t.draw) ≡ true → t.commit ≡ []
@@ -130,7 +130,7 @@ module _ (tasks : ℕ) (s : Settings) where
       pub late : All (λ d. limit tasks s.tries ≤ d) past
       pub deeds : HasDone old.deeds (all_deeds tasks ts ++ map DrewNumber past) new.deeds
       -- its host was asked in these turns alone, and lost what it refused
-      pub gains : Gains a b (all_passed ts) (all_downs ts)
+      pub gains : Gains a b (places_passed ts) (all_downs ts)
       pub lost : RoseBy (length (all_downs ts)) a.losses b.losses
       pub asked : All IsAsked ts
 
@@ -145,7 +145,7 @@ module _ (tasks : ℕ) (s : Settings) where
       pub before : map (λ w. w.before) ws ≡ olds
       pub after : map (λ w. w.after) ws ≡ news
       pub took :
-          All (λ w. TookTurns (fresh w.pass.number) w.pass w.before w.after w.turns) ws
+          All (λ w. TookTurns (pass_begun w.pass.number) w.pass w.before w.after w.turns) ws
 
     -- the same, where each turn came to something
     pub record HaveWorked (ps : List PassState) (olds news : List Account) : Type 0 where

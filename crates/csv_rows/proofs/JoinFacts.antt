@@ -7,7 +7,7 @@ use Rattle.flume_types.specs.declared.column.Column.{Column}
 use Rattle.flume_types.specs.declared.column.ColumnKind.{ColumnKind}
 use Rattle.flume_types.specs.declared.column.ColumnKind.TheVariants as cell
 use Rattle.int_text.specs.Ints.{int_of_text}
-use Rattle.csv_rows.specs.Rows.{bad, bool_of, cell_at, cells_from, header_fault, record_of, row_at, rows_from, rows_under, text_in, under_header, value_or}
+use Rattle.csv_rows.specs.Rows.{bad, bool_in_field, cell_at, cells_from, header_fault, record_of, row_at, rows_from, rows_under, text_in, under_header, value_or}
 use Rattle.csv_rows.specs.declared.read.Head.{Head}
 use Rattle.csv_rows.specs.declared.read.Head.TheVariants as head
 use Rattle.csv_rows.specs.inner.Parts.{rows_behind}
@@ -28,7 +28,7 @@ cell_same : (n m at : ℕ) (k : ColumnKind) (field : List ℕ) (x : Value)
 cell_same n m at cell.Int field x e =
     value_same n m at kind.NotInt (λ i. value.Int i) (int_of_text field) x e
 cell_same n m at cell.Bool field x e =
-    value_same n m at kind.NotBool (λ b. value.Bool b) (bool_of field) x e
+    value_same n m at kind.NotBool (λ b. value.Bool b) (bool_in_field field) x e
 cell_same n m at cell.Text field x e =
     value_same n m at kind.Utf8 (λ t. value.Text t) (text_in field) x e
 

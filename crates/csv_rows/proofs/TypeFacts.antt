@@ -16,7 +16,7 @@ use Rattle.flume_types.specs.declared.types.Ty.{Ty}
 use Rattle.flume_types.proofs.CellLemmas.{has_type-input}
 use Rattle.int_text.specs.Ints.{int_of_text}
 use Rattle.csv_rows.specs.Records.{records_of}
-use Rattle.csv_rows.specs.Rows.{bad, bool_of, cell_at, cells_from, first_then, header_fault, record_of, row_at, rows_from, rows_of, rows_under, text_in, under_header, value_or}
+use Rattle.csv_rows.specs.Rows.{bad, bool_in_field, cell_at, cells_from, first_then, header_fault, record_of, row_at, rows_from, rows_of, rows_under, text_in, under_header, value_or}
 use Rattle.csv_rows.specs.declared.fault.RowFault.{RowFault}
 use Rattle.csv_rows.specs.declared.fault.RowKind.{RowKind}
 use Rattle.csv_rows.specs.declared.fault.RowKind.TheVariants as kind
@@ -46,7 +46,7 @@ cell_filled row at cell.Int field x e =
     let (n, is) = made_ok row at kind.NotInt (λ n. value.Int n) (int_of_text field) x e in
     rw (is, value.outs-Int n) refl
 cell_filled row at cell.Bool field x e =
-    let (b, is) = made_ok row at kind.NotBool (λ b. value.Bool b) (bool_of field) x e in
+    let (b, is) = made_ok row at kind.NotBool (λ b. value.Bool b) (bool_in_field field) x e in
     rw (is, value.outs-Bool b) refl
 cell_filled row at cell.Text field x e =
     let (t, is) = made_ok row at kind.Utf8 (λ t. value.Text t) (text_in field) x e in

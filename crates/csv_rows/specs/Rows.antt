@@ -20,8 +20,8 @@ abbrev pub bad : {T : Type 0} → ℕ → ℕ → RowKind → Result T RowFault
 bad row column why = Err (fault.Bad row column why)
 
 -- the bool that a field names
-abbrev pub bool_of : List ℕ → Option Bool
-bool_of field =
+abbrev pub bool_in_field : List ℕ → Option Bool
+bool_in_field field =
     if bytes_eq field (codes "true") then Some true
     else if bytes_eq field (codes "false") then Some false
     else None
@@ -48,7 +48,7 @@ abbrev pub cell_at : ℕ → ℕ → ColumnKind → List ℕ → ValueOrFault
 cell_at row column cell.Int field =
     value_or (bad row column kind.NotInt) (λ n. value.Int n) (int_of_text field)
 cell_at row column cell.Bool field =
-    value_or (bad row column kind.NotBool) (λ b. value.Bool b) (bool_of field)
+    value_or (bad row column kind.NotBool) (λ b. value.Bool b) (bool_in_field field)
 cell_at row column cell.Text field =
     value_or (bad row column kind.Utf8) (λ t. value.Text t) (text_in field)
 

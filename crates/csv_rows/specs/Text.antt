@@ -11,14 +11,14 @@ use Rattle.flume_types.specs.declared.types.Ty.{Ty}
 use Rattle.flume_value.specs.declared.value.Value.{Value, Value-F, out-Value}
 
 -- what a cell shows; no other value is a cell
-abbrev pub shown : {X : Type 0} → Value-F X → List ℕ
-shown (Value-F.Int n) = signed_decimal n
-shown (Value-F.Bool b) = if b then codes "true" else codes "false"
-shown (Value-F.Text text) = text
-shown _ = []
+abbrev pub cell_shown : {X : Type 0} → Value-F X → List ℕ
+cell_shown (Value-F.Int n) = signed_decimal n
+cell_shown (Value-F.Bool b) = if b then codes "true" else codes "false"
+cell_shown (Value-F.Text text) = text
+cell_shown _ = []
 
 abbrev pub cell_text : Value → List ℕ
-cell_text cell = shown (out-Value cell)
+cell_text cell = cell_shown (out-Value cell)
 
 -- how rows are written: by csv's defaults, with no header row of its own
 abbrev pub plain_writer : WriterBuilder
@@ -35,5 +35,5 @@ table_text columns values =
 
 -- the sorted text of a bag of values of a type, which is given as its ascending list; a type that
 -- is not flat has none
-abbrev pub text_of : List Value → Ty → Option (List ℕ)
-text_of bag ty = option_map (λ columns. table_text columns bag) (columns_of ty)
+abbrev pub csv_text_of : List Value → Ty → Option (List ℕ)
+csv_text_of bag ty = option_map (λ columns. table_text columns bag) (columns_of ty)

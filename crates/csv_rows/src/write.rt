@@ -10,7 +10,7 @@ ghost use Rattle.flume_value.specs.declared.value.Value.{out-Value};
 ghost use Rattle.flume_types.specs.Cells.{cells_of, field_cells};
 ghost use Rattle.flume_types.specs.Columns.{columns_of};
 ghost use Rattle.flume_types.specs.Typing.{has_type};
-ghost use Rattle.csv_rows.specs.Text.{cell_text, plain_writer, table_text, text_of};
+ghost use Rattle.csv_rows.specs.Text.{cell_text, plain_writer, table_text, csv_text_of};
 ghost use Rattle.csv_rows.specs.inner.Writers.{IsFresh};
 
 use csv::{ByteRecord, Writer, WriterBuilder};
@@ -27,7 +27,7 @@ use std::io::Write;
 pub fn text(alloc: Global, values: &Items, ty: &Ty) -> Result<Vec<u8>, AllocError>
     requires flat { IsSome (columns_of ty.now) }
     requires typed { All (λ value. IsTrue (has_type value ty.now)) values.now }
-    ensures { IfOk result (λ text. text_of (bag_of values.now) ty.now ≡ Some text.items) }
+    ensures { IfOk result (λ text. csv_text_of (bag_of values.now) ty.now ≡ Some text.items) }
 {
     let bag = ascending(alloc, values.as_slice())?;
     match columns(alloc, ty) {

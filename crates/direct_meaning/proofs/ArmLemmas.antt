@@ -27,7 +27,7 @@ use Rattle.direct_meaning.specs.Calls.{answer_of}
 use Rattle.direct_meaning.proofs.MakeLemmas.{well_typed}
 use Rattle.direct_meaning.proofs.KeepLemmas.{GoesThrough, called_kept, called_own, by_key_kept, by_key_own, combined_kept, combined_own, counted_kept, counted_own, joined_kept, joined_own, own_combined, top_kept, top_own, all_stand, together_kept, together_own}
 use Rattle.direct_meaning.proofs.StandLemmas.{Source, keeps}
-use Rattle.direct_meaning.specs.Direct.{called_by, combined_by, counted_by, done_at, done_by, inputs_behind, joined_by, made_as, rows_as, top_by}
+use Rattle.direct_meaning.specs.Direct.{called_by, combined_by, counted_by, done_at, done_by, inputs_behind, joined_collections, made_as, rows_as, top_by}
 use Rattle.direct_meaning.specs.declared.kept.Kept.{Kept}
 use Rattle.direct_meaning.specs.inner.Kept.{has_traps, is_trapped, kept_in, members_of, unless_behind}
 use Rattle.direct_meaning.specs.inner.Slots.{IsDoneBy, traps_on}
@@ -266,8 +266,8 @@ module _ {script : Script} {inputs left : List (List Value)} {number : ℕ}
         let rights = right_read in
         let a = lefts.source.from in
         let b = rights.source.from in
-        goes_quietly (made.Join one other) here (joined_by a.collection b.collection)
-        (λ i. option_and_then (λ c. option_map (joined_by c) (b.made i)) (a.made i)) result
+        goes_quietly (made.Join one other) here (joined_collections a.collection b.collection)
+        (λ i. option_and_then (λ c. option_map (joined_collections c) (b.made i)) (a.made i)) result
         (joined_kept result held more a.collection b.collection
         (keeps kept here.stands.table one (table_of lefts.key lefts.value) lefts.source held
         held_at)

@@ -11,7 +11,7 @@ use Rattle.flume_value.specs.declared.value.Value.{Value}
 use Rattle.flume_types.specs.Typing.{AllHave, Has}
 use Rattle.flume_types.specs.declared.types.Ty.{Ty}
 use Rattle.dofn_eval.specs.Answer.{HaveOutputTypes, HasAnswer}
-use Rattle.dofn_eval.specs.Function.{CanBeCalledOn, Function as Fun}
+use Rattle.dofn_eval.specs.Function.{CanBeCalledOn, SlotFunction as Fun}
 use Rattle.dofn_eval.specs.Outcome.{Outcome, Gives, Traps, Stuck}
 use Rattle.dofn_eval.specs.Run.{slots_mean}
 use Rattle.body_check.proofs.FunctionLemmas.{answered as has_answer}
@@ -23,7 +23,7 @@ use Rattle.script_program.specs.Script.{Function}
 use Rattle.script_laws.specs.WellFormed.{IsWellTyped}
 use Rattle.direct_meaning.proofs.PlaceLemmas.{zip_at}
 use Rattle.direct_meaning.proofs.TypeLemmas.{set_again}
-use Rattle.direct_meaning.specs.Calls.{answer_of, answered, calls_on}
+use Rattle.direct_meaning.specs.Calls.{answer_of, call_answered, answers_on}
 use Rattle.direct_meaning.specs.Direct.{called_by}
 use Rattle.direct_meaning.specs.Made.{IsCollectionOf}
 use Rattle.direct_meaning.specs.declared.kept.Kept.{Kept}
@@ -43,7 +43,7 @@ pub record Answers (gives : List Ty) (answer : Option Called) : Type 0 where
   pub has : CalledOf gives called
 
 answers_in : (gives : List Ty) (x : Value) (outcome : Outcome (List (List Value)))
-    → HasAnswer gives outcome → Answers gives (answered x outcome)
+    → HasAnswer gives outcome → Answers gives (call_answered x outcome)
 answers_in gives x (Gives lists) has = record {
   called = Ok lists;
   is = refl;
@@ -68,7 +68,7 @@ pub same_answer : (fun : Fun) (function : Function) → DoesAsWritten fun functi
     → answer_of function x ≡ slots_answer fun x
 unfolding answer_of slots_answer
 same_answer fun function does x =
-    ap (answered x)
+    ap (call_answered x)
     (ap (λ (n : ℕ).
     means function.types n function.argument function.signature.takes function.body x) does.typed.1
     ∙ does.means x)
@@ -76,12 +76,12 @@ same_answer fun function does x =
 pub gives_answer : (fun : Fun) (x : Value) (lists : List (List Value))
     → slots_mean fun.outputs fun.body x ≡ Gives lists → slots_answer fun x ≡ Some (Ok lists)
 unfolding slots_answer
-gives_answer fun x lists is = ap (answered x) is
+gives_answer fun x lists is = ap (call_answered x) is
 
 pub traps_answer : (fun : Fun) (x : Value) (kind : Kind)
     → slots_mean fun.outputs fun.body x ≡ Traps kind → slots_answer fun x ≡ Some (Err (kind, x))
 unfolding slots_answer
-traps_answer fun x kind is = ap (answered x) is
+traps_answer fun x kind is = ap (call_answered x) is
 
 pub accepts : (fun : Fun) (function : Function) → DoesAsWritten fun function → (x : Value)
     → Has function.signature.takes x → CanBeCalledOn fun x
@@ -96,7 +96,7 @@ Answer = Value → Option Called
 -- the calls on these elements are answered
 pub record AllAnswered (gives : List Ty) (answer : Answer) (elements : List Value) : Type 0 where
   pub calls : List Called
-  pub are : calls_on answer elements ≡ Some calls
+  pub are : answers_on answer elements ≡ Some calls
   pub have : Each (CalledOf gives) calls
 
 pub all_answered : (gives : List Ty) (answer : Answer) (elements : List Value)
@@ -118,9 +118,9 @@ module _ {X : Type 0} (read : Option Called → List X) (told : Called → List 
     (same : (called : Called) → read (Some called) ≡ told called) (answer : Answer) where
   first_told : (x : Value) (elements : List Value) (calls : List Called)
       (first : Option Called) (rest : Option (List Called))
-      → answer x ≡ first → calls_on answer elements ≡ rest
+      → answer x ≡ first → answers_on answer elements ≡ rest
       → option_and_then (λ called. option_map (λ more. called ∷ more) rest) first ≡ Some calls
-      → ((more : List Called) → calls_on answer elements ≡ Some more
+      → ((more : List Called) → answers_on answer elements ≡ Some more
       → flat_map (λ y. read (answer y)) elements ≡ flat_map told more)
       → read (answer x) ++ flat_map (λ y. read (answer y)) elements ≡ flat_map told calls
   first_told x elements calls None rest one others is all = cc
@@ -130,20 +130,20 @@ module _ {X : Type 0} (read : Option Called → List X) (told : Called → List 
       (λ i. read (one i) ++ all more others i) ∙ (λ i. same called i ++ flat_map told more)
       ∙ ap (flat_map told) are
 
-  told_all : (elements : List Value) (calls : List Called) → calls_on answer elements ≡ Some calls
+  told_all : (elements : List Value) (calls : List Called) → answers_on answer elements ≡ Some calls
       → flat_map (λ x. read (answer x)) elements ≡ flat_map told calls
   told_all [] calls is = let none : [] ≡ calls = cc in ap (flat_map told) none
   told_all (x ∷ elements) calls is =
-      first_told x elements calls (answer x) (calls_on answer elements) refl refl is
+      first_told x elements calls (answer x) (answers_on answer elements) refl refl is
       (told_all elements)
 
 pub emitted_all : (output : ℕ) (answer : Answer) (elements : List Value) (calls : List Called)
-    → calls_on answer elements ≡ Some calls
+    → answers_on answer elements ≡ Some calls
     → flat_map (λ x. emitted_by output (answer x)) elements ≡ flat_map (emissions output) calls
 emitted_all output = told_all (emitted_by output) (emissions output) (λ called. refl)
 
 pub trapped_all : (origin : ℕ) (answer : Answer) (elements : List Value) (calls : List Called)
-    → calls_on answer elements ≡ Some calls
+    → answers_on answer elements ≡ Some calls
     → flat_map (λ x. trapped_by origin (answer x)) elements ≡ flat_map (trap_of origin) calls
 trapped_all origin = told_all (trapped_by origin) (trap_of origin) (λ called. refl)
 

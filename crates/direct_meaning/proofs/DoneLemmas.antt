@@ -6,7 +6,7 @@ use Rattle.flume_collection.specs.Collection.{Collection}
 use Rattle.script_program.specs.Script.{Function, Script}
 use Rattle.script_laws.specs.WellFormed.{function_at}
 use Rattle.direct_meaning.proofs.PlaceLemmas.{found_then, mapped}
-use Rattle.direct_meaning.specs.Calls.{answer_of, called_by, calls_on}
+use Rattle.direct_meaning.specs.Calls.{answer_of, called_by, answers_on}
 use Rattle.direct_meaning.specs.Direct.{done_at, done_by, made_at}
 
 pub record HasDone (script : Script) (table : List (Option Collection))
@@ -16,7 +16,7 @@ pub record HasDone (script : Script) (table : List (Option Collection))
   pub from : Collection
   pub read : made_at table source ≡ Some from
   pub calls : List Called
-  pub all : calls_on (answer_of function) from.bag ≡ Some calls
+  pub all : answers_on (answer_of function) from.bag ≡ Some calls
   pub is : called_by origin output from.traps calls ≡ c
 
 pub has_done : (script : Script) (table : List (Option Collection))
@@ -31,7 +31,7 @@ has_done script table origin source called output c is =
     let (from, read, left) =
     found_then (done_by origin output function) (made_at table source) c done in
     let (calls, all, same) =
-    mapped (called_by origin output from.traps) (calls_on (answer_of function) from.bag) c left in
+    mapped (called_by origin output from.traps) (answers_on (answer_of function) from.bag) c left in
     record {
       function = function;
       at = at;

@@ -22,12 +22,12 @@ use Rattle.flume_collection.specs.declared.trap.Trap.{Trap}
 use Rattle.direct_meaning.proofs.CallLemmas.{emitted_all, trapped_all}
 use Rattle.direct_meaning.proofs.StandLemmas.{HasOwn, Source, all_traps, some_made}
 use Rattle.direct_meaning.proofs.TrapLemmas.{AreAmong, absorbed, among-append, known_all, traps-append, traps-set, unless-same}
-use Rattle.direct_meaning.specs.Calls.{calls_on}
-use Rattle.direct_meaning.specs.Direct.{all_made, called_by, combined_by, counted_by, counts_behind, joined_by, made_at, top_by, traps_behind}
+use Rattle.direct_meaning.specs.Calls.{answers_on}
+use Rattle.direct_meaning.specs.Direct.{all_made, called_by, combined_by, counted_by, counts_behind, joined_collections, made_at, top_by, traps_behind}
 use Rattle.direct_meaning.specs.Made.{IsCollectionOf}
 use Rattle.direct_meaning.specs.declared.kept.Kept.{Kept}
 use Rattle.direct_meaning.specs.inner.Kept.{Keeps, has_traps, is_trapped, kept_in, members_of, unless_behind}
-use Rattle.direct_meaning.specs.Objects.{only, value_of, values_of}
+use Rattle.direct_meaning.specs.Objects.{only, value_of, object_values}
 use Rattle.direct_meaning.specs.inner.Objects.{value_kept, values_in}
 use Rattle.direct_meaning.specs.inner.Slots.{IsDoneBy, emitted_by, traps_on}
 
@@ -166,7 +166,7 @@ counted_own table number origin held c made keeps through =
 pub joined_kept : (result left right : Kept) (a b : Collection) → Keeps left a → Keeps right b
     → result.members ≡ unless_behind (left.trapped || right.trapped)
     (joined left.members right.members)
-    → result.trapped ≡ (left.trapped || right.trapped) → Keeps result (joined_by a b)
+    → result.trapped ≡ (left.trapped || right.trapped) → Keeps result (joined_collections a b)
 joined_kept result left right a b lefts rights members trapped =
     let either : (left.trapped || right.trapped) ≡ has_traps (a.traps ++ b.traps)
     = (λ i. lefts.trapped i || rights.trapped i) ∙ sym (traps-append a.traps b.traps) in
@@ -179,7 +179,7 @@ joined_kept result left right a b lefts rights members trapped =
 
 pub joined_own : (table : List (Option Collection)) (left right : ℕ) (a b : Collection)
     → made_at table left ≡ Some a → made_at table right ≡ Some b
-    → HasOwn table [] (joined_by a b)
+    → HasOwn table [] (joined_collections a b)
 joined_own table left right a b first second =
     set_known_own table (a.traps ++ b.traps) (trap_set (a.traps ++ b.traps))
     (among-append (all_traps table) a.traps b.traps (among_made table left a first)
@@ -228,7 +228,7 @@ pub record Stood (kept : List (Option Kept)) (table : List (Option Collection))
       ≡ flat_map (λ c. c.bag) collections
   pub trapped : list_any (λ number. is_trapped (kept_in kept number)) numbers
       ≡ has_traps (flat_map (λ c. c.traps) collections)
-  pub values : values_in kept numbers ≡ values_of collections
+  pub values : values_in kept numbers ≡ object_values collections
   pub known : AreAmong (all_traps table) (flat_map (λ c. c.traps) collections)
 
 pub nothing_among : (known : List Trap) → AreAmong known []
@@ -294,7 +294,7 @@ together_own kept table numbers stood =
 
 pub called_kept : (origin output : ℕ) (answer : Value → Option Called) (calls : List Called)
     (result held : Kept) (c : Collection) (before after : List Trap) → Keeps held c
-    → calls_on answer c.bag ≡ Some calls
+    → answers_on answer c.bag ≡ Some calls
     → IsDoneBy origin output answer held result before after
     → Keeps result (called_by origin output c.traps calls)
 called_kept origin output answer calls result held c before after keeps are done =
@@ -312,7 +312,7 @@ called_kept origin output answer calls result held c before after keeps are done
 
 pub called_own : (table : List (Option Collection)) (number origin output : ℕ)
     (answer : Value → Option Called) (calls : List Called) (held : Kept) (c : Collection)
-    → made_at table number ≡ Some c → Keeps held c → calls_on answer c.bag ≡ Some calls
+    → made_at table number ≡ Some c → Keeps held c → answers_on answer c.bag ≡ Some calls
     → HasOwn table (traps_on origin answer held.members)
     (called_by origin output c.traps calls)
 called_own table number origin output answer calls held c made keeps are =

@@ -27,7 +27,7 @@ use Rattle.direct_meaning.proofs.PlaceLemmas.{mapped, within}
 use Rattle.direct_meaning.proofs.TableLemmas.{IsMadeAt, all_found, found, made_object, zip_made}
 use Rattle.direct_meaning.proofs.TypeLemmas.{combined_is, counted_is, grouped_is, joined_is, rows_are, together_is, top_is}
 use Rattle.direct_meaning.specs.Calls.{answer_of}
-use Rattle.direct_meaning.specs.Direct.{called_by, combined_by, counted_by, done_at, done_beside_at, done_by, inputs_behind, joined_by, made_as, operated_at, rows_as, top_by}
+use Rattle.direct_meaning.specs.Direct.{called_by, combined_by, counted_by, done_at, done_beside_at, done_by, inputs_behind, joined_collections, made_as, operated_at, rows_as, top_by}
 use Rattle.direct_meaning.specs.Inputs.{AreLists, Sourced, sourced_by}
 use Rattle.direct_meaning.specs.Made.{AreMade, IsCollectionOf}
 use Rattle.direct_meaning.specs.Objects.{IsObject, combined_whole, done_beside, operated_by}
@@ -92,9 +92,11 @@ module _ (script : Script) (before : Named Node) (table : List (Option Collectio
       → type ≡ table_of key (sides_of lefts rights)
       → Makes script number (made.Join left right) inputs table type
   join_makes number left right type inputs key lefts rights a b gives = record {
-    collection = joined_by a.collection b.collection;
-    made = λ i. option_and_then (λ c. option_map (joined_by c) (b.made i)) (a.made i);
-    is = subst (λ (t : Ty). IsCollectionOf t (joined_by a.collection b.collection)) (sym gives)
+    collection = joined_collections a.collection b.collection;
+    made = λ i. option_and_then (λ c. option_map (joined_collections c) (b.made i)) (a.made i);
+    is =
+        subst (λ (t : Ty). IsCollectionOf t (joined_collections a.collection b.collection))
+        (sym gives)
         (joined_is key lefts rights a.collection b.collection a.is b.is);
     object = λ is. cc;
   }

@@ -20,7 +20,7 @@ use Rattle.direct_meaning.specs.Direct.{collections, inputs_behind, made_as}
 use Rattle.direct_meaning.specs.Inputs.{AreInputs, AreLists, Sourced, sourced_by}
 use Rattle.direct_meaning.specs.Made.{AreMade}
 use Rattle.script_program.specs.Sources.{in_order}
-use Rattle.script_program.specs.Needed.{is_needed, numbered, operands, outputs_read}
+use Rattle.script_program.specs.Needed.{is_needed, collections_numbered, operands, outputs_read}
 use Rattle.direct_meaning.specs.inner.Stands.{sourced_from}
 
 -- what the nodes from a number on want, where the first is needed or not
@@ -28,8 +28,9 @@ abbrev wanted_if : Bool → Script → ℕ → List ℕ × Node → Named Node �
 wanted_if needed script number entry rest =
     flat_map (λ it. sourced_by it.1.1.made it.1.1.type)
     (cond needed
-    ((number, entry) ∷ filter (λ it. is_needed script it.0) (numbered (suc number) rest))
-    (filter (λ it. is_needed script it.0) (numbered (suc number) rest)))
+    ((number, entry) ∷ filter (λ it. is_needed script it.0)
+    (collections_numbered (suc number) rest))
+    (filter (λ it. is_needed script it.0) (collections_numbered (suc number) rest)))
 
 pub wanted_needed : (script : Script) (number : ℕ) (entry : List ℕ × Node) (rest : Named Node)
     (inputs : List (List Value)) → is_needed script number ≡ true

@@ -35,7 +35,7 @@ use Rattle.direct_meaning.proofs.TypeLemmas.{taken}
 use Rattle.direct_meaning.specs.Calls.{answer_of}
 use Rattle.direct_meaning.specs.Direct.{all_made, done_beside_at, inputs_behind, made_as, operated_at}
 use Rattle.direct_meaning.specs.Made.{IsCollectionOf}
-use Rattle.direct_meaning.specs.Objects.{argument_of, combined_whole, done_beside, object_as, operated_by, value_of, values_of, whole_value}
+use Rattle.direct_meaning.specs.Objects.{argument_of, combined_whole, done_beside, object_as, operated_by, value_of, object_values, whole_value}
 use Rattle.direct_meaning.specs.declared.kept.Kept.{Kept}
 use Rattle.direct_meaning.specs.inner.Kept.{has_traps, unless_behind}
 use Rattle.direct_meaning.specs.inner.Objects.{IsDoneBeside, IsDoneOn, IsOperated, IsOperatedOn, value_kept, values_in, whole_of}
@@ -197,7 +197,7 @@ module _ {script : Script} {inputs left : List (List Value)} {number : ℕ}
       (ap (option_and_then (λ (f : Function). operated_at number f objects table)) it.at
       ∙ ap (option_and_then (operated_by number answer)) stood.made)
       result after
-      (operated_comes table number answer cs (values_of cs) result traps after stood.known
+      (operated_comes table number answer cs (object_values cs) result traps after stood.known
       (subst (λ (v : Option (List Value)). IsOperatedOn number answer
       (has_traps (flat_map (λ (c : Collection). c.traps) cs)) v result traps after) stood.values
       (subst (λ (b : Bool). IsOperatedOn number answer b (values_in kept objects) result traps

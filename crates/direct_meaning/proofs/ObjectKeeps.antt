@@ -11,7 +11,7 @@ use Rattle.flume_collection.specs.declared.trap.Trap.{Trap}
 use Rattle.direct_meaning.proofs.KeepLemmas.{among_made, called_kept, called_own, known_own, nothing_among, set_known_own}
 use Rattle.direct_meaning.proofs.StandLemmas.{HasOwn, all_traps}
 use Rattle.direct_meaning.proofs.TrapLemmas.{AreAmong, among-append, traps-append, traps-set}
-use Rattle.direct_meaning.specs.Calls.{called_by, calls_on}
+use Rattle.direct_meaning.specs.Calls.{called_by, answers_on}
 use Rattle.direct_meaning.specs.Direct.{made_at}
 use Rattle.direct_meaning.specs.Objects.{answer_beside, argument_of, called_once, done_on, nothing_behind, object_as, operated_on, whole_behind, whole_value}
 use Rattle.direct_meaning.specs.declared.kept.Kept.{Kept}
@@ -113,7 +113,7 @@ module _ (table : List (Option Collection)) (source other origin : ℕ)
     (before after : List Trap) where
   pub done_comes : (v : Option Value)
       → ((x : Value) → v ≡ Some x
-      → (calls : List Called) × (calls_on (answer_beside answer x) c.bag ≡ Some calls))
+      → (calls : List Called) × (answers_on (answer_beside answer x) c.bag ≡ Some calls))
       → IsDoneOn origin answer (held.trapped || beside.trapped) v held result before after
       → Comes table (done_on origin answer v c object) result before after
   done_comes None calls done =

@@ -15,7 +15,7 @@ use Rattle.direct_meaning.proofs.CallLemmas.{AllAnswered, Answers, CalledOf, all
 use Rattle.direct_meaning.proofs.ObjectTypes.{argument_has, as_object, nothing_is, nothing_object, object_is, record_has, value_has, values_have}
 use Rattle.direct_meaning.specs.Calls.{answer_of, called_by}
 use Rattle.direct_meaning.specs.Made.{IsCollectionOf}
-use Rattle.direct_meaning.specs.Objects.{IsObject, answer_beside, answered_once, argument_of, done_beside, done_on, naming, nothing_behind, object_as, one_of, only, operated_by, operated_on, value_of, values_of}
+use Rattle.direct_meaning.specs.Objects.{IsObject, answer_beside, answered_once, argument_of, done_beside, done_on, naming, nothing_behind, object_as, emission_on, only, operated_by, operated_on, value_of, object_values}
 
 -- ---- one emission
 
@@ -24,7 +24,7 @@ one_has P [] x each is = cc
 one_has P (y ∷ []) x each is = let same : y ≡ x = cc in subst P same each.0
 one_has P (y ∷ (z ∷ zs)) x each is = cc
 
-one_ok : (origin : ℕ) (x : Value) (one : Option Value) (v : Value) → one_of origin x one ≡ Ok v
+one_ok : (origin : ℕ) (x : Value) (one : Option Value) (v : Value) → emission_on origin x one ≡ Ok v
     → one ≡ Some v
 one_ok origin x (Some w) v is = let same : w ≡ v = cc in ap (λ (u : Value). Some u) same
 one_ok origin x None v is = cc
@@ -63,7 +63,7 @@ module _ (origin : ℕ) (function : Function) (typed : IsWellTyped function) (ty
 
   module _ (types : List Ty) (cs : List Collection) (are : AllZip IsCollectionOf types cs)
       (objects : Each IsObject cs) (takes : IsArgument types function.signature.takes) where
-    operated_so : (values : Option (List Value)) → values_of cs ≡ values
+    operated_so : (values : Option (List Value)) → object_values cs ≡ values
         → OneMade type (operated_on origin answer values cs)
     operated_so (Some values) is =
         let x = argument_of values in
@@ -85,7 +85,7 @@ module _ (origin : ℕ) (function : Function) (typed : IsWellTyped function) (ty
     }
 
     pub operated_made : OneMade type (operated_by origin answer cs)
-    operated_made = operated_so (values_of cs) refl
+    operated_made = operated_so (object_values cs) refl
 
   -- ---- do .. with
 

@@ -32,7 +32,7 @@ use Rattle.script_laws.specs.WellFormed.{IsArgument, IsRecord}
 use Rattle.direct_meaning.proofs.TrapLemmas.{traps-append, traps-set}
 use Rattle.direct_meaning.proofs.TypeLemmas.{set_again, taken}
 use Rattle.direct_meaning.specs.Made.{IsCollectionOf}
-use Rattle.direct_meaning.specs.Objects.{IsObject, argument_of, combined_whole, members_behind, nothing_behind, object_as, only, value_of, values_of, whole_behind, whole_value}
+use Rattle.direct_meaning.specs.Objects.{IsObject, argument_of, combined_whole, members_behind, nothing_behind, object_as, only, value_of, object_values, whole_behind, whole_value}
 use Rattle.direct_meaning.specs.inner.Kept.{has_traps}
 
 -- ---- objects
@@ -182,19 +182,19 @@ first_have types type (Some v) (Some vs) values is f g =
     let both : HaveTypes (type ∷ types) (v ∷ vs) = (f v refl, g vs refl) in
     subst (HaveTypes (type ∷ types)) same both
 
-no_values : (values : List Value) → values_of [] ≡ Some values → HaveTypes [] values
+no_values : (values : List Value) → object_values [] ≡ Some values → HaveTypes [] values
 no_values values is =
     let same : [] ≡ values = cc in
     let none : HaveTypes [] [] = tt in
     subst (HaveTypes []) same none
 
 pub values_have : (types : List Ty) (cs : List Collection) → AllZip IsCollectionOf types cs
-    → (values : List Value) → values_of cs ≡ Some values → HaveTypes types values
+    → (values : List Value) → object_values cs ≡ Some values → HaveTypes types values
 values_have [] [] are values is = no_values values is
 values_have [] (c ∷ cs) are values is = absurd are
 values_have (type ∷ types) [] are values is = absurd are
 values_have (type ∷ types) (c ∷ cs) are values is =
-    first_have types type (value_of c) (values_of cs) values is
+    first_have types type (value_of c) (object_values cs) values is
     (λ v at. value_has type c are.0 v at) (λ vs at. values_have types cs are.1 vs at)
 
 pub record_has : (types : List Ty) (type : Ty) (values : List Value) → IsRecord types type
@@ -244,11 +244,11 @@ lost_first c traps (Some v) None object first others none =
     ∙ or_true (has_traps c.traps)
 lost_first c traps (Some v) (Some vs) object first others none = cc
 
-lost_all : (cs : List Collection) → Each IsObject cs → values_of cs ≡ None
+lost_all : (cs : List Collection) → Each IsObject cs → object_values cs ≡ None
     → has_traps (flat_map (λ c. c.traps) cs) ≡ true
 lost_all [] objects none = cc
 lost_all (c ∷ cs) objects none =
-    lost_first c (flat_map (λ (d : Collection). d.traps) cs) (value_of c) (values_of cs)
+    lost_first c (flat_map (λ (d : Collection). d.traps) cs) (value_of c) (object_values cs)
     objects.0 refl (lost_all cs objects.1) none
 
 none_behind : (traps : List Trap) → has_traps traps ≡ true → 0 ≡ members_behind traps
@@ -256,7 +256,7 @@ none_behind [] has = cc
 none_behind (trap ∷ traps) has = refl
 
 -- nothing behind objects of which one has no value is an object
-pub nothing_object : (cs : List Collection) → Each IsObject cs → values_of cs ≡ None
+pub nothing_object : (cs : List Collection) → Each IsObject cs → object_values cs ≡ None
     → IsObject (nothing_behind cs)
 nothing_object cs objects none =
     none_behind (nothing_behind cs).traps

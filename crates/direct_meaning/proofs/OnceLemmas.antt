@@ -5,7 +5,7 @@ use Rattle.std.specs.List.{flat_map}
 use Rattle.flume_value.specs.Bag.{bag_of}
 use Rattle.flume_value.specs.declared.value.Value.{Value}
 use Rattle.flume_value.specs.declared.value.Value.TheVariants as value
-use Rattle.dofn_eval.specs.Function.{Function as Fun}
+use Rattle.dofn_eval.specs.Function.{SlotFunction as Fun}
 use Rattle.flume_collection.specs.Calls.{Called}
 use Rattle.flume_collection.specs.declared.trap.Trap.{Trap}
 use Rattle.script_program.specs.Program.{DoesAsWritten}

@@ -7,10 +7,10 @@ use Rattle.flume_value.specs.declared.value.Value.{Value}
 use Rattle.script_laws.specs.of_written_types.Named.{Named}
 use Rattle.script_program.specs.declared.made.Made.{Made}
 use Rattle.script_program.specs.declared.made.Made.TheVariants as made
-use Rattle.script_program.specs.Needed.{is_needed, numbered}
+use Rattle.script_program.specs.Needed.{is_needed, collections_numbered}
 use Rattle.script_program.specs.Saved.{IsUnsaved}
 use Rattle.script_program.specs.Script.{Node, Script}
-use Rattle.script_program.specs.Sources.{in_order, ordered, source_kind, source_kinds}
+use Rattle.script_program.specs.Sources.{in_order, by_kinds, source_kind, source_kinds}
 use Rattle.direct_meaning.specs.Inputs.{AreInputs, AreLists, HaveRows, Sourced, Wanted, inputs_of, sourced, sourced_by, wanted_by}
 
 abbrev pub more_if : {X : Type 0} → Bool → List X → List X → List X
@@ -23,7 +23,7 @@ flat-if g false x xs = refl
 
 -- all inputs: as they stand
 all-inputs : {X : Type 0} (kinds : List Bool) → Each (λ kind. kind ≡ false) kinds
-    → (lists : List X) → ordered kinds lists ≡ lists
+    → (lists : List X) → by_kinds kinds lists ≡ lists
 all-inputs [] none lists = refl
 all-inputs (true ∷ kinds) none lists = let e = none.0 in cc
 all-inputs (false ∷ kinds) none [] = refl
@@ -42,13 +42,13 @@ all-plain : (script : Script) (n : ℕ) (nodes : Named Node)
     → Each (λ entry. IsUnsaved entry.1.made) nodes
     → Each (λ kind. kind ≡ false)
     (flat_map (λ it. source_kind it.1.1.made)
-    (filter (λ it. is_needed script it.0) (numbered n nodes)))
+    (filter (λ it. is_needed script it.0) (collections_numbered n nodes)))
 all-plain script n [] un = tt
 all-plain script n (entry ∷ nodes) un =
     subst (Each (λ kind. kind ≡ false))
     (sym
     (flat-if (λ (x : ℕ × (List ℕ × Node)). source_kind x.1.1.made) (is_needed script n) (n, entry)
-    (filter (λ it. is_needed script it.0) (numbered (suc n) nodes))))
+    (filter (λ it. is_needed script it.0) (collections_numbered (suc n) nodes))))
     (no-kept (is_needed script n) entry.1.made un.0 _ (all-plain script (suc n) nodes un.1))
 
 -- its lists stand in order of the script
@@ -75,13 +75,13 @@ one-more true _ un type own others rows behind have = behind rows have
 lists-from : (script : Script) (n : ℕ) (nodes : Named Node)
     → Each (λ entry. IsUnsaved entry.1.made) nodes → (rows : List (List Value))
     → HaveRows (flat_map (λ it. wanted_by it.1.1.made it.1.1.type)
-    (filter (λ it. is_needed script it.0) (numbered n nodes))) rows
+    (filter (λ it. is_needed script it.0) (collections_numbered n nodes))) rows
     → AreLists (flat_map (λ it. sourced_by it.1.1.made it.1.1.type)
-    (filter (λ it. is_needed script it.0) (numbered n nodes))) rows
+    (filter (λ it. is_needed script it.0) (collections_numbered n nodes))) rows
 lists-from script n [] un [] have = tt
 lists-from script n [] un (list ∷ rows) have = absurd have
 lists-from script n (entry ∷ nodes) un rows have =
-    let rest = filter (λ it. is_needed script it.0) (numbered (suc n) nodes) in
+    let rest = filter (λ it. is_needed script it.0) (collections_numbered (suc n) nodes) in
     subst (λ l. AreLists l rows)
     (sym (flat-if (λ (x : ℕ × (List ℕ × Node)). sourced_by x.1.1.made x.1.1.type)
     (is_needed script n) (n, entry) rest))

@@ -34,7 +34,7 @@ use Rattle.flume_collection.specs.Collection.{Collection, by_key, together, unle
 use Rattle.flume_collection.specs.Traps.{trap_le, trap_set}
 use Rattle.flume_collection.specs.declared.trap.Trap.{Trap}
 use Rattle.script_laws.specs.of_script_rules.Operations.{combined_type, sides_of}
-use Rattle.direct_meaning.specs.Direct.{combined_by, counted_by, counts_behind, joined_by, rows_as, top_by}
+use Rattle.direct_meaning.specs.Direct.{combined_by, counted_by, counts_behind, joined_collections, rows_as, top_by}
 use Rattle.direct_meaning.specs.Made.{IsCollectionOf}
 
 -- ---- parts
@@ -165,7 +165,7 @@ counted_is origin type c it = counts_are origin type c.traps c.bag it.typed it.s
 
 pub joined_is : (key left right : Ty) (a b : Collection) → IsCollectionOf (table_of key left) a
     → IsCollectionOf (table_of key right) b
-    → IsCollectionOf (table_of key (sides_of left right)) (joined_by a b)
+    → IsCollectionOf (table_of key (sides_of left right)) (joined_collections a b)
 joined_is key left right a b lefts rights = record {
   typed = unless-all (Has (table_of key (sides_of left right))) (a.traps ++ b.traps)
       (joined a.bag b.bag) (joined-typed key left right a.bag b.bag lefts.typed rights.typed);

@@ -9,18 +9,18 @@ use Rattle.flume_value.specs.declared.fault.Kind.TheVariants as kind
 use Rattle.flume_value.specs.declared.value.Value.{Value}
 use Rattle.flume_value.specs.declared.value.Value.TheVariants as value
 use Rattle.combine_table.proofs.Parts.{int_or_zero-Int}
-use Rattle.combine_table.specs.Combinations.{int_or_overflow, total, wrapped}
+use Rattle.combine_table.specs.Combinations.{int_or_overflow, int_total, wrapped}
 use Rattle.combine_table.specs.declared.comb.Comb.TheVariants as by
 use Rattle.flume_collection.specs.Calls.{Called}
 use Rattle.flume_collection.specs.Collection.{Collection}
 use Rattle.direct_meaning.specs.Calls.{called_by}
 use Rattle.direct_meaning.specs.Objects.{answered_once, combined_whole, done_beside, naming, object_as, operated_by, whole_behind}
-use Rattle.direct_meaning.specs.Worked.{both, emits, int, ints, trapped}
+use Rattle.direct_meaning.specs.Worked.{two_ints, emits, int, ints, behind_one_trap}
 use Rattle.combine_table.proofs.Rows.{cmp_ints}
 
 -- ---- sums
 
-two_added : total (int 1 ∷ int 3 ∷ []) ≡ pos 4
+two_added : int_total (int 1 ∷ int 3 ∷ []) ≡ pos 4
 two_added = λ i. int_or_zero-Int (pos 1) i +ℤ (int_or_zero-Int (pos 3) i +ℤ pos 0)
 
 pub sum_of_two : combined_whole 3 by.Sum (ints (1 ∷ 3 ∷ [])) ≡ ints (4 ∷ [])
@@ -46,8 +46,8 @@ calls_of first second =
     option_and_then (λ called. option_map (λ calls. called ∷ calls)
     (option_and_then (λ other. option_map (λ calls. other ∷ calls) (Some [])) second)) first
 
-pub two_shares : (g : Value → Option Called) → g (both 1 4) ≡ emits (25 ∷ [])
-    → g (both 3 4) ≡ emits (75 ∷ [])
+pub two_shares : (g : Value → Option Called) → g (two_ints 1 4) ≡ emits (25 ∷ [])
+    → g (two_ints 3 4) ≡ emits (75 ∷ [])
     → done_beside 3 g (ints (1 ∷ 3 ∷ [])) (ints (4 ∷ [])) ≡ Some (ints (25 ∷ 75 ∷ []))
 two_shares g first second =
     (λ i. option_map (called_by 3 0 [])
@@ -56,9 +56,9 @@ two_shares g first second =
     (in_order (int 25) (int 75) (ap is_lt (cmp_ints (pos 75) (pos 25))))
 
 pub share_of_none : (g : Value → Option Called)
-    → g (both 1 0) ≡ Some (Err (kind.DivideByZero, both 1 0))
+    → g (two_ints 1 0) ≡ Some (Err (kind.DivideByZero, two_ints 1 0))
     → done_beside 3 g (ints (1 ∷ [])) (ints (0 ∷ []))
-    ≡ Some (trapped kind.DivideByZero (int 1))
+    ≡ Some (behind_one_trap kind.DivideByZero (int 1))
 share_of_none g is = λ i.
     option_map (called_by 3 0 [])
     (option_and_then (λ called. option_map (λ calls. called ∷ calls) (Some []))
@@ -74,13 +74,13 @@ pub one_emitted : (h : Value → Option Called) → h (int 4) ≡ emits (4 ∷ [
 one_emitted h is = λ i. once (int 4) (is i)
 
 pub none_emitted : (h : Value → Option Called) → h (int 1) ≡ emits []
-    → operated_by 3 h (ints (1 ∷ []) ∷ []) ≡ Some (trapped kind.NotOne (int 1))
+    → operated_by 3 h (ints (1 ∷ []) ∷ []) ≡ Some (behind_one_trap kind.NotOne (int 1))
 none_emitted h is = λ i. once (int 1) (is i)
 
 pub two_emitted : (h : Value → Option Called) → h (int 1) ≡ emits (5 ∷ 5 ∷ [])
-    → operated_by 3 h (ints (1 ∷ []) ∷ []) ≡ Some (trapped kind.NotOne (int 1))
+    → operated_by 3 h (ints (1 ∷ []) ∷ []) ≡ Some (behind_one_trap kind.NotOne (int 1))
 two_emitted h is = λ i. once (int 1) (is i)
 
-pub on_two : (h : Value → Option Called) → h (both 4 2) ≡ emits (6 ∷ [])
+pub on_two : (h : Value → Option Called) → h (two_ints 4 2) ≡ emits (6 ∷ [])
     → operated_by 3 h (ints (4 ∷ []) ∷ ints (2 ∷ []) ∷ []) ≡ Some (ints (6 ∷ []))
-on_two h is = λ i. once (both 4 2) (is i)
+on_two h is = λ i. once (two_ints 4 2) (is i)

@@ -13,23 +13,23 @@ use Rattle.flume_collection.specs.declared.trap.Trap.{Trap}
 
 -- what a call that comes to this answers: a trap names the call's element; what is stuck answers
 -- nothing
-abbrev pub answered : Value → Outcome (List (List Value)) → Option Called
-answered element (Gives outputs) = Some (Ok outputs)
-answered element (Traps kind) = Some (Err (kind, element))
-answered element Stuck = None
+abbrev pub call_answered : Value → Outcome (List (List Value)) → Option Called
+call_answered element (Gives outputs) = Some (Ok outputs)
+call_answered element (Traps kind) = Some (Err (kind, element))
+call_answered element Stuck = None
 
 -- what a call of a function on an element answers, by the meaning of its body
 unfoldable pub answer_of : Function → Value → Option Called
 answer_of function element =
-    answered element
+    call_answered element
     (means function.types (length function.signature.gives) function.argument
     function.signature.takes function.body element)
 
 -- the answers of the calls on these elements, in order; none where one of them has no answer
-abbrev pub calls_on : (Value → Option Called) → List Value → Option (List Called)
-calls_on answer [] = Some []
-calls_on answer (element ∷ elements) =
-    option_and_then (λ called. option_map (λ calls. called ∷ calls) (calls_on answer elements))
+abbrev pub answers_on : (Value → Option Called) → List Value → Option (List Called)
+answers_on answer [] = Some []
+answers_on answer (element ∷ elements) =
+    option_and_then (λ called. option_map (λ calls. called ∷ calls) (answers_on answer elements))
     (answer element)
 
 -- what calls give to the output of that place, behind these traps

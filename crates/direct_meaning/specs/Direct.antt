@@ -19,7 +19,7 @@ use Rattle.script_program.specs.declared.made.Made.{Made}
 use Rattle.script_program.specs.declared.made.Made.TheVariants as made
 use Rattle.script_program.specs.Script.{Function, Node, Script}
 use Rattle.script_laws.specs.WellFormed.{function_at}
-use Rattle.direct_meaning.specs.Calls.{answer_of, calls_on}
+use Rattle.direct_meaning.specs.Calls.{answer_of, answers_on}
 pub use Rattle.direct_meaning.specs.Calls.{called_by}
 use Rattle.direct_meaning.specs.Objects.{combined_whole, done_beside, operated_by}
 use Rattle.script_program.specs.Needed.{is_needed}
@@ -35,7 +35,7 @@ rows_as rows = record { bag = bag_of rows; traps = [] }
 -- to it that do not trap. The origin is the number of the statement's first name.
 abbrev pub done_by : ℕ → ℕ → Function → Collection → Option Collection
 done_by origin output function c =
-    option_map (called_by origin output c.traps) (calls_on (answer_of function) c.bag)
+    option_map (called_by origin output c.traps) (answers_on (answer_of function) c.bag)
 
 -- each group with its list combined, but those that trap
 abbrev pub combined_by : ℕ → Comb → Collection → Collection
@@ -57,8 +57,8 @@ abbrev pub counted_by : ℕ → Collection → Collection
 counted_by origin c = counts_behind origin c.traps c.bag
 
 -- both sides of each key of two tables; none where a trap is behind either
-abbrev pub joined_by : Collection → Collection → Collection
-joined_by a b = record {
+abbrev pub joined_collections : Collection → Collection → Collection
+joined_collections a b = record {
   bag = unless_trapped (a.traps ++ b.traps) (joined a.bag b.bag);
   traps = trap_set (a.traps ++ b.traps);
 }
@@ -91,7 +91,8 @@ done_at origin output function source table =
 -- the join of the collections of two numbers
 abbrev pub joined_at : ℕ → ℕ → List (Option Collection) → Option Collection
 joined_at left right table =
-    option_and_then (λ a. option_map (joined_by a) (made_at table right)) (made_at table left)
+    option_and_then (λ a. option_map (joined_collections a) (made_at table right))
+    (made_at table left)
 
 -- what a function makes of the objects of these numbers
 abbrev pub operated_at : ℕ → Function → List ℕ → List (Option Collection) → Option Collection

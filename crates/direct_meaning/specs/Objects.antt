@@ -13,7 +13,7 @@ use Rattle.flume_collection.specs.Calls.{Called, emissions, trap_named}
 use Rattle.flume_collection.specs.Collection.{Collection}
 pub use Rattle.flume_collection.specs.Objects.{argument_of, naming, nothing_behind, only, value_in as value_of}
 use Rattle.flume_collection.specs.declared.trap.Trap.{Trap}
-use Rattle.direct_meaning.specs.Calls.{called_by, calls_on}
+use Rattle.direct_meaning.specs.Calls.{called_by, answers_on}
 
 -- ---- objects
 
@@ -32,9 +32,10 @@ object_as (Ok v) = record { bag = v ∷ []; traps = [] }
 object_as (Err trap) = record { bag = []; traps = trap ∷ [] }
 
 -- the values of several objects, where each has one
-abbrev pub values_of : List Collection → Option (List Value)
-values_of [] = Some []
-values_of (c ∷ cs) = option_and_then (λ v. option_map (λ vs. v ∷ vs) (values_of cs)) (value_of c)
+abbrev pub object_values : List Collection → Option (List Value)
+object_values [] = Some []
+object_values (c ∷ cs) =
+    option_and_then (λ v. option_map (λ vs. v ∷ vs) (object_values cs)) (value_of c)
 
 -- ---- combineall: all members as one value
 
@@ -54,13 +55,13 @@ combined_whole origin comb c = whole_behind origin c.traps (combined comb c.bag)
 -- ---- operate: one call on the values of objects
 
 -- the one emission of a call on x; where there is not just one, a trap that has x
-abbrev pub one_of : ℕ → Value → Option Value → Result Value Trap
-one_of origin x (Some v) = Ok v
-one_of origin x None = Err (trap_named origin (kind.NotOne, x))
+abbrev pub emission_on : ℕ → Value → Option Value → Result Value Trap
+emission_on origin x (Some v) = Ok v
+emission_on origin x None = Err (trap_named origin (kind.NotOne, x))
 
 -- what a call on x that answers so comes to: its one emission, or its trap
 abbrev pub answered_once : ℕ → Value → Called → Result Value Trap
-answered_once origin x (Ok outputs) = one_of origin x (only (emissions 0 (Ok outputs)))
+answered_once origin x (Ok outputs) = emission_on origin x (only (emissions 0 (Ok outputs)))
 answered_once origin x (Err trap) = Err (trap_named origin trap)
 
 module _ (origin : ℕ) (answer : Value → Option Called) where
@@ -74,7 +75,7 @@ module _ (origin : ℕ) (answer : Value → Option Called) where
   operated_on None objects = Some (nothing_behind objects)
 
   abbrev pub operated_by : List Collection → Option Collection
-  operated_by objects = operated_on (values_of objects) objects
+  operated_by objects = operated_on (object_values objects) objects
 
 -- ---- do .. with: a call on each member beside the value of an object
 
@@ -88,7 +89,7 @@ module _ (origin : ℕ) (answer : Value → Option Called) where
   -- where it has none
   abbrev pub done_on : Option Value → Collection → Collection → Option Collection
   done_on (Some v) c object =
-      option_map (called_by origin 0 c.traps) (calls_on (answer_beside answer v) c.bag)
+      option_map (called_by origin 0 c.traps) (answers_on (answer_beside answer v) c.bag)
   done_on None c object = Some (nothing_behind (c ∷ object ∷ []))
 
   abbrev pub done_beside : Collection → Collection → Option Collection

@@ -15,12 +15,12 @@ abbrev pub ints : List ℕ → Collection
 ints numbers = record { bag = map int numbers; traps = [] }
 
 -- nothing, behind one trap of the collection of number 3
-abbrev pub trapped : Kind → Value → Collection
-trapped why element = record { bag = []; traps = trap_named 3 (why, element) ∷ [] }
+abbrev pub behind_one_trap : Kind → Value → Collection
+behind_one_trap why element = record { bag = []; traps = trap_named 3 (why, element) ∷ [] }
 
 -- the record of two numbers
-abbrev pub both : ℕ → ℕ → Value
-both x t = value.Rec (int x ∷ int t ∷ [])
+abbrev pub two_ints : ℕ → ℕ → Value
+two_ints x t = value.Rec (int x ∷ int t ∷ [])
 
 -- the answer of a call that emits these numbers
 abbrev pub emits : List ℕ → Option Called

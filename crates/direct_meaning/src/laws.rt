@@ -13,7 +13,7 @@ ghost use Rattle.direct_meaning.specs.Direct.{made_at, meaning, size_of, traps_o
 ghost use Rattle.direct_meaning.specs.Inputs.{AreInputs};
 ghost use Rattle.direct_meaning.specs.Made.{AreMade};
 ghost use Rattle.direct_meaning.specs.Objects.{IsObject, combined_whole, done_beside, operated_by};
-ghost use Rattle.direct_meaning.specs.Worked.{both, emits, int, ints, trapped};
+ghost use Rattle.direct_meaning.specs.Worked.{two_ints, emits, int, ints, behind_one_trap};
 
 /// A well-formed script, as each accepted one is, has a meaning over rows of its needed inputs: a
 /// collection of its type for each needed node, and none for the others.
@@ -45,26 +45,26 @@ pub fn objects_law()
 pub fn combined_law()
     ensures sum { combined_whole 3 by.Sum (ints (1 ∷ 3 ∷ [])) ≡ ints (4 ∷ []) }
     ensures none { combined_whole 3 by.Sum (ints []) ≡ ints (0 ∷ []) }
-    ensures least { combined_whole 3 by.Min (ints []) ≡ trapped kind.BadIndex (int 0) }
-    ensures behind { combined_whole 3 by.Sum (trapped kind.Overflow (int 7))
-        ≡ trapped kind.Overflow (int 7) }
+    ensures least { combined_whole 3 by.Min (ints []) ≡ behind_one_trap kind.BadIndex (int 0) }
+    ensures behind { combined_whole 3 by.Sum (behind_one_trap kind.Overflow (int 7))
+        ≡ behind_one_trap kind.Overflow (int 7) }
 {}
 
 /// Calls beside an object, worked out: shares of a sum, a trap, which names the member, and none
 /// beside an object that has a trap.
 pub fn beside_law()
-    ensures shares { (g : Value → Option Called) → g (both 1 4) ≡ emits (25 ∷ []) →
-        g (both 3 4) ≡ emits (75 ∷ []) →
+    ensures shares { (g : Value → Option Called) → g (two_ints 1 4) ≡ emits (25 ∷ []) →
+        g (two_ints 3 4) ≡ emits (75 ∷ []) →
         done_beside 3 g (ints (1 ∷ 3 ∷ [])) (ints (4 ∷ [])) ≡ Some (ints (25 ∷ 75 ∷ [])) }
     ensures trap { (g : Value → Option Called) →
-        g (both 1 0) ≡ Some (Err (kind.DivideByZero, both 1 0)) →
+        g (two_ints 1 0) ≡ Some (Err (kind.DivideByZero, two_ints 1 0)) →
         done_beside 3 g (ints (1 ∷ [])) (ints (0 ∷ []))
-        ≡ Some (trapped kind.DivideByZero (int 1)) }
+        ≡ Some (behind_one_trap kind.DivideByZero (int 1)) }
     ensures none { (g : Value → Option Called) →
         done_beside 3 g (ints []) (ints (0 ∷ [])) ≡ Some (ints []) }
     ensures behind { (g : Value → Option Called) →
-        done_beside 3 g (ints (1 ∷ [])) (trapped kind.BadIndex (int 0))
-        ≡ Some (trapped kind.BadIndex (int 0)) }
+        done_beside 3 g (ints (1 ∷ [])) (behind_one_trap kind.BadIndex (int 0))
+        ≡ Some (behind_one_trap kind.BadIndex (int 0)) }
 {}
 
 /// A call on objects, worked out: its one emission, or a trap that has the call's argument, which
@@ -73,12 +73,12 @@ pub fn operated_law()
     ensures one { (h : Value → Option Called) → h (int 4) ≡ emits (4 ∷ []) →
         operated_by 3 h (ints (4 ∷ []) ∷ []) ≡ Some (ints (4 ∷ [])) }
     ensures not_one { (h : Value → Option Called) → h (int 1) ≡ emits [] →
-        operated_by 3 h (ints (1 ∷ []) ∷ []) ≡ Some (trapped kind.NotOne (int 1)) }
+        operated_by 3 h (ints (1 ∷ []) ∷ []) ≡ Some (behind_one_trap kind.NotOne (int 1)) }
     ensures two { (h : Value → Option Called) → h (int 1) ≡ emits (5 ∷ 5 ∷ []) →
-        operated_by 3 h (ints (1 ∷ []) ∷ []) ≡ Some (trapped kind.NotOne (int 1)) }
-    ensures several { (h : Value → Option Called) → h (both 4 2) ≡ emits (6 ∷ []) →
+        operated_by 3 h (ints (1 ∷ []) ∷ []) ≡ Some (behind_one_trap kind.NotOne (int 1)) }
+    ensures several { (h : Value → Option Called) → h (two_ints 4 2) ≡ emits (6 ∷ []) →
         operated_by 3 h (ints (4 ∷ []) ∷ ints (2 ∷ []) ∷ []) ≡ Some (ints (6 ∷ [])) }
     ensures behind { (h : Value → Option Called) →
-        operated_by 3 h (ints (4 ∷ []) ∷ trapped kind.BadIndex (int 0) ∷ [])
-        ≡ Some (trapped kind.BadIndex (int 0)) }
+        operated_by 3 h (ints (4 ∷ []) ∷ behind_one_trap kind.BadIndex (int 0) ∷ [])
+        ≡ Some (behind_one_trap kind.BadIndex (int 0)) }
 {}

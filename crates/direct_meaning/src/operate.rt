@@ -8,7 +8,7 @@ ghost use Rattle.dofn_eval.specs.Function.{CanBeCalledOn};
 ghost use Rattle.script_program.specs.Script.{Function as Function_};
 ghost use Rattle.script_laws.specs.WellFormed.{function_at};
 ghost use Rattle.direct_meaning.specs.Calls.{answer_of};
-ghost use Rattle.direct_meaning.specs.Objects.{answered_once as once, argument_of, one_of as one_is, only};
+ghost use Rattle.direct_meaning.specs.Objects.{answered_once as once, argument_of, emission_on as one_is, only};
 ghost use Rattle.direct_meaning.specs.inner.Objects.{IsOperated, values_in};
 ghost use Rattle.direct_meaning.specs.inner.Slots.{slots_answer};
 

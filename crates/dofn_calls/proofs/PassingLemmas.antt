@@ -6,7 +6,7 @@ use Rattle.flume_value.specs.Parts.{members_of}
 use Rattle.dofn_eval.specs.declared.expr.Expr.TheVariants as expr
 use Rattle.dofn_eval.specs.declared.stmt.Stmt.{Stmt}
 use Rattle.dofn_eval.specs.Outcome.{Outcome, Gives, Traps, Stuck, then, with_part}
-use Rattle.dofn_eval.specs.Run.{Emissions, emitted_to, each, for_each, run}
+use Rattle.dofn_eval.specs.Run.{Emissions, emitted_to, each, for_each, run_statements}
 use Rattle.dofn_calls.specs.inner.Passing.{passes, passed_by, passed_to, passed, passed_of}
 use Rattle.dofn_eval.proofs.MeaningLemmas.{value_of-Variable, run-Emit}
 
@@ -38,7 +38,7 @@ nothing_more Stuck = refl
 
 -- the block emits its newest value
 run-passes : (n : ℕ) (v : Value) (env : List Value) (out : Emissions)
-    → run (passes n) (v ∷ env) out ≡ emitted_to n v out
+    → run_statements (passes n) (v ∷ env) out ≡ emitted_to n v out
 run-passes n v env out =
     run-Emit n (expr.Variable 0) [] (v ∷ env) out
     ∙ ap (λ o. then o (λ x. then (emitted_to n x out) Gives)) (value_of-Variable 0 (v ∷ env))
@@ -63,9 +63,9 @@ set_set (u ∷ out) (suc n) vs ws = ap (λ l. u ∷ l) (set_set out n vs ws)
 -- where what the members behind emit is known
 each-behind : (n : ℕ) (x : Value) (xs : List Value) (env : List Value) (out : Emissions)
     (o : Option (List Value)) → slice_get out n ≡ o
-    → ((more : Emissions) → each (run (passes n)) xs env more ≡ passed n xs more)
+    → ((more : Emissions) → each (run_statements (passes n)) xs env more ≡ passed n xs more)
     → then (with_part o (λ vs. Gives (slice_set out n (vs ++ x ∷ []))))
-    (each (run (passes n)) xs env)
+    (each (run_statements (passes n)) xs env)
     ≡ with_part o (λ vs. Gives (slice_set out n (vs ++ x ∷ xs)))
 each-behind n x xs env out None e behind = refl
 each-behind n x [] env out (Some vs) e behind = refl
@@ -78,19 +78,20 @@ each-behind n x (y ∷ ys) env out (Some vs) e behind =
     ∙ ap (λ ws. Gives (slice_set out n ws)) (append_assoc vs (x ∷ []) (y ∷ ys))
 
 each-passes : (n : ℕ) (xs : List Value) (env : List Value) (out : Emissions)
-    → each (run (passes n)) xs env out ≡ passed n xs out
+    → each (run_statements (passes n)) xs env out ≡ passed n xs out
 each-passes n [] env out = refl
 each-passes n (x ∷ xs) env out =
-    ap (λ o. then o (each (run (passes n)) xs env)) (run-passes n x env out)
+    ap (λ o. then o (each (run_statements (passes n)) xs env)) (run-passes n x env out)
     ∙ each-behind n x xs env out (slice_get out n) refl (each-passes n xs env)
 
 members-passes : (n : ℕ) (o : Option (List Value)) (env : List Value) (out : Emissions)
-    → with_part o (λ xs. each (run (passes n)) xs env out) ≡ with_part o (λ xs. passed n xs out)
+    → with_part o (λ xs. each (run_statements (passes n)) xs env out)
+    ≡ with_part o (λ xs. passed n xs out)
 members-passes n (Some xs) env out = each-passes n xs env out
 members-passes n None env out = refl
 
 pub for_each-passes : (n : ℕ) (o : Outcome Value) (env : List Value) (out : Emissions)
-    → for_each (run (passes n)) o env out ≡ then o (λ x. passed_of n x out)
+    → for_each (run_statements (passes n)) o env out ≡ then o (λ x. passed_of n x out)
 for_each-passes n (Gives x) env out = members-passes n (members_of x) env out
 for_each-passes n (Traps k) env out = refl
 for_each-passes n Stuck env out = refl

@@ -8,8 +8,8 @@ use Rattle.dofn_eval.specs.declared.stmt.Stmt.TheViews.{sized-If, sized-For, siz
 use Rattle.dofn_eval.specs.declared.stmt.Stmt.TheVariants as stmt
 use Rattle.dofn_eval.specs.Outcome.{IsSafe, then}
 use Rattle.dofn_eval.specs.Operations.{chosen}
-use Rattle.dofn_eval.specs.Meaning.{value_of}
-use Rattle.dofn_eval.specs.Run.{Emissions, state, run_one, run, emitted_to, for_each, by_side}
+use Rattle.dofn_eval.specs.Meaning.{expression_value}
+use Rattle.dofn_eval.specs.Run.{Emissions, state, run_one, run_statements, emitted_to, for_each, by_side}
 use Rattle.dofn_eval.proofs.MeaningLemmas.{run_one-Emit, run_one-If, run_one-For, run_one-Case, run_rules}
 use Rattle.dofn_calls.proofs.ScopeLemmas.{named-push}
 use Rattle.dofn_calls.proofs.EvaluateLemmas.{safe_then}
@@ -36,24 +36,28 @@ falls_Case s e a b is = omega (arith, sized-Case e a b, ap (λ x. size-Stmt x) i
 
 pub safe_If : (s : Stmt) (c : Expr) (a b : List Stmt) (env here : List Value) (out : Emissions)
     → s ≡ stmt.If c a b → here ≡ env → IsSafe (run_one s (state env out))
-    → IsSafe (chosen (value_of c here) (run a here out) (run b here out))
+    → IsSafe (chosen (expression_value c here) (run_statements a here out)
+    (run_statements b here out))
 safe_If s c a b env here out is same h =
-    subst (λ (vs : List Value). IsSafe (chosen (value_of c vs) (run a vs out) (run b vs out)))
+    subst (λ (vs : List Value). IsSafe (chosen (expression_value c vs) (run_statements a vs out)
+    (run_statements b vs out)))
     (sym same) (safe_then _ _ (subst IsSafe (ap (λ x. run_one x (state env out)) is
     ∙ run_one-If c a b (state env out)) h))
 
 pub safe_For : (s : Stmt) (e : Expr) (a : List Stmt) (env here : List Value) (out : Emissions)
     → s ≡ stmt.For e a → here ≡ env → IsSafe (run_one s (state env out))
-    → IsSafe (for_each (run a) (value_of e here) here out)
+    → IsSafe (for_each (run_statements a) (expression_value e here) here out)
 safe_For s e a env here out is same h =
-    subst (λ (vs : List Value). IsSafe (for_each (run a) (value_of e vs) vs out)) (sym same)
+    subst (λ (vs : List Value). IsSafe (for_each (run_statements a) (expression_value e vs) vs out))
+    (sym same)
     (safe_then _ _ (subst IsSafe (ap (λ x. run_one x (state env out)) is
     ∙ run_one-For e a (state env out)) h))
 
 pub safe_Case : (s : Stmt) (e : Expr) (a b : List Stmt) (env here : List Value) (out : Emissions)
     → s ≡ stmt.Case e a b → here ≡ env → IsSafe (run_one s (state env out))
-    → IsSafe (by_side (run a) (run b) (value_of e here) here out)
+    → IsSafe (by_side (run_statements a) (run_statements b) (expression_value e here) here out)
 safe_Case s e a b env here out is same h =
-    subst (λ (vs : List Value). IsSafe (by_side (run a) (run b) (value_of e vs) vs out)) (sym same)
+    subst (λ (vs : List Value). IsSafe (by_side (run_statements a) (run_statements b)
+    (expression_value e vs) vs out)) (sym same)
     (safe_then _ _ (subst IsSafe (ap (λ x. run_one x (state env out)) is
     ∙ run_one-Case e a b (state env out)) h))

@@ -1,6 +1,6 @@
 // What operations and comparisons of numbers give, with the traps where no int is the result.
 ghost use Rattle.std.specs.Prelude.{◌≡◌, pos, ◌+ℤ◌, ◌-ℤ◌, ◌*ℤ◌};
-ghost use Rattle.dofn_eval.specs.Operations.{whole, quotient, remainder, arithmetic, holds};
+ghost use Rattle.dofn_eval.specs.Operations.{whole_number, quotient, remainder, arithmetic, holds};
 ghost use Rattle.dofn_calls.specs.inner.Evaluates.{Returns};
 
 use dofn_eval::{Arithmetic, Comparison};
@@ -21,7 +21,7 @@ pub fn compute(op: Arithmetic, m: i64, n: i64) -> Result<Value, CallFault>
 }
 
 fn sum(m: i64, n: i64) -> Result<Value, CallFault>
-    ensures { Returns result (whole (m +ℤ n)) }
+    ensures { Returns result (whole_number (m +ℤ n)) }
 {
     match m.checked_add(n) {
         Some(sum) => Ok(Value::Int(sum)),
@@ -31,7 +31,7 @@ fn sum(m: i64, n: i64) -> Result<Value, CallFault>
 
 /// The difference.
 pub fn difference(m: i64, n: i64) -> Result<Value, CallFault>
-    ensures { Returns result (whole (m -ℤ n)) }
+    ensures { Returns result (whole_number (m -ℤ n)) }
 {
     match m.checked_sub(n) {
         Some(difference) => Ok(Value::Int(difference)),
@@ -40,7 +40,7 @@ pub fn difference(m: i64, n: i64) -> Result<Value, CallFault>
 }
 
 fn product(m: i64, n: i64) -> Result<Value, CallFault>
-    ensures { Returns result (whole (m *ℤ n)) }
+    ensures { Returns result (whole_number (m *ℤ n)) }
 {
     match m.checked_mul(n) {
         Some(product) => Ok(Value::Int(product)),
@@ -73,7 +73,7 @@ fn rest(m: i64, n: i64) -> Result<Value, CallFault>
 
 /// A length as a value.
 pub fn length_value(n: usize) -> Result<Value, CallFault>
-    ensures { Returns result (whole (pos n)) }
+    ensures { Returns result (whole_number (pos n)) }
 {
     if n < 9223372036854775808 {
         Ok(Value::Int(n as i64))

@@ -3,7 +3,7 @@
 
 ghost use Rattle.std.specs.Prelude.{[]};
 ghost use Rattle.dofn_eval.specs.Outcome.{IsSafe};
-ghost use Rattle.dofn_eval.specs.Meaning.{value_of, values_of};
+ghost use Rattle.dofn_eval.specs.Meaning.{expression_value, part_values};
 ghost use Rattle.dofn_calls.specs.inner.Operands.{content, values};
 ghost use Rattle.dofn_calls.specs.inner.Evaluates as inner;
 ghost use Rattle.dofn_calls.specs.inner.Evaluates.{Evaluates, Returns, value_in};
@@ -138,8 +138,8 @@ fn eval_all<'a>(
     parts: &'a [Expr],
     scope: &'a Scope<'a>,
 ) -> Result<Pile<Value>, CallFault>
-    requires { IsSafe (values_of value_of parts.now (values scope.now) []) }
-    ensures { Returns result (values_of value_of parts.now (values scope.now) []) }
+    requires { IsSafe (part_values expression_value parts.now (values scope.now) []) }
+    ensures { Returns result (part_values expression_value parts.now (values scope.now) []) }
 {
     let mut items = Vec::with_capacity(alloc, parts.len())?;
     for part in parts {

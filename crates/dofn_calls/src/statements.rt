@@ -2,7 +2,7 @@
 #![tactic(auto, using(crate::proofs::StatementLemmas::statement_rules))]
 
 ghost use Rattle.dofn_eval.specs.Outcome.{IsSafe};
-ghost use Rattle.dofn_eval.specs.Run.{run, each};
+ghost use Rattle.dofn_eval.specs.Run.{run_statements, each};
 ghost use Rattle.dofn_calls.specs.inner.Operands.{values, named};
 ghost use Rattle.dofn_calls.specs.inner.Evaluates as inner;
 ghost use Rattle.dofn_calls.specs.inner.Evaluates.{Evaluates, run_in};
@@ -164,9 +164,9 @@ fn run_each<'a>(
     scope: &'a Scope<'a>,
     out: &mut Lists,
 ) -> Result<(), CallFault>
-    requires { IsSafe (each (run body.now) members.now (values scope.now) out.old) }
+    requires { IsSafe (each (run_statements body.now) members.now (values scope.now) out.old) }
     ensures { Evaluates (λ _. out.new) result
-        (each (run body.now) members.now (values scope.now) out.old) }
+        (each (run_statements body.now) members.now (values scope.now) out.old) }
 {
     for member in members {
         let inner = Scope::Bound(member, scope);

@@ -13,8 +13,8 @@ use Rattle.dofn_eval.specs.Outcome.{Outcome, Gives, Traps, Stuck, with_part}
 use Rattle.flume_value.specs.Parts.{members_of, left_of, right_of}
 use Rattle.dofn_eval.specs.Answer.{OutputsHave}
 use Rattle.dofn_eval.specs.Operations.{chosen}
-use Rattle.dofn_eval.specs.Meaning.{value_of}
-use Rattle.dofn_eval.specs.Run.{Emissions, Emits, emitted_to, each, for_each, side_of, by_side, run}
+use Rattle.dofn_eval.specs.Meaning.{expression_value}
+use Rattle.dofn_eval.specs.Run.{Emissions, Emits, emitted_to, each, for_each, side_of, by_side, run_statements}
 use Rattle.dofn_eval.specs.Typed.{BlockTyped, done, lets, emits, chooses, loops, divides}
 use Rattle.dofn_eval.proofs.MeaningLemmas.{run-Let, run-Emit, run-If, run-For, run-Case}
 use Rattle.dofn_eval.proofs.SoundOutcomes.{Sound, sound_then, sound_part}
@@ -92,37 +92,42 @@ sound_case f g u w ts env s q Stuck out h p = absurd h
 
 pub sound_block : (scope : List Ty) (b : List Stmt) (ts : List Ty) (env : List Value)
     (out : Emissions) → BlockTyped scope b ts → HaveTypes scope env → OutputsHave ts out
-    → Sound (OutputsHave ts) (run b env out)
+    → Sound (OutputsHave ts) (run_statements b env out)
 sound_block scope _ ts env out done k o = o
 sound_block scope _ ts env out (lets {e = e} {rest = rest} {u = u} d r) k o =
     subst (Sound (OutputsHave ts)) (sym (run-Let e rest env out))
-    (sound_then (Has u) (OutputsHave ts) (value_of e env) _ (sound scope e u env d k)
+    (sound_then (Has u) (OutputsHave ts) (expression_value e env) _ (sound scope e u env d k)
     (λ v g. sound_block (u ∷ scope) rest ts (v ∷ env) out r (g, k) o))
 sound_block scope _ ts env out (emits n {e = e} {rest = rest} {t = t} is d r) k o =
     subst (Sound (OutputsHave ts)) (sym (run-Emit n e rest env out))
-    (sound_then (Has t) (OutputsHave ts) (value_of e env) _ (sound scope e t env d k)
-    (λ v g. sound_then (OutputsHave ts) (OutputsHave ts) (emitted_to n v out) (run rest env)
+    (sound_then (Has t) (OutputsHave ts) (expression_value e env) _ (sound scope e t env d k)
+    (λ v g. sound_then (OutputsHave ts) (OutputsHave ts) (emitted_to n v out)
+    (run_statements rest env)
     (sound_emitted ts out n t v is o g) (λ more m. sound_block scope rest ts env more r k m)))
 sound_block scope _ ts env out (chooses {c = c} {a = a} {b = b} {rest = rest} d p q r) k o =
     subst (Sound (OutputsHave ts)) (sym (run-If c a b rest env out))
     (sound_then (OutputsHave ts) (OutputsHave ts)
-    (chosen (value_of c env) (run a env out) (run b env out)) _
-    (sound_chosen (OutputsHave ts) (value_of c env) _ _ (sound scope c ty.Bool env d k)
+    (chosen (expression_value c env) (run_statements a env out) (run_statements b env out)) _
+    (sound_chosen (OutputsHave ts) (expression_value c env) _ _ (sound scope c ty.Bool env d k)
     (sound_block scope a ts env out p k o) (sound_block scope b ts env out q k o))
     (λ more m. sound_block scope rest ts env more r k m))
 sound_block scope _ ts env out (loops {e = e} {a = a} {rest = rest} {u = u} d p r) k o =
     subst (Sound (OutputsHave ts)) (sym (run-For e a rest env out))
-    (sound_then (OutputsHave ts) (OutputsHave ts) (for_each (run a) (value_of e env) env out) _
-    (sound_for (run a) u ts env (λ v more g m. sound_block (u ∷ scope) a ts (v ∷ env) more p (g, k)
-    m) (value_of e env) out (sound scope e (ty.List u) env d k) o)
+    (sound_then (OutputsHave ts) (OutputsHave ts) (for_each (run_statements a)
+    (expression_value e env) env out) _
+    (sound_for (run_statements a) u ts env (λ v more g m. sound_block (u ∷ scope) a ts (v ∷ env)
+    more p (g, k)
+    m) (expression_value e env) out (sound scope e (ty.List u) env d k) o)
     (λ more m. sound_block scope rest ts env more r k m))
 sound_block scope _ ts env out
     (divides {e = e} {a = a} {b = b} {rest = rest} {u = u} {w = w} d p q r) k o =
     subst (Sound (OutputsHave ts)) (sym (run-Case e a b rest env out))
-    (sound_then (OutputsHave ts) (OutputsHave ts) (by_side (run a) (run b) (value_of e env) env out)
+    (sound_then (OutputsHave ts) (OutputsHave ts) (by_side (run_statements a) (run_statements b)
+    (expression_value e env) env out)
     _
-    (sound_case (run a) (run b) u w ts env
+    (sound_case (run_statements a) (run_statements b) u w ts env
     (λ v more g m. sound_block (u ∷ scope) a ts (v ∷ env) more p (g, k) m)
-    (λ v more g m. sound_block (w ∷ scope) b ts (v ∷ env) more q (g, k) m) (value_of e env) out
+    (λ v more g m. sound_block (w ∷ scope) b ts (v ∷ env) more q (g, k) m) (expression_value e env)
+    out
     (sound scope e (ty.Either u w) env d k) o)
     (λ more m. sound_block scope rest ts env more r k m))

@@ -22,7 +22,7 @@ use Rattle.flume_value.specs.Ranges.{fits_int}
 use Rattle.flume_value.proofs.EachLemmas.{Each-append}
 use Rattle.int_text.specs.Ints.{int_of_text}
 use Rattle.dofn_eval.specs.Words.{words_of}
-use Rattle.dofn_eval.specs.Operations.{whole, quotient, remainder, arithmetic, field_in, found, member_at, member_in, length_of, appended, shown, chosen, of_one, of_two}
+use Rattle.dofn_eval.specs.Operations.{whole_number, quotient, remainder, arithmetic, field_in, member_found, member_at, member_in, length_of, appended, shown_int, chosen, of_one, of_two}
 use Rattle.dofn_eval.specs.Typed.{UnaryTyped, BinaryTyped, negates, inverts, counts_members, counts_bytes, splits, writes, reads, lefts, rights, computes, compares, joins_texts, joins_lists}
 use Rattle.dofn_eval.proofs.SoundOutcomes.{Sound, sound_part}
 
@@ -30,7 +30,7 @@ each_text : (ss : List (List ℕ)) → Each (Has ty.Text) (map variant.Text ss)
 each_text [] = tt
 each_text (s ∷ ss) = (has_text s, each_text ss)
 
-sound_whole : (n : ℤ) → Sound (Has ty.Int) (whole n)
+sound_whole : (n : ℤ) → Sound (Has ty.Int) (whole_number n)
 sound_whole n = elim (fits_int n) as
     (λ b. Sound (Has ty.Int) (cond b (Gives (variant.Int n)) (Traps Overflow)))
     [ true ↦ has_int n | false ↦ tt ]
@@ -85,7 +85,7 @@ sound_join_texts x y g h =
     (subst (λ m. Sound (Has ty.Text) (appended None None (Some p.0) m)) (sym q.1)
     (has_text (p.0 ++ q.0)))))
 
-sound_shown : (o : Option ℤ) → Sound (Has ty.Int) (shown o)
+sound_shown : (o : Option ℤ) → Sound (Has ty.Int) (shown_int o)
 sound_shown (Some n) = has_int n
 sound_shown None = tt
 
@@ -139,7 +139,7 @@ sound_field fs i f x e h =
     (λ xs p. sound_slot (types_of fs) xs i f.ty p at)
 
 sound_found : (t : Ty) (xs : List Value) (i : ℕ) → Each (Has t) xs
-    → Sound (Has t) (found (slice_get xs i))
+    → Sound (Has t) (member_found (slice_get xs i))
 sound_found t [] i h = tt
 sound_found t (x ∷ xs) zero h = h.0
 sound_found t (x ∷ xs) (suc i) h = sound_found t xs i h.1

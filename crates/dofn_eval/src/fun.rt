@@ -17,9 +17,9 @@ pub struct Fun {
 impl Model for Fun {
     ghost use Rattle.std.specs.Coded.{codes};
     ghost use Rattle.dofn_eval.specs.contracts.stmt.Stmt as statements;
-    ghost use Rattle.dofn_eval.specs.Function.{Function, IsFun};
+    ghost use Rattle.dofn_eval.specs.Function.{SlotFunction, IsFun};
 
-    ghost Value = { Function };
+    ghost Value = { SlotFunction };
 
     ghost coded = { Prim.hlevel (codes, statements.the_row.coded) };
 

@@ -8,7 +8,7 @@ use Rattle.std.proofs.lemmas.Bool.{cases_Bool}
 use Rattle.std.proofs.lemmas.Bool.Decides.{Decides-eqb, nat_tests}
 use Rattle.std.proofs.lemmas.List.{drop_at, length_push}
 use Rattle.std.proofs.lemmas.List.Sums.{passes_at_first, prefix_len-le-length, split_at_first}
-use Rattle.drill_text.specs.Drills.{before, behind}
+use Rattle.drill_text.specs.Drills.{until_sign, beyond_sign}
 use Rattle.drill_text.proofs.EntryLemmas.{nothing_behind}
 use Rattle.drill_text.proofs.NumberLemmas.{both}
 
@@ -44,7 +44,7 @@ at_digits_end sign ds rest other digits =
 
 -- digits, a sign and the rest are cut there
 pub before_sign : (sign : ℕ) (ds rest : List ℕ) → is_ascii_digit sign ≡ false
-    → all_ascii_digits ds ≡ true → before sign (ds ++ sign ∷ rest) ≡ ds
+    → all_ascii_digits ds ≡ true → until_sign sign (ds ++ sign ∷ rest) ≡ ds
 before_sign sign ds rest other digits =
     ap (λ n. take n (ds ++ sign ∷ rest)) (at_digits_end sign ds rest other digits)
     ∙ take-append_seam ds (sign ∷ rest)
@@ -56,14 +56,14 @@ drop_one_more ds sign rest =
     ∙ drop_at (ds ++ sign ∷ []) rest (length ds + 1) (length_push ds sign)
 
 pub behind_sign : (sign : ℕ) (ds rest : List ℕ) → is_ascii_digit sign ≡ false
-    → all_ascii_digits ds ≡ true → behind sign (ds ++ sign ∷ rest) ≡ rest
+    → all_ascii_digits ds ≡ true → beyond_sign sign (ds ++ sign ∷ rest) ≡ rest
 behind_sign sign ds rest other digits =
     ap (λ n. drop (n + 1) (ds ++ sign ∷ rest)) (at_digits_end sign ds rest other digits)
     ∙ drop_one_more ds sign rest
 
 -- a text with anything behind a sign has the sign
-pub around_sign : (sign : ℕ) (text : List ℕ) → behind sign text ≢ []
-    → text ≡ before sign text ++ (sign ∷ behind sign text)
+pub around_sign : (sign : ℕ) (text : List ℕ) → beyond_sign sign text ≢ []
+    → text ≡ until_sign sign text ++ (sign ∷ beyond_sign sign text)
 around_sign sign text some =
     let is = λ (byte : ℕ). byte == sign in
     elim (cases_Bool (nat_lt (position_or_len is text) (length text))) [

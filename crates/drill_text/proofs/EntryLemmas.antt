@@ -7,11 +7,11 @@ use Rattle.outside.specs.declared.host.Phase.TheVariants.{Map, Reduce}
 use Rattle.crew.specs.declared.drill.Entry.{Entry}
 use Rattle.run_settings.specs.Limits.{most_tries}
 use Rattle.drill_text.specs.Numbers.{most_number, number_in, number_up_to}
-use Rattle.drill_text.specs.Drills.{◌>>=◌, before, behind, dot, entries_in, entry_in, entry_of, letter_of}
+use Rattle.drill_text.specs.Drills.{◌>>=◌, until_sign, beyond_sign, dot, entries_in, entry_in, entry_of, letter_of}
 
 -- behind a sign that a text lacks there is nothing
 pub nothing_behind : (sign : ℕ) (text : List ℕ)
-    → position_or_len (λ byte. byte == sign) text ≡ length text → behind sign text ≡ []
+    → position_or_len (λ byte. byte == sign) text ≡ length text → beyond_sign sign text ≡ []
 nothing_behind sign text lacks = rw lacks (drop_all (length text + 1) text (omega arith))
 
 no_attempt : {A B C D : Type 0} (stage : Option A) (task : Option B) (make : A → B → C → Option D)
@@ -21,16 +21,16 @@ no_attempt (Some s) None make = refl
 no_attempt None task make = refl
 
 -- without a dot behind the letter a text names no attempt
-pub no_dot : (phase : Phase) (text rest : List ℕ) → rest ≡ behind (letter_of phase) text
+pub no_dot : (phase : Phase) (text rest : List ℕ) → rest ≡ beyond_sign (letter_of phase) text
     → position_or_len (λ byte. byte == dot) rest ≡ length rest → entry_of phase text ≡ None
 no_dot phase text rest is lacks =
-    let stage = number_up_to most_number (before (letter_of phase) text) in
-    let task = number_in (before dot (behind (letter_of phase) text)) in
+    let stage = number_up_to most_number (until_sign (letter_of phase) text) in
+    let task = number_in (until_sign dot (beyond_sign (letter_of phase) text)) in
     let make : ℕ → ℕ → ℕ → Option Entry =
     λ s t a. Some (record { stage = s; phase = phase; task = t; attempt = a }) in
     ap (λ (attempt : List ℕ). stage >>= (λ s. task >>= (λ t.
     number_up_to most_tries attempt >>= make s t)))
-    (ap (behind dot) (sym is) ∙ nothing_behind dot rest lacks)
+    (ap (beyond_sign dot) (sym is) ∙ nothing_behind dot rest lacks)
     ∙ no_attempt stage task make
 
 pub letter_small : (phase : Phase) → letter_of phase < 128

@@ -15,7 +15,7 @@ use Rattle.crew.specs.declared.drill.Entry.{Entry}
 use Rattle.run_settings.specs.Limits.{most_tries}
 use Rattle.int_text.proofs.IntFacts.{own}
 use Rattle.drill_text.specs.Numbers.{most_number, number_in, number_up_to}
-use Rattle.drill_text.specs.Drills.{◌>>=◌, before, behind, comma, dot, drill_in, entries_in, entry_in, entry_of, is_drill, letter_of, parts}
+use Rattle.drill_text.specs.Drills.{◌>>=◌, until_sign, beyond_sign, comma, dot, drill_in, entries_in, entry_in, entry_of, is_drill, letter_of, drill_parts}
 use Rattle.drill_text.specs.Spelled.{IsNamed, Spells, drill_text, entry_text}
 use Rattle.drill_text.proofs.CutLemmas.{around_sign, before_sign, behind_sign, no_digit}
 use Rattle.drill_text.proofs.DrillLemmas.{drill_may, may_drill}
@@ -142,10 +142,11 @@ spelled_of : (phase : Phase) (text : List ℕ) (e : Entry) → entry_of phase te
     → (text ≡ entry_text e) × IsNamed e
 spelled_of phase text e is =
     let sign = letter_of phase in
-    let rest = behind sign text in
-    let from = from_parts phase (before sign text) (before dot rest) (behind dot rest) e is in
+    let rest = beyond_sign sign text in
+    let from =
+    from_parts phase (until_sign sign text) (until_sign dot rest) (beyond_sign dot rest) e is in
     let dots = around_sign dot rest from.some in
-    let signs = around_sign sign text (λ none. from.some (ap (behind dot) none)) in (
+    let signs = around_sign sign text (λ none. from.some (ap (beyond_sign dot) none)) in (
       signs
           ∙ ap₂ (λ (x y : List ℕ). x ++ sign ∷ y) from.is_stage
           (dots ∙ ap₂ (λ (x y : List ℕ). x ++ dot ∷ y) from.is_task from.is_attempt)
@@ -162,7 +163,7 @@ of_spelled e named =
     let stage = digits e.stage (omega (arith, named.stage.1)) in
     let task = digits e.task (omega (arith, named.task)) in
     let there = behind_sign sign (decimal e.stage) rest no_sign stage in
-    ap₂ (λ (x y : List ℕ). entry_from e.phase x (before dot y) (behind dot y))
+    ap₂ (λ (x y : List ℕ). entry_from e.phase x (until_sign dot y) (beyond_sign dot y))
     (before_sign sign (decimal e.stage) rest no_sign stage) there
     ∙ ap₂ (entry_from e.phase (decimal e.stage))
     (before_sign dot (decimal e.task) (decimal e.attempt) refl task)
@@ -231,7 +232,7 @@ of_texts (e ∷ es) named =
 -- ---- the parts between commas
 
 parts_joined : (es : List Entry) → All IsNamed es → 1 ≤ length es
-    → parts (drill_text es) ≡ map entry_text es
+    → drill_parts (drill_text es) ≡ map entry_text es
 parts_joined [] named some = absurd (omega arith)
 parts_joined (e ∷ []) named some =
     slice_split_none (λ b. b == comma) (entry_text e) (comma_lacks e (All-head IsNamed e [] named))
@@ -245,10 +246,11 @@ parts_joined (e ∷ f ∷ es) named some =
 
 pub drill_spells : (text : List ℕ) (es : List Entry) → drill_in text ≡ Some es → Spells text es
 drill_spells text es is =
-    let all = binds (entries_in (parts text)) (λ es. if is_drill es then Some es else None) es is in
+    let all =
+    binds (entries_in (drill_parts text)) (λ es. if is_drill es then Some es else None) es is in
     let may = chosen (is_drill all.0) all.0 es all.2 in
-    let named : entries_in (parts text) ≡ Some es = all.1 ∙ ap Some may.1 in
-    let texts = texts_of (parts text) es named in
+    let named : entries_in (drill_parts text) ≡ Some es = all.1 ∙ ap Some may.1 in
+    let texts = texts_of (drill_parts text) es named in
     record {
       is = sym (join_with_byte-slice_split comma text) ∙ ap (join_with_byte comma) texts.0;
       some = omega (

@@ -27,20 +27,20 @@ letter_of Map = 109
 letter_of Reduce = 114
 
 -- what stands before the first such sign of a text, or all of it where it has none
-abbrev pub before : ℕ → List ℕ → List ℕ
-before sign text = before_first (λ byte. byte == sign) text
+abbrev pub until_sign : ℕ → List ℕ → List ℕ
+until_sign sign text = before_first (λ byte. byte == sign) text
 
 -- what stands behind it, or nothing
-abbrev pub behind : ℕ → List ℕ → List ℕ
-behind sign text = after_first (λ byte. byte == sign) text
+abbrev pub beyond_sign : ℕ → List ℕ → List ℕ
+beyond_sign sign text = after_first (λ byte. byte == sign) text
 
 -- the attempt of a task of this phase that a text names: the stage before the phase's letter, and
 -- behind it the task, a dot and the attempt
 abbrev pub entry_of : Phase → List ℕ → Option Entry
 entry_of phase text = do
-  stage ← number_up_to most_number (before (letter_of phase) text)
-  task ← number_in (before dot (behind (letter_of phase) text))
-  attempt ← number_up_to most_tries (behind dot (behind (letter_of phase) text))
+  stage ← number_up_to most_number (until_sign (letter_of phase) text)
+  task ← number_in (until_sign dot (beyond_sign (letter_of phase) text))
+  attempt ← number_up_to most_tries (beyond_sign dot (beyond_sign (letter_of phase) text))
   Some (record { stage = stage; phase = phase; task = task; attempt = attempt })
 
 -- the attempt that a text names, of a map task or of a reduce task
@@ -56,8 +56,8 @@ entries_in (text ∷ texts) = do
   Some (entry ∷ entries)
 
 -- the parts of a text between its commas
-abbrev pub parts : List ℕ → List (List ℕ)
-parts text = slice_split (λ byte. byte == comma) text
+abbrev pub drill_parts : List ℕ → List (List ℕ)
+drill_parts text = slice_split (λ byte. byte == comma) text
 
 -- none of them comes again
 abbrev pub are_apart : List Entry → Bool
@@ -71,5 +71,5 @@ is_drill entries = nat_le (length entries) most_entries && are_apart entries
 -- the drill that a text spells
 abbrev pub drill_in : List ℕ → Option (List Entry)
 drill_in text = do
-  entries ← entries_in (parts text)
+  entries ← entries_in (drill_parts text)
   if is_drill entries then Some entries else None

@@ -23,7 +23,7 @@ pub fn drill_of(alloc: Global, text: &str) -> Result<Option<Drill>, AllocError>
 
 // The attempts that a text names, where each of its parts names one.
 fn entries_in(alloc: Global, text: &str) -> Result<Option<Pile<Entry>>, AllocError>
-    ensures { IfOk result (λ entries. entries ≡ spec.entries_in (spec.parts text.now)) }
+    ensures { IfOk result (λ entries. entries ≡ spec.entries_in (spec.drill_parts text.now)) }
 {
     let mut entries = Pile::new(alloc);
     for part in text.split(',') {

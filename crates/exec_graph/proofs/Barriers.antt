@@ -29,7 +29,7 @@ use Rattle.flume_collection.specs.Calls.{Called, emissions, or_none}
 use Rattle.exec_graph.specs.declared.graph.Act.{Act}
 use Rattle.exec_graph.specs.declared.graph.Act.TheVariants.{SideInput, Operate, Singleton}
 use Rattle.exec_graph.specs.World.{World}
-use Rattle.exec_graph.specs.Objects.{argument, beside, act_result, naming, none_of, one_answer, one_emitted, singleton_value, only, operated, operated_on, or_of_nothing, side_input, side_input_on, unless_behind, value_in, values_in, whole_combined, with_first}
+use Rattle.exec_graph.specs.Objects.{argument, world_beside, act_result, naming, none_of, one_answer, one_emitted, singleton_value, only, operated, operated_on, or_of_nothing, side_input, side_input_on, unless_behind, value_in, values_in, whole_combined, with_first}
 use Rattle.exec_graph.specs.Typing.{ActTyped, EmitsTyped, IsArgument, IsRecord, IsWhole, IsWorldTyped, Signatures}
 
 -- ---- the equations
@@ -148,8 +148,8 @@ module _ (s : Signatures) (w : World) (world : IsWorldTyped s w) (f : ℕ) (u : 
       → ((v : Value) → a ≡ Some v → Has object v) → Each (Has u) (side_input_on w o f a c d).bag
   side_has t object r o None c d h i = tt
   side_has t object r o (Some v) c d h i =
-      Each-bag_of (Has u) (flat_map (λ x. emissions 0 ((beside (Some v) w).called f x)) c.bag)
-      (each_flat (Has t) (Has u) (λ x. emissions 0 ((beside (Some v) w).called f x))
+      Each-bag_of (Has u) (flat_map (λ x. emissions 0 ((world_beside (Some v) w).called f x)) c.bag)
+      (each_flat (Has t) (Has u) (λ x. emissions 0 ((world_beside (Some v) w).called f x))
       (λ x j. beside_has t object r v (i v refl) x j) c.bag h)
 
   emitted_has : (o : ℕ) (x : Value) (vs : List Value) (a : Option Value) → Each (Has u) vs

@@ -28,7 +28,7 @@ use Rattle.exec_graph.specs.declared.graph.Node.{Node}
 use Rattle.exec_graph.specs.declared.graph.Node.TheVariants.{Source, Flatten, Pdo, Gbk, Barrier}
 use Rattle.exec_graph.specs.declared.graph.Graph.{Graph}
 use Rattle.exec_graph.specs.World.{World}
-use Rattle.exec_graph.specs.Calls.{called, emitted, given, of_combine, of_group}
+use Rattle.exec_graph.specs.Calls.{called, emitted, to_first, of_combine, of_group}
 use Rattle.exec_graph.specs.Forests.{Label, Forest, Bare, Grow}
 use Rattle.exec_graph.specs.Meaning.{collection, through, place, is_out, has_out, FitsForest, Holds, Meets, IsThere, IsRankedBy, IsSound, gives, reads}
 use Rattle.exec_graph.specs.Typing.{Signatures, StepTyped, OutTyped, ForestTyped, NodeTyped, IsTypedBy, IsWorldTyped, IsCombined, IsGrouped, EmitsTyped}
@@ -40,7 +40,7 @@ use Rattle.exec_graph.proofs.Solving.{collection_meets, kept_value, ranked_at, t
 
 -- ---- one call
 one_list : (t : Ty) (vs : List Value) (n : ℕ) → Each (Has t) vs
-    → Each (Has t) (emissions n (given vs))
+    → Each (Has t) (emissions n (to_first vs))
 one_list t vs zero h = h
 one_list t vs (suc n) h = tt
 

@@ -59,9 +59,9 @@ IsObject c =
 
 -- The world whose functions are called on an element beside a value. The call is on the record of
 -- both, and its trap names the element.
-abbrev pub beside : Option Value → World → World
-beside None w = w
-beside (Some v) w = record {
+abbrev pub world_beside : Option Value → World → World
+world_beside None w = w
+world_beside (Some v) w = record {
   rows = w.rows;
   called = λ f x. naming x (w.called f (value.Rec (x ∷ v ∷ [])));
 }
@@ -75,7 +75,7 @@ called_beside (Some v) c object = c
 -- The function f of script node o called on each element of c beside an object, of the value v if
 -- it has one.
 abbrev pub side_input_on : World → ℕ → ℕ → Option Value → Collection → Collection → Collection
-side_input_on w o f v c object = passed o 0 ((beside v w).called f) (called_beside v c object)
+side_input_on w o f v c object = passed o 0 ((world_beside v w).called f) (called_beside v c object)
 
 -- The function f of script node o called on each element of c beside the object.
 abbrev pub side_input : World → ℕ → ℕ → Collection → Collection → Collection

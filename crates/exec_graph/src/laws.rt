@@ -14,7 +14,7 @@ ghost use Rattle.flume_collection.specs.Collection.{Collection};
 ghost use Rattle.exec_graph.specs.declared.graph.Graph.{Graph};
 ghost use Rattle.exec_graph.specs.declared.graph.Place.{Place};
 ghost use Rattle.exec_graph.specs.declared.step.Does.TheVariants as does;
-ghost use Rattle.exec_graph.specs.Calls.{called, given};
+ghost use Rattle.exec_graph.specs.Calls.{called, to_first};
 ghost use Rattle.exec_graph.specs.Derived.{with_one, under_zero, left_tagged, right_tagged, split, spread};
 ghost use Rattle.exec_graph.specs.Meaning.{Meets, IsSound, IsThere, SameMeaning, KeepsMeaning, collection};
 ghost use Rattle.exec_graph.specs.Typing.{IsTypedBy, IsWorldTyped, Signatures};
@@ -34,12 +34,12 @@ pub fn step_law()
     ensures combined_traps { (w : World) (n : ℕ) (c : Comb) (pairs : List Value) →
         flat_map (λ x. trap_of n (called w (does.Combine c) x)) pairs
         ≡ map (trap_named n) (traps_of_each (combined c) pairs) }
-    ensures pair { (w : World) (x : Value) → called w does.Pair x ≡ given (with_one x) }
-    ensures left { (w : World) (x : Value) → called w does.TagLeft x ≡ given (left_tagged x) }
-    ensures right { (w : World) (x : Value) → called w does.TagRight x ≡ given (right_tagged x) }
-    ensures split { (w : World) (x : Value) → called w does.Split x ≡ given (split x) }
-    ensures solo { (w : World) (x : Value) → called w does.Solo x ≡ given (under_zero x) }
-    ensures spread { (w : World) (x : Value) → called w does.Spread x ≡ given (spread x) }
+    ensures pair { (w : World) (x : Value) → called w does.Pair x ≡ to_first (with_one x) }
+    ensures left { (w : World) (x : Value) → called w does.TagLeft x ≡ to_first (left_tagged x) }
+    ensures right { (w : World) (x : Value) → called w does.TagRight x ≡ to_first (right_tagged x) }
+    ensures split { (w : World) (x : Value) → called w does.Split x ≡ to_first (split x) }
+    ensures solo { (w : World) (x : Value) → called w does.Solo x ≡ to_first (under_zero x) }
+    ensures spread { (w : World) (x : Value) → called w does.Spread x ≡ to_first (spread x) }
 {}
 
 /// What a barrier makes of the collections that it reads: of a side input the calls on the elements

@@ -2,7 +2,7 @@
 ghost use Rattle.std.specs.Prelude.{◌≡◌, IfOk};
 ghost use Rattle.exec_graph.specs.Wellformed.{size};
 ghost use Rattle.exec_graph.specs.inner.Counts.{firsts, kept};
-ghost use Rattle.exec_graph.specs.Forests.{after};
+ghost use Rattle.exec_graph.specs.Forests.{next_after};
 
 use crate::graph::Node;
 use crate::spots::{Spot, spots_of};
@@ -43,7 +43,7 @@ fn count_steps(spots: &[Spot]) -> usize
 /// How many outputs the steps of a forest keep.
 #[tactic(auto, using(crate::proofs::OutCounts::kept_after))]
 pub fn count_outputs(alloc: Global, roots: &Roots) -> Result<usize, AllocError>
-    ensures { IfOk result (λ n. n ≡ after 0 roots.now) }
+    ensures { IfOk result (λ n. n ≡ next_after 0 roots.now) }
 {
     let spots = spots_of(alloc, roots)?;
     Ok(count_kept(spots.as_slice()))

@@ -13,8 +13,8 @@ use Rattle.exec_plan.specs.declared.plan.PlanPlace.TheVariants as at
 use Rattle.exec_plan.specs.declared.plan.InChannel.{InChannel}
 use Rattle.exec_plan.specs.declared.plan.Stage.{Stage}
 use Rattle.exec_plan.specs.declared.plan.Stage.TheVariants.{Mscr, Flatten, Operate}
-use Rattle.exec_plan.specs.Channels.{Fed, fed, given}
-use Rattle.exec_plan.specs.Meaning.{in_reads, results, run, stage_reads, object_places, with_results}
+use Rattle.exec_plan.specs.Channels.{Fed, fed, channel_gives}
+use Rattle.exec_plan.specs.Meaning.{in_reads, results, stages_run, stage_reads, object_places, with_results}
 
 -- ---- the table
 -- a source, or a result of a stage below k
@@ -38,7 +38,7 @@ with_below t cs k (at.Result stage number) h =
     (λ e. let same : stage ≡ k = eqb-true stage k e in omega arith)
 
 pub run_below : (w : World) (k : ℕ) (ss : List Stage) (t : PlanPlace → Collection) (c : PlanPlace)
-    → IsBelow k c → run w k ss t c ≡ t c
+    → IsBelow k c → stages_run w k ss t c ≡ t c
 run_below w k [] t c h = refl
 run_below w k (s ∷ ss) t c h =
     run_below w (suc k) ss (with_results k (results w t s) t) c (more_below k c h)
@@ -74,7 +74,7 @@ values_alike t u (c ∷ cs) a =
 pub results_alike : (w : World) (t u : PlanPlace → Collection) (s : Stage)
     → Each (λ c. t c ≡ u c) (stage_reads s) → results w t s ≡ results w u s
 results_alike w t u (Mscr m) a =
-    ap (λ (cs : List Fed). flat_map (given w cs) m.outputs) (fed_alike t u m.inputs a)
+    ap (λ (cs : List Fed). flat_map (channel_gives w cs) m.outputs) (fed_alike t u m.inputs a)
 results_alike w t u (Flatten takes) a =
     ap (λ (cs : List Collection). together cs ∷ []) (values_alike t u takes a)
 results_alike w t u (Operate takes o l d) a =

@@ -19,13 +19,13 @@ use Rattle.exec_plan.specs.declared.plan.OutChannel.TheVariants.{Group, Pass}
 use Rattle.exec_plan.specs.declared.plan.Stage.{Stage}
 use Rattle.exec_plan.specs.declared.plan.Stage.TheVariants.{Mscr, Flatten, Operate}
 use Rattle.exec_plan.specs.declared.plan.Plan.{Plan}
-use Rattle.exec_plan.specs.Channels.{Fed, fed, given, groups, value_on, world_in}
+use Rattle.exec_plan.specs.Channels.{Fed, fed, channel_gives, groups, value_on, world_in}
 
 -- ---- collections
 
 -- the results of a stage, in order, where the table says what each collection is
 abbrev pub results : World → (PlanPlace → Collection) → Stage → List Collection
-results w t (Mscr m) = flat_map (given w (map (fed t) m.inputs)) m.outputs
+results w t (Mscr m) = flat_map (channel_gives w (map (fed t) m.inputs)) m.outputs
 results w t (Flatten takes) = together (map t takes) ∷ []
 results w t (Operate takes o l a) = act_result w o a (map t takes) ∷ []
 
@@ -50,9 +50,9 @@ with_results k cs t (at.Result stage number) =
     cond (stage == k) (or_nothing (slice_get cs number)) (t (at.Result stage number))
 
 -- stages from number k on, one after another, each of which adds its results to the table
-abbrev pub run : World → ℕ → List Stage → (PlanPlace → Collection) → PlanPlace → Collection
-run w k [] t = t
-run w k (s ∷ ss) t = run w (suc k) ss (with_results k (results w t s) t)
+abbrev pub stages_run : World → ℕ → List Stage → (PlanPlace → Collection) → PlanPlace → Collection
+stages_run w k [] t = t
+stages_run w k (s ∷ ss) t = stages_run w (suc k) ss (with_results k (results w t s) t)
 
 -- the table before all stages
 abbrev pub sources : World → PlanPlace → Collection
@@ -61,7 +61,7 @@ sources w (at.Result stage number) = record { bag = []; traps = [] }
 
 -- what each collection of a plan is
 abbrev pub plan_collection : World → Plan → PlanPlace → Collection
-plan_collection w p = run w 1 p.stages (sources w)
+plan_collection w p = stages_run w 1 p.stages (sources w)
 
 -- ---- the meaning as a relation
 

@@ -58,8 +58,8 @@ abbrev pub take_type : (Place → Ty) → Take → Ty
 take_type outs k = outs (place k.channel k.out)
 
 -- the types of the results of stage k, from a number on
-abbrev pub types_from : (PlanPlace → Ty) → ℕ → ℕ → Place → Ty
-types_from types k first c = types (at.Result k (first + c.out))
+abbrev pub stage_types : (PlanPlace → Ty) → ℕ → ℕ → Place → Ty
+stage_types types k first c = types (at.Result k (first + c.out))
 
 -- all that is taken has one type, of pairs, and the reducer runs on their groups
 pub record GroupTyped (s : Signatures) (types : PlanPlace → Ty) (outs : Place → Ty) (k : ℕ)
@@ -68,7 +68,7 @@ pub record GroupTyped (s : Signatures) (types : PlanPlace → Ty) (outs : Place 
   pub groups : Ty
   pub takes : AllByRecursion (λ i. take_type outs i ≡ pairs) g.takes
   pub grouped : IsGrouped pairs groups
-  pub reduced : ChannelTyped s (types_from types k g.first) 0 groups g.does
+  pub reduced : ChannelTyped s (stage_types types k g.first) 0 groups g.does
 
 abbrev pub OutChannelTyped : Signatures → (PlanPlace → Ty) → (Place → Ty) → ℕ → OutChannel → Type 0
 OutChannelTyped s types outs k (Group g) = GroupTyped s types outs k g

@@ -11,7 +11,7 @@ use Rattle.expression_types.proofs.of_written_types.FailsLemmas.{bind-same}
 use Rattle.expression_types.specs.Sight.{Sight}
 use Rattle.expression_types.specs.Types.{record_type, list_type}
 use Rattle.expression_check.specs.Types.{all_types, layer_type, type_of}
-use Rattle.expression_check.specs.Given.{Thing, Environment, all_given, recorded, listed, layer_given, given_in}
+use Rattle.expression_check.specs.Given.{Thing, Environment, all_given, recorded, list_of_things, layer_given, given_in}
 
 types_mapped : {X : Type 0} (f : X → Sight → Checked Ty) (xs : List X) (s : Sight)
     → all_types (λ m. m) (map f xs) s ≡ all_types f xs s
@@ -48,7 +48,7 @@ module _ (line : ℕ) (known : Named Ty) where
   expr_mapped f (Expr-F.Record names parts) env =
       ap (λ o. then o (recorded names)) (given_mapped f parts env [] [])
   expr_mapped f (Expr-F.List parts) env =
-      ap (λ o. then o listed) (given_mapped f parts env [] [])
+      ap (λ o. then o list_of_things) (given_mapped f parts env [] [])
   expr_mapped f _ env = refl
 
   pub given_in-step : (e : Expr) (env : Environment)

@@ -20,7 +20,7 @@ use Rattle.expression_types.specs.of_written_types.Written.{shallow}
 use Rattle.expression_types.specs.Sight.{Newest}
 use Rattle.expression_types.specs.Fields.{record_fields, named_field}
 use Rattle.expression_types.specs.Types.{place_under}
-use Rattle.expression_check.specs.Given.{Thing, tagged, with_type, dotted}
+use Rattle.expression_check.specs.Given.{Thing, tagged, with_type, dotted_thing}
 use Rattle.expression_types.specs.Places.{further, place_in}
 use Rattle.expression_check.specs.Slots.{SlotsAndType, literal, variable, field}
 use Rattle.expression_check.specs.Right.{types, bound, IsRight}
@@ -142,7 +142,7 @@ pub right_field : (line : ℕ) (name : List ℕ) (names : Newest Ty) (o : Checke
     (type : Checked Ty) (given : Giving) → IsRight names o type given
     → IsRight names (o >>= λ x. field line name x)
     (type >>= λ t. place_under line name t >>= λ at. Ok at.1)
-    (λ env. then (given env) (dotted name))
+    (λ env. then (given env) (dotted_thing name))
 right_field line name names (Err f) type given h =
     ap (λ o. o >>= λ t. place_under line name t >>= λ at. Ok at.1) h
 right_field line name names (Ok x) type given h = field_by (place_under line name x.1) refl
@@ -150,7 +150,7 @@ right_field line name names (Ok x) type given h = field_by (place_under line nam
     field_by : (c : Checked (ℕ × Ty)) → place_under line name x.1 ≡ c
         → IsRight names (c >>= λ at. Ok (expr.Field x.0 at.0, at.1))
         (type >>= λ t. place_under line name t >>= λ at. Ok at.1)
-        (λ env. then (given env) (dotted name))
+        (λ env. then (given env) (dotted_thing name))
     field_by (Err f) e =
         ap (λ o. o >>= λ t. place_under line name t >>= λ at. Ok at.1) h.0
         ∙ ap (λ o. o >>= λ at. Ok at.1) e
@@ -159,7 +159,8 @@ right_field line name names (Ok x) type given h = field_by (place_under line nam
           ap (λ o. o >>= λ t. place_under line name t >>= λ at. Ok at.1) h.0
               ∙ ap (λ o. o >>= λ at. Ok at.1) e,
           field_typed (types names) x.0 x.1 name at p.0 p.1 p.2 h.1,
-          same_one names x.0 x.1 at.1 (dotted name) (field_in at.0) given (expr.Field x.0 at.0) h.2
+          same_one names x.0 x.1 at.1 (dotted_thing name) (field_in at.0) given
+              (expr.Field x.0 at.0) h.2
               (λ v. ap (λ r. with_part r (part_of name v)) p.1
               ∙ ap (λ o. with_part o (λ at. tagged at.1 (field_in at.0 v))) p.2)
               (value_of-Field x.0 at.0),

@@ -10,7 +10,7 @@ use Rattle.dofn_eval.specs.declared.expr.Expr.{Expr as Slots}
 use Rattle.dofn_eval.specs.declared.expr.Expr.TheVariants as expr
 use Rattle.dofn_eval.specs.Outcome.{Gives, then, then_both}
 use Rattle.dofn_eval.specs.Operations.{of_one, of_two, member_in, chosen}
-use Rattle.dofn_eval.specs.Meaning.{value_of}
+use Rattle.dofn_eval.specs.Meaning.{expression_value}
 use Rattle.dofn_eval.specs.Typed as typing
 use Rattle.dofn_eval.proofs.MeaningLemmas.{value_of-Unary, value_of-Binary, value_of-And, value_of-Or, value_of-Index, value_of-Pick}
 use Rattle.expression_types.specs.of_written_types.Answer.{Checked, ◌>>=◌, or_fault}
@@ -18,9 +18,9 @@ use Rattle.expression_types.specs.of_written_types.Written.{shallow}
 use Rattle.expression_types.specs.declared.operator.Operator.{Operator}
 use Rattle.expression_types.specs.declared.operator.Operator.TheVariants.{And, Or, Two}
 use Rattle.expression_types.specs.Sight.{Newest}
-use Rattle.expression_types.specs.Operators.{one, side_of}
+use Rattle.expression_types.specs.Operators.{unary_slot, side_slot}
 use Rattle.expression_types.specs.Types.{unary_type, binary_type, index_type, pick_type, either_of}
-use Rattle.expression_check.specs.Given.{tagged, typed, valued, operated}
+use Rattle.expression_check.specs.Given.{tagged, typed, valued, operated_thing}
 use Rattle.expression_check.specs.Slots.{SlotsAndType, operation, unary, binary, index, sided, pick}
 use Rattle.expression_check.specs.Right.{types, IsRight}
 use Rattle.expression_types.proofs.TypeLemmas.{there_is, shallow_is, unary_typed, bools_are, two_typed, index_is, pick_is, side_typed}
@@ -33,16 +33,19 @@ module _ (line : ℕ) where
       (given : Giving) → IsRight names o type given
       → IsRight names (o >>= λ x. unary line op x)
       (type >>= λ t. or_fault line Mistyped (unary_type op t))
-      (λ env. then (given env) (λ x. typed (unary_type op x.0) (of_one (one op) x.1)))
+      (λ env. then (given env) (λ x. typed (unary_type op x.0) (of_one (unary_slot op) x.1)))
   right_unary op names (Err f) type given h =
       ap (λ o. o >>= λ t. or_fault line Mistyped (unary_type op t)) h
   right_unary op names (Ok x) type given h =
-      right_made names (expr.Unary (one op) x.0) (or_fault line Mistyped (unary_type op x.1)) _ _
+      right_made names (expr.Unary (unary_slot op) x.0) (or_fault line Mistyped (unary_type op x.1))
+      _ _
       (ap (λ o. o >>= λ t. or_fault line Mistyped (unary_type op t)) h.0)
       (λ u e. let is = there_is line Mistyped (unary_type op x.1) u e in (
         typing.unary (unary_typed op x.1 u is) h.1,
-        same_one names x.0 x.1 u _ (of_one (one op)) given (expr.Unary (one op) x.0) h.2
-            (λ v. ap (λ w. typed w (of_one (one op) v)) is) (value_of-Unary (one op) x.0),
+        same_one names x.0 x.1 u _ (of_one (unary_slot op)) given (expr.Unary (unary_slot op) x.0)
+            h.2
+            (λ v. ap (λ w. typed w (of_one (unary_slot op) v)) is)
+            (value_of-Unary (unary_slot op) x.0),
       ))
 
   pub right_side : (s : Side) (other : Ty) (names : Newest Ty) (o : Checked SlotsAndType)
@@ -50,16 +53,17 @@ module _ (line : ℕ) where
       (given : Giving) → IsRight names o type given
       → IsRight names (o >>= λ x. sided line s other x)
       (type >>= λ t. shallow line (either_of s other t))
-      (λ env. then (given env) (λ x. tagged (either_of s other x.0) (of_one (side_of s) x.1)))
+      (λ env. then (given env) (λ x. tagged (either_of s other x.0) (of_one (side_slot s) x.1)))
   right_side s other names (Err f) type given h =
       ap (λ o. o >>= λ t. shallow line (either_of s other t)) h
   right_side s other names (Ok x) type given h =
-      right_made names (expr.Unary (side_of s) x.0) (shallow line (either_of s other x.1)) _ _
+      right_made names (expr.Unary (side_slot s) x.0) (shallow line (either_of s other x.1)) _ _
       (ap (λ o. o >>= λ t. shallow line (either_of s other t)) h.0)
       (λ u e. let is = shallow_is line (either_of s other x.1) u e in (
         typing.unary (side_typed s other x.1 u is) h.1,
-        same_one names x.0 x.1 u _ (of_one (side_of s)) given (expr.Unary (side_of s) x.0) h.2
-            (λ v. ap (λ w. tagged w (of_one (side_of s) v)) is) (value_of-Unary (side_of s) x.0),
+        same_one names x.0 x.1 u _ (of_one (side_slot s)) given (expr.Unary (side_slot s) x.0) h.2
+            (λ v. ap (λ w. tagged w (of_one (side_slot s) v)) is)
+            (value_of-Unary (side_slot s) x.0),
       ))
 
 -- two operands
@@ -79,22 +83,24 @@ bool_typed (Two op) scope a b t u w e h k = typing.binary (two_typed op t u w e)
 
 operated_same : (op : Operator) (a b : Slots) (t u w : Ty) → binary_type op t u ≡ Some w
     → (vs : List Value)
-    → operated op (tagged t (value_of a vs)) (tagged u (value_of b vs))
-    ≡ tagged w (value_of (operation op a b) vs)
+    → operated_thing op (tagged t (expression_value a vs)) (tagged u (expression_value b vs))
+    ≡ tagged w (expression_value (operation op a b) vs)
 operated_same And a b t u w e vs =
     let p = bools_are t u w e in
-    (λ i. chosen (valued (tagged t (value_of a vs))) (tagged ((p.1 ∙ p.2) i) (value_of b vs))
+    (λ i. chosen (valued (tagged t (expression_value a vs)))
+    (tagged ((p.1 ∙ p.2) i) (expression_value b vs))
     (tagged (p.2 i) (Gives (value.Bool false))))
-    ∙ tagged_chosen t w (value_of a vs) (value_of b vs) (Gives (value.Bool false))
+    ∙ tagged_chosen t w (expression_value a vs) (expression_value b vs) (Gives (value.Bool false))
     ∙ ap (tagged w) (sym (value_of-And a b vs))
 operated_same Or a b t u w e vs =
     let p = bools_are t u w e in
-    (λ i. chosen (valued (tagged t (value_of a vs))) (tagged (p.2 i) (Gives (value.Bool true)))
-    (tagged ((p.1 ∙ p.2) i) (value_of b vs)))
-    ∙ tagged_chosen t w (value_of a vs) (Gives (value.Bool true)) (value_of b vs)
+    (λ i. chosen (valued (tagged t (expression_value a vs)))
+    (tagged (p.2 i) (Gives (value.Bool true)))
+    (tagged ((p.1 ∙ p.2) i) (expression_value b vs)))
+    ∙ tagged_chosen t w (expression_value a vs) (Gives (value.Bool true)) (expression_value b vs)
     ∙ ap (tagged w) (sym (value_of-Or a b vs))
 operated_same (Two op) a b t u w e vs =
-    tagged_both t u w (value_of a vs) (value_of b vs) _ (of_two op)
+    tagged_both t u w (expression_value a vs) (expression_value b vs) _ (of_two op)
     (λ v x. ap (λ o. typed o (of_two op v x)) e) ∙ ap (tagged w) (sym (value_of-Binary op a b vs))
 
 abbrev paired : Checked SlotsAndType → Checked SlotsAndType → Checked (SlotsAndType × SlotsAndType)
@@ -106,7 +112,7 @@ module _ (line : ℕ) where
       (g h : Giving) → IsRight names o s g → IsRight names p r h
       → IsRight names (paired o p >>= λ both. binary line op both.0 both.1)
       (s >>= λ t. r >>= λ u. or_fault line Mistyped (binary_type op t u))
-      (λ env. operated op (g env) (h env))
+      (λ env. operated_thing op (g env) (h env))
   right_binary op names (Err f) p s r g h a b =
       ap (λ o. o >>= λ t. r >>= λ u. or_fault line Mistyped (binary_type op t u)) a
   right_binary op names (Ok x) (Err f) s r g h a b =
@@ -116,7 +122,8 @@ module _ (line : ℕ) where
       (λ i. a.0 i >>= λ t. b.0 i >>= λ u. or_fault line Mistyped (binary_type op t u))
       (λ w e. let is = there_is line Mistyped (binary_type op x.1 y.1) w e in (
         bool_typed op (types names) x.0 y.0 x.1 y.1 w is a.1 b.1,
-        λ vs. (λ i. operated op (a.2 vs i) (b.2 vs i)) ∙ operated_same op x.0 y.0 x.1 y.1 w is vs,
+        λ vs. (λ i. operated_thing op (a.2 vs i) (b.2 vs i))
+            ∙ operated_same op x.0 y.0 x.1 y.1 w is vs,
       ))
 
   pub right_index : (names : Newest Ty) (o p : Checked SlotsAndType) (s r : Checked Ty)
@@ -138,7 +145,7 @@ module _ (line : ℕ) where
             (subst (typing.Typed (types names) y.0) q.1 b.1),
         λ vs. (λ i. then_both (a.2 vs i) (b.2 vs i)
             (λ x y. typed (index_type x.0 y.0) (member_in x.1 y.1)))
-            ∙ tagged_both x.1 y.1 w (value_of x.0 vs) (value_of y.0 vs) _ member_in
+            ∙ tagged_both x.1 y.1 w (expression_value x.0 vs) (expression_value y.0 vs) _ member_in
             (λ v u. ap (λ o. typed o (member_in v u)) is)
             ∙ ap (tagged w) (sym (value_of-Index x.0 y.0 vs)),
       ))
@@ -164,8 +171,10 @@ module _ (line : ℕ) where
             (subst (typing.Typed (types names) x.0) m.2 a.1)
             (subst (typing.Typed (types names) y.0) (sym m.1 ∙ m.2) b.1),
         λ vs. (λ i. chosen (valued (c.2 vs i)) (a.2 vs i) (b.2 vs i))
-            ∙ (λ i. chosen (valued (tagged z.1 (value_of z.0 vs)))
-            (tagged (m.2 i) (value_of x.0 vs)) (tagged ((sym m.1 ∙ m.2) i) (value_of y.0 vs)))
-            ∙ tagged_chosen z.1 w (value_of z.0 vs) (value_of x.0 vs) (value_of y.0 vs)
+            ∙ (λ i. chosen (valued (tagged z.1 (expression_value z.0 vs)))
+            (tagged (m.2 i) (expression_value x.0 vs)) (tagged ((sym m.1 ∙ m.2) i)
+            (expression_value y.0 vs)))
+            ∙ tagged_chosen z.1 w (expression_value z.0 vs) (expression_value x.0 vs)
+            (expression_value y.0 vs)
             ∙ ap (tagged w) (sym (value_of-Pick z.0 x.0 y.0 vs)),
       ))

@@ -6,7 +6,7 @@ use Rattle.type_table.specs.of_flume_types.declared.types.Ty.{Ty}
 use Rattle.dofn_eval.specs.declared.expr.Expr.{Expr as Slots}
 use Rattle.dofn_eval.specs.Outcome.{Outcome, Gives, Traps, Stuck, then, then_both, with_part}
 use Rattle.dofn_eval.specs.Operations.{chosen}
-use Rattle.dofn_eval.specs.Meaning.{value_of}
+use Rattle.dofn_eval.specs.Meaning.{expression_value}
 use Rattle.dofn_eval.specs.Typed as typing
 use Rattle.expression_types.specs.of_written_types.Answer.{Checked, ◌>>=◌}
 use Rattle.expression_types.specs.Sight.{Newest}
@@ -18,7 +18,7 @@ Giving = Environment → Outcome Thing
 
 pub right_made : (names : Newest Ty) (k : Slots) (u type : Checked Ty) (given : Giving) → type ≡ u
     → ((t : Ty) → u ≡ Ok t → typing.Typed (types names) k t
-    × ((vs : List Value) → given (bound names vs) ≡ tagged t (value_of k vs)))
+    × ((vs : List Value) → given (bound names vs) ≡ tagged t (expression_value k vs)))
     → IsRight names (u >>= λ t. Ok (k, t)) type given
 right_made names k (Err f) type given e h = e
 right_made names k (Ok t) type given e h = let p = h t refl in (e, p.0, p.1)
@@ -61,11 +61,11 @@ tagged_chosen t w Stuck x y = refl
 -- one operand
 pub same_one : (names : Newest Ty) (k : Slots) (t u : Ty) (f : Thing → Outcome Thing)
     (g : Value → Outcome Value) (given : Giving) (whole : Slots)
-    → ((vs : List Value) → given (bound names vs) ≡ tagged t (value_of k vs))
+    → ((vs : List Value) → given (bound names vs) ≡ tagged t (expression_value k vs))
     → ((v : Value) → f (t, v) ≡ tagged u (g v))
-    → ((vs : List Value) → value_of whole vs ≡ then (value_of k vs) g)
-    → (vs : List Value) → then (given (bound names vs)) f ≡ tagged u (value_of whole vs)
+    → ((vs : List Value) → expression_value whole vs ≡ then (expression_value k vs) g)
+    → (vs : List Value) → then (given (bound names vs)) f ≡ tagged u (expression_value whole vs)
 same_one names k t u f g given whole h step is vs =
-    ap (λ o. then o f) (h vs) ∙ tagged_goes t (value_of k vs) f
-    ∙ ap (then (value_of k vs)) (λ i v. step v i)
-    ∙ tagged_then u (value_of k vs) g ∙ ap (tagged u) (sym (is vs))
+    ap (λ o. then o f) (h vs) ∙ tagged_goes t (expression_value k vs) f
+    ∙ ap (then (expression_value k vs)) (λ i v. step v i)
+    ∙ tagged_then u (expression_value k vs) g ∙ ap (tagged u) (sym (is vs))

@@ -14,16 +14,16 @@ use Rattle.flume_grammar.specs.declared.fault.ScriptKind.TheVariants.{Twice, Mis
 use Rattle.dofn_eval.specs.declared.expr.Expr.{Expr as Slots}
 use Rattle.dofn_eval.specs.declared.expr.Expr.TheVariants as expr
 use Rattle.dofn_eval.specs.Outcome.{Outcome, Gives, Traps, Stuck, then}
-use Rattle.dofn_eval.specs.Meaning.{values_of, value_of}
+use Rattle.dofn_eval.specs.Meaning.{part_values, expression_value}
 use Rattle.dofn_eval.specs.Typed as typing
 use Rattle.dofn_eval.proofs.MeaningLemmas.{value_of-Record, value_of-List}
 use Rattle.expression_types.specs.of_written_types.Answer.{Checked, ◌>>=◌, unless}
 use Rattle.expression_types.specs.of_written_types.Written.{shallow}
 use Rattle.expression_types.specs.Sight.{Newest}
-use Rattle.expression_types.specs.Fields.{are_different, fields_of}
+use Rattle.expression_types.specs.Fields.{are_different, typed_fields}
 use Rattle.expression_types.specs.Types.{is_same, record_type, list_type}
-use Rattle.expression_check.specs.Given.{Thing, Environment, tagged, recorded, listed}
-use Rattle.expression_check.specs.Slots.{SlotsAndType, fields, members}
+use Rattle.expression_check.specs.Given.{Thing, Environment, tagged, recorded, list_of_things}
+use Rattle.expression_check.specs.Slots.{SlotsAndType, fields, members_slots}
 use Rattle.expression_check.specs.Right.{types, bound, IsRight}
 use Rattle.expression_types.proofs.TypeLemmas.{shallow_is}
 use Rattle.expression_check.proofs.OutcomeLemmas.{Giving, right_made}
@@ -41,7 +41,7 @@ AreRight names ks ts (Ok found) all given =
     × typing.AllTyped (types names) more us
     × ((vs : List Value) (before : List Ty) (made : List Value)
     → given (bound names vs) before made
-    ≡ then (values_of value_of more vs made) (λ ws. Gives (before ++ us, ws)))
+    ≡ then (part_values expression_value more vs made) (λ ws. Gives (before ++ us, ws)))
 
 pub no_parts : (names : Newest Ty) (ks : List Slots) (ts : List Ty)
     → AreRight names ks ts (Ok (ks, ts)) (Ok []) (λ env before made. Gives (before, made))
@@ -62,14 +62,15 @@ module _ (names : Newest Ty) (ks : List Slots) (ts : List Ty) (x : SlotsAndType)
   part_goes : (more : List Slots) (us : List Ty) (vs : List Value) (before : List Ty)
       (made : List Value)
       → ((b : List Ty) (m : List Value) → rest (bound names vs) b m
-      ≡ then (values_of value_of more vs m) (λ ws. Gives (b ++ us, ws)))
+      ≡ then (part_values expression_value more vs m) (λ ws. Gives (b ++ us, ws)))
       → (o : Outcome Value)
       → then (tagged x.1 o) (λ y. rest (bound names vs) (before ++ y.0 ∷ []) (made ++ y.1 ∷ []))
-      ≡ then (then o (λ v. values_of value_of more vs (made ++ v ∷ [])))
+      ≡ then (then o (λ v. part_values expression_value more vs (made ++ v ∷ [])))
       (λ ws. Gives (before ++ x.1 ∷ us, ws))
   part_goes more us vs before made h (Gives v) =
       h (before ++ x.1 ∷ []) (made ++ v ∷ [])
-      ∙ ap (λ bs. then (values_of value_of more vs (made ++ v ∷ [])) (λ ws. Gives (bs, ws)))
+      ∙ ap (λ bs. then (part_values expression_value more vs (made ++ v ∷ []))
+      (λ ws. Gives (bs, ws)))
       (append_assoc before (x.1 ∷ []) us)
   part_goes more us vs before made h (Traps k) = refl
   part_goes more us vs before made h Stuck = refl
@@ -89,7 +90,7 @@ module _ (names : Newest Ty) (ks : List Slots) (ts : List Ty) (x : SlotsAndType)
     λ vs before made.
         ap (λ o. then o (λ y. rest (bound names vs) (before ++ y.0 ∷ []) (made ++ y.1 ∷ [])))
         (h.2 vs)
-        ∙ part_goes more us vs before made (gv vs) (value_of x.0 vs),
+        ∙ part_goes more us vs before made (gv vs) (expression_value x.0 vs),
   )
 
 pub parts_more : (names : Newest Ty) (ks : List Slots) (ts : List Ty) (o : Checked SlotsAndType)
@@ -114,7 +115,7 @@ all_made t us (Traps k) w f h = refl
 all_made t us Stuck w f h = refl
 
 counted : (names : List (List ℕ)) (ts : List Ty) → length names ≡ length ts
-    → types_of (fields_of names ts) ≡ ts
+    → types_of (typed_fields names ts) ≡ ts
 counted [] [] e = refl
 counted [] (t ∷ ts) e = cc
 counted (name ∷ names) [] e = cc
@@ -125,10 +126,10 @@ counted (name ∷ names) (t ∷ ts) e =
 record_by : (line : ℕ) (new many : Bool) (names : List (List ℕ)) (ts : List Ty) (t : Ty)
     → nat_eq (length names) (length ts) ≡ many
     → (unless line Twice new >>= λ met. unless line Mistyped many >>= λ also.
-    shallow line (ty.Rec (fields_of names ts))) ≡ Ok t
-    → (ty.Rec (fields_of names ts) ≡ t) × (types_of (fields_of names ts) ≡ ts)
+    shallow line (ty.Rec (typed_fields names ts))) ≡ Ok t
+    → (ty.Rec (typed_fields names ts) ≡ t) × (types_of (typed_fields names ts) ≡ ts)
 record_by line true true names ts t test e = (
-  shallow_is line (ty.Rec (fields_of names ts)) t e,
+  shallow_is line (ty.Rec (typed_fields names ts)) t e,
   counted names ts (eqb-true (length names) (length ts) test),
 )
 record_by line true false names ts t test e = cc
@@ -136,7 +137,7 @@ record_by line false many names ts t test e = cc
 
 record_is : (line : ℕ) (names : List (List ℕ)) (ts : List Ty) (t : Ty)
     → record_type line names ts ≡ Ok t
-    → (ty.Rec (fields_of names ts) ≡ t) × (types_of (fields_of names ts) ≡ ts)
+    → (ty.Rec (typed_fields names ts) ≡ t) × (types_of (typed_fields names ts) ≡ ts)
 record_is line names ts t e =
     record_by line (are_different names) (nat_eq (length names) (length ts)) names ts t refl e
 
@@ -153,7 +154,7 @@ record IsList (ts : List Ty) (t : Ty) : Type 0 where
   type : ty.List member ≡ t
   each : (scope : List Ty) (ks : List Slots) → typing.AllTyped scope ks ts
       → typing.EachTyped scope ks member
-  given : (ws : List Value) → listed (ts, ws) ≡ tagged t (Gives (value.List ws))
+  given : (ws : List Value) → list_of_things (ts, ws) ≡ tagged t (Gives (value.List ws))
 
 list_by : (line : ℕ) (b : Bool) (u : Ty) (us : List Ty) (t : Ty) → list_all (is_same u) us ≡ b
     → (unless line Mistyped b >>= λ met. shallow line (ty.List u)) ≡ Ok t → IsList (u ∷ us) t
@@ -186,28 +187,28 @@ right_record line fs names (Ok found) all given (more, us, is, has, td, gv) =
     (ap (λ o. o >>= λ ts. record_type line fs ts) has)
     (λ t e. let p = record_is line fs us t e in (
       subst (typing.Typed (types names) (expr.Record more)) p.0
-          (typing.fields (fields_of fs us)
+          (typing.fields (typed_fields fs us)
           (subst (typing.AllTyped (types names) more) (sym p.1) td)),
       λ vs. ap (λ o. then o (recorded fs)) (gv vs [] [])
-          ∙ all_made t us (values_of value_of more vs []) value.Rec _
+          ∙ all_made t us (part_values expression_value more vs []) value.Rec _
           (λ ws. ap (λ w. tagged w (Gives (value.Rec ws))) p.0)
           ∙ ap (tagged t) (sym (value_of-Record more vs)),
     )))
 
 pub right_list : (line : ℕ) (names : Newest Ty) (o : Checked (List Slots × List Ty))
     (all : Checked (List Ty)) (given : AllGiving) → AreRight names [] [] o all given
-    → IsRight names (o >>= λ found. members line found) (all >>= λ ts. list_type line ts)
-    (λ env. then (given env [] []) listed)
+    → IsRight names (o >>= λ found. members_slots line found) (all >>= λ ts. list_type line ts)
+    (λ env. then (given env [] []) list_of_things)
 right_list line names (Err f) all given h = ap (λ o. o >>= λ ts. list_type line ts) h
 right_list line names (Ok found) all given (more, us, is, has, td, gv) =
-    subst (λ found. IsRight names (members line found) (all >>= λ ts. list_type line ts)
-    (λ env. then (given env [] []) listed)) (sym is)
+    subst (λ found. IsRight names (members_slots line found) (all >>= λ ts. list_type line ts)
+    (λ env. then (given env [] []) list_of_things)) (sym is)
     (right_made names (expr.List more) (list_type line us) _ _
     (ap (λ o. o >>= λ ts. list_type line ts) has)
     (λ t e. let p = list_is line us t e in (
       subst (typing.Typed (types names) (expr.List more)) p.type
           (typing.members (p.each (types names) more td)),
-      λ vs. ap (λ o. then o listed) (gv vs [] [])
-          ∙ all_made t us (values_of value_of more vs []) value.List _ p.given
+      λ vs. ap (λ o. then o list_of_things) (gv vs [] [])
+          ∙ all_made t us (part_values expression_value more vs []) value.List _ p.given
           ∙ ap (tagged t) (sym (value_of-List more vs)),
     )))

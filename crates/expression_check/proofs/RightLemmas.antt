@@ -10,7 +10,7 @@ use Rattle.dofn_eval.specs.Operations.{of_one}
 use Rattle.expression_types.specs.of_written_types.Answer.{Checked, ◌>>=◌}
 use Rattle.expression_types.specs.of_written_types.Written.{shallow, whole_type}
 use Rattle.expression_types.specs.Sight.{Newest, Sight}
-use Rattle.expression_types.specs.Operators.{operator, concat, side_of}
+use Rattle.expression_types.specs.Operators.{operator, concat, side_slot}
 use Rattle.expression_types.specs.Types.{either_of}
 use Rattle.expression_check.specs.Types.{all_types, layer_type, type_of}
 use Rattle.expression_check.specs.Given.{tagged, with_type, all_given, layer_given, given_in}
@@ -48,7 +48,7 @@ module _ (line : ℕ) where
       → IsRight names (o >>= λ other. found >>= λ x. sided line side other x)
       (o >>= λ other. type >>= λ t. shallow line (either_of side other t))
       (λ env. with_type o (λ other. then (given env)
-      (λ x. tagged (either_of side other x.0) (of_one (side_of side) x.1))))
+      (λ x. tagged (either_of side other x.0) (of_one (side_slot side) x.1))))
   written_by (Err f) side names found type given h = refl
   written_by (Ok other) side names found type given h =
       right_side line side other names found type given h

@@ -16,7 +16,7 @@ use Rattle.expression_types.specs.of_written_types.Answer.{Checked, ◌>>=◌}
 use Rattle.expression_types.proofs.of_written_types.FailsLemmas.{bind-same}
 use Rattle.expression_types.specs.Operators.{operator, concat}
 use Rattle.expression_types.specs.Sight.{Sight}
-use Rattle.expression_check.specs.Slots.{SlotsAndType, literal, variable, empty, fields, members, all_slots, unary_slots, field_slots, record_slots, list_slots, two_slots, index_slots, pick_slots, side_slots, layer_slots, slots_of}
+use Rattle.expression_check.specs.Slots.{SlotsAndType, literal, variable, empty, fields, members_slots, all_slots, unary_slots, field_slots, record_slots, list_slots, two_slots, index_slots, pick_slots, side_slots, layer_slots, slots_of}
 
 all_mapped : {X : Type 0} (f : X → Sight → Checked SlotsAndType) (xs : List X) (s : Sight)
     (slots : List Slots) (types : List Ty)
@@ -32,7 +32,7 @@ module _ (line : ℕ) where
   mapped f (Expr-F.Record names parts) s =
       ap (λ o. o >>= λ all. fields line names all) (all_mapped f parts s [] [])
   mapped f (Expr-F.List parts) s =
-      ap (λ o. o >>= λ all. members line all) (all_mapped f parts s [] [])
+      ap (λ o. o >>= λ all. members_slots line all) (all_mapped f parts s [] [])
   mapped f _ s = refl
 
   -- the slots of an expression of this form

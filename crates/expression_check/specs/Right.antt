@@ -4,7 +4,7 @@ use Rattle.flume_value.specs.declared.value.Value.{Value}
 use Rattle.type_table.specs.of_flume_types.declared.types.Ty.{Ty}
 use Rattle.flume_grammar.specs.declared.tree.Expr.{Expr}
 use Rattle.dofn_eval.specs.Outcome.{Outcome}
-use Rattle.dofn_eval.specs.Meaning.{value_of}
+use Rattle.dofn_eval.specs.Meaning.{expression_value}
 use Rattle.dofn_eval.specs.Typed as typing
 use Rattle.expression_types.specs.of_written_types.Answer.{Checked}
 use Rattle.expression_types.specs.Sight.{Newest, Sight}
@@ -30,7 +30,7 @@ IsRight names (Err e) type given = type ≡ Err e
 IsRight names (Ok x) type given =
     (type ≡ Ok x.1)
     × typing.Typed (types names) x.0 x.1
-    × ((vs : List Value) → given (bound names vs) ≡ tagged x.1 (value_of x.0 vs))
+    × ((vs : List Value) → given (bound names vs) ≡ tagged x.1 (expression_value x.0 vs))
 
 abbrev pub IsRightExpr : ℕ → Expr → Sight → Type 0
 IsRightExpr line e s =

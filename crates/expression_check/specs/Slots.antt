@@ -20,7 +20,7 @@ use Rattle.expression_check.specs.declared.typed.Pair.{Pair}
 use Rattle.expression_check.specs.declared.typed.AllTyped.{AllTyped}
 use Rattle.expression_types.specs.declared.operator.Operator.{Operator}
 use Rattle.expression_types.specs.declared.operator.Operator.TheVariants.{And, Or, Two}
-use Rattle.expression_types.specs.Operators.{operator, concat, one, side_of}
+use Rattle.expression_types.specs.Operators.{operator, concat, unary_slot, side_slot}
 use Rattle.expression_types.specs.Sight.{Newest, Sight}
 use Rattle.expression_types.specs.Types.{unary_type, binary_type, index_type, pick_type, either_of, place_under, record_type, list_type, empty_type}
 use Rattle.expression_types.specs.Places.{place_in}
@@ -30,8 +30,8 @@ abbrev pub SlotsAndType : Type 0
 SlotsAndType = Slots × Ty
 
 -- what was made, where these types are under numbers
-abbrev pub typed : List Ty → Made → SlotsAndType
-typed types made = (made.expr, type_at types made.ty)
+abbrev pub slots_typed : List Ty → Made → SlotsAndType
+slots_typed types made = (made.expr, type_at types made.ty)
 
 abbrev pub operand : List Ty → Operand → SlotsAndType
 operand types made = (made.expr, type_at types made.ty)
@@ -86,7 +86,7 @@ module _ (line : ℕ) where
   abbrev pub unary : Unary → SlotsAndType → Checked SlotsAndType
   unary op x = do
     t ← or_fault line Mistyped (unary_type op x.1)
-    Ok (expr.Unary (one op) x.0, t)
+    Ok (expr.Unary (unary_slot op) x.0, t)
 
   abbrev pub binary : Operator → SlotsAndType → SlotsAndType → Checked SlotsAndType
   binary op x y = do
@@ -108,15 +108,15 @@ module _ (line : ℕ) where
     t ← record_type line names all.1
     Ok (expr.Record all.0, t)
 
-  abbrev pub members : List Slots × List Ty → Checked SlotsAndType
-  members all = do
+  abbrev pub members_slots : List Slots × List Ty → Checked SlotsAndType
+  members_slots all = do
     t ← list_type line all.1
     Ok (expr.List all.0, t)
 
   abbrev pub sided : Side → Ty → SlotsAndType → Checked SlotsAndType
   sided side other x = do
     t ← shallow line (either_of side other x.1)
-    Ok (expr.Unary (side_of side) x.0, t)
+    Ok (expr.Unary (side_slot side) x.0, t)
 
   abbrev pub pick : SlotsAndType → SlotsAndType → SlotsAndType → Checked SlotsAndType
   pick c x y = do
@@ -147,7 +147,7 @@ module _ (line : ℕ) where
       Sight → Checked SlotsAndType
   list_slots f parts s = do
     all ← all_slots f parts s [] []
-    members all
+    members_slots all
 
   abbrev pub two_slots : {X : Type 0} → (X → Sight → Checked SlotsAndType) → Operator → X → X →
       Sight → Checked SlotsAndType

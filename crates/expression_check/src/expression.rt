@@ -20,7 +20,7 @@ use std::alloc::Global;
 #[cycle(resolve)]
 #[tactic(auto, using(crate::proofs::SlotLemmas::slots_rules))]
 pub fn resolve(alloc: Global, line: u32, e: &Expr, scope: &mut Scope) -> Result<Typed, ScriptFault>
-    ensures gives { Gives (spec.typed scope.new.types) result
+    ensures gives { Gives (spec.slots_typed scope.new.types) result
         (spec.slots_of line e.now scope.old.sight) }
     ensures within { IfOk result (λ made. made.ty < length scope.new.types) }
     ensures extends { Extends scope.old.types scope.new.types }
@@ -55,7 +55,7 @@ fn operated(
     part: &Expr,
     scope: &mut Scope,
 ) -> Result<Typed, ScriptFault>
-    ensures gives { Gives (spec.typed scope.new.types) result
+    ensures gives { Gives (spec.slots_typed scope.new.types) result
         (spec.unary_slots line (spec.slots_of line) op part.now scope.old.sight) }
     ensures within { IfOk result (λ made. made.ty < length scope.new.types) }
     ensures extends { Extends scope.old.types scope.new.types }
@@ -73,7 +73,7 @@ fn dotted(
     name: &Str,
     scope: &mut Scope,
 ) -> Result<Typed, ScriptFault>
-    ensures gives { Gives (spec.typed scope.new.types) result
+    ensures gives { Gives (spec.slots_typed scope.new.types) result
         (spec.field_slots line (spec.slots_of line) part.now name.now scope.old.sight) }
     ensures within { IfOk result (λ made. made.ty < length scope.new.types) }
     ensures extends { Extends scope.old.types scope.new.types }
@@ -91,7 +91,7 @@ fn recorded(
     parts: &Pile<Expr>,
     scope: &mut Scope,
 ) -> Result<Typed, ScriptFault>
-    ensures gives { Gives (spec.typed scope.new.types) result
+    ensures gives { Gives (spec.slots_typed scope.new.types) result
         (spec.record_slots line (spec.slots_of line) names.now parts.now scope.old.sight) }
     ensures within { IfOk result (λ made. made.ty < length scope.new.types) }
     ensures extends { Extends scope.old.types scope.new.types }
@@ -108,7 +108,7 @@ fn listed(
     parts: &Pile<Expr>,
     scope: &mut Scope,
 ) -> Result<Typed, ScriptFault>
-    ensures gives { Gives (spec.typed scope.new.types) result
+    ensures gives { Gives (spec.slots_typed scope.new.types) result
         (spec.list_slots line (spec.slots_of line) parts.now scope.old.sight) }
     ensures within { IfOk result (λ made. made.ty < length scope.new.types) }
     ensures extends { Extends scope.old.types scope.new.types }
@@ -127,7 +127,7 @@ fn two(
     b: &Expr,
     scope: &mut Scope,
 ) -> Result<Typed, ScriptFault>
-    ensures gives { Gives (spec.typed scope.new.types) result
+    ensures gives { Gives (spec.slots_typed scope.new.types) result
         (spec.two_slots line (spec.slots_of line) op a.now b.now scope.old.sight) }
     ensures within { IfOk result (λ made. made.ty < length scope.new.types) }
     ensures extends { Extends scope.old.types scope.new.types }
@@ -145,7 +145,7 @@ fn indexed(
     b: &Expr,
     scope: &mut Scope,
 ) -> Result<Typed, ScriptFault>
-    ensures gives { Gives (spec.typed scope.new.types) result
+    ensures gives { Gives (spec.slots_typed scope.new.types) result
         (spec.index_slots line (spec.slots_of line) a.now b.now scope.old.sight) }
     ensures within { IfOk result (λ made. made.ty < length scope.new.types) }
     ensures extends { Extends scope.old.types scope.new.types }
@@ -164,7 +164,7 @@ fn one_side(
     part: &Expr,
     scope: &mut Scope,
 ) -> Result<Typed, ScriptFault>
-    ensures gives { Gives (spec.typed scope.new.types) result
+    ensures gives { Gives (spec.slots_typed scope.new.types) result
         (spec.side_slots line (spec.slots_of line) s written.now part.now scope.old.sight) }
     ensures within { IfOk result (λ made. made.ty < length scope.new.types) }
     ensures extends { Extends scope.old.types scope.new.types }
@@ -184,7 +184,7 @@ fn picked(
     b: &Expr,
     scope: &mut Scope,
 ) -> Result<Typed, ScriptFault>
-    ensures gives { Gives (spec.typed scope.new.types) result
+    ensures gives { Gives (spec.slots_typed scope.new.types) result
         (spec.pick_slots line (spec.slots_of line) c.now a.now b.now scope.old.sight) }
     ensures within { IfOk result (λ made. made.ty < length scope.new.types) }
     ensures extends { Extends scope.old.types scope.new.types }

@@ -23,7 +23,7 @@ use std::alloc::Global;
 use type_table::{Shape, Types};
 
 pub fn number(line: u32, digits: &Str, scope: &mut Scope) -> Result<Typed, ScriptFault>
-    ensures gives { Gives (spec.typed scope.new.types) result
+    ensures gives { Gives (spec.slots_typed scope.new.types) result
         (spec.literal line (int_in digits.now)) }
     ensures within { IfOk result (λ made. made.ty < length scope.new.types) }
     ensures extends { Extends scope.old.types scope.new.types }
@@ -40,7 +40,7 @@ pub fn number(line: u32, digits: &Str, scope: &mut Scope) -> Result<Typed, Scrip
 }
 
 pub fn text(alloc: Global, text: &Str, scope: &mut Scope) -> Result<Typed, ScriptFault>
-    ensures gives { Gives (spec.typed scope.new.types) result
+    ensures gives { Gives (spec.slots_typed scope.new.types) result
         (Ok (slots.Literal (value.Text text.now), ty_.Text)) }
     ensures within { IfOk result (λ made. made.ty < length scope.new.types) }
     ensures extends { Extends scope.old.types scope.new.types }
@@ -55,7 +55,7 @@ pub fn text(alloc: Global, text: &Str, scope: &mut Scope) -> Result<Typed, Scrip
 }
 
 pub fn truth(b: bool, scope: &mut Scope) -> Result<Typed, ScriptFault>
-    ensures gives { Gives (spec.typed scope.new.types) result
+    ensures gives { Gives (spec.slots_typed scope.new.types) result
         (Ok (slots.Literal (value.Bool b), ty_.Bool)) }
     ensures within { IfOk result (λ made. made.ty < length scope.new.types) }
     ensures extends { Extends scope.old.types scope.new.types }
@@ -69,7 +69,7 @@ pub fn truth(b: bool, scope: &mut Scope) -> Result<Typed, ScriptFault>
 }
 
 pub fn variable(line: u32, name: &Str, scope: &Scope) -> Result<Typed, ScriptFault>
-    ensures gives { Gives (spec.typed scope.now.types) result
+    ensures gives { Gives (spec.slots_typed scope.now.types) result
         (spec.variable line name.now scope.now.sight.names) }
     ensures within { IfOk result (λ made. made.ty < length scope.now.types) }
 {
@@ -88,7 +88,7 @@ pub fn empty(
     written: &Type,
     scope: &mut Scope,
 ) -> Result<Typed, ScriptFault>
-    ensures gives { Gives (spec.typed scope.new.types) result
+    ensures gives { Gives (spec.slots_typed scope.new.types) result
         (spec.empty line written.now scope.old.sight) }
     ensures within { IfOk result (λ made. made.ty < length scope.new.types) }
     ensures extends { Extends scope.old.types scope.new.types }
@@ -104,7 +104,7 @@ pub fn empty(
 
 pub fn unary(line: u32, op: Unary, x: Operand, scope: &mut Scope) -> Result<Typed, ScriptFault>
     requires { x.ty < length scope.old.types }
-    ensures gives { Gives (spec.typed scope.new.types) result
+    ensures gives { Gives (spec.slots_typed scope.new.types) result
         (spec.unary line op (spec.operand scope.old.types x)) }
     ensures within { IfOk result (λ made. made.ty < length scope.new.types) }
     ensures extends { Extends scope.old.types scope.new.types }
@@ -120,7 +120,7 @@ pub fn unary(line: u32, op: Unary, x: Operand, scope: &mut Scope) -> Result<Type
 pub fn binary(line: u32, op: Operator, both: Pair, scope: &mut Scope) -> Result<Typed, ScriptFault>
     requires first { both.first.ty < length scope.old.types }
     requires second { both.second.ty < length scope.old.types }
-    ensures gives { Gives (spec.typed scope.new.types) result (spec.binary line op
+    ensures gives { Gives (spec.slots_typed scope.new.types) result (spec.binary line op
         (spec.operand scope.old.types both.first) (spec.operand scope.old.types both.second)) }
     ensures within { IfOk result (λ made. made.ty < length scope.new.types) }
     ensures extends { Extends scope.old.types scope.new.types }
@@ -148,7 +148,7 @@ fn operation(op: Operator, a: Held<Slots>, b: Held<Slots>) -> Slots
 
 pub fn field(line: u32, x: Operand, name: &Str, types: &Types) -> Result<Typed, ScriptFault>
     requires { x.ty < length types.now }
-    ensures gives { Gives (spec.typed types.now) result
+    ensures gives { Gives (spec.slots_typed types.now) result
         (spec.field line name.now (spec.operand types.now x)) }
     ensures within { IfOk result (λ made. made.ty < length types.now) }
 {
@@ -162,7 +162,7 @@ pub fn field(line: u32, x: Operand, name: &Str, types: &Types) -> Result<Typed, 
 pub fn index(line: u32, x: Operand, y: Operand, types: &Types) -> Result<Typed, ScriptFault>
     requires first { x.ty < length types.now }
     requires second { y.ty < length types.now }
-    ensures gives { Gives (spec.typed types.now) result (spec.index line
+    ensures gives { Gives (spec.slots_typed types.now) result (spec.index line
         (spec.operand types.now x) (spec.operand types.now y)) }
     ensures within { IfOk result (λ made. made.ty < length types.now) }
 {
@@ -181,7 +181,7 @@ pub fn record(
     scope: &mut Scope,
 ) -> Result<Typed, ScriptFault>
     requires { AreTypes (length scope.old.types) all.types }
-    ensures gives { Gives (spec.typed scope.new.types) result
+    ensures gives { Gives (spec.slots_typed scope.new.types) result
         (spec.fields line names.now (spec.all_typed scope.old.types all)) }
     ensures within { IfOk result (λ made. made.ty < length scope.new.types) }
     ensures extends { Extends scope.old.types scope.new.types }
@@ -196,8 +196,8 @@ pub fn record(
 
 pub fn list(line: u32, all: AllTyped, scope: &mut Scope) -> Result<Typed, ScriptFault>
     requires { AreTypes (length scope.old.types) all.types }
-    ensures gives { Gives (spec.typed scope.new.types) result
-        (spec.members line (spec.all_typed scope.old.types all)) }
+    ensures gives { Gives (spec.slots_typed scope.new.types) result
+        (spec.members_slots line (spec.all_typed scope.old.types all)) }
     ensures within { IfOk result (λ made. made.ty < length scope.new.types) }
     ensures extends { Extends scope.old.types scope.new.types }
     ensures sight { scope.new.sight ≡ scope.old.sight }
@@ -212,7 +212,7 @@ pub fn list(line: u32, all: AllTyped, scope: &mut Scope) -> Result<Typed, Script
 pub fn sided(line: u32, half: Half, x: Operand, scope: &mut Scope) -> Result<Typed, ScriptFault>
     requires other_in { half.other < length scope.old.types }
     requires x_in { x.ty < length scope.old.types }
-    ensures gives { Gives (spec.typed scope.new.types) result (spec.sided line half.side
+    ensures gives { Gives (spec.slots_typed scope.new.types) result (spec.sided line half.side
         (type_at scope.old.types half.other) (spec.operand scope.old.types x)) }
     ensures within { IfOk result (λ made. made.ty < length scope.new.types) }
     ensures extends { Extends scope.old.types scope.new.types }
@@ -230,7 +230,7 @@ pub fn pick(line: u32, test: Operand, both: Pair, types: &Types) -> Result<Typed
     requires test_in { test.ty < length types.now }
     requires first { both.first.ty < length types.now }
     requires second { both.second.ty < length types.now }
-    ensures gives { Gives (spec.typed types.now) result
+    ensures gives { Gives (spec.slots_typed types.now) result
         (spec.pick line (spec.operand types.now test) (spec.operand types.now both.first)
         (spec.operand types.now both.second)) }
     ensures within { IfOk result (λ made. made.ty < length types.now) }

@@ -17,7 +17,7 @@ use Rattle.written_types.proofs.NamedLemmas.{names-kept, find-mapped}
 use Rattle.expression_types.specs.declared.scope.Found.{Found}
 use Rattle.expression_types.specs.Sight.{Newest}
 use Rattle.expression_types.specs.Held.{in_sight, AreInSight}
-use Rattle.expression_types.specs.Places.{further, place_in, found}
+use Rattle.expression_types.specs.Places.{further, place_in, place_found}
 use Rattle.expression_types.proofs.PlaceLemmas.{absent}
 
 -- ---- types more
@@ -131,7 +131,7 @@ module _ {A : Type 0} (name : List ℕ) where
       (sym (ap (find name) (reverse-append (x ∷ []) entries)) ∙ e) in
       last_by (bytes_eq name x.0) x.1 (find name entries) p.1 (none-reversed entries p.0)
 
-pub found-some : (types : List Ty) (o : Option Found) → is_some o ≡ is_some (found types o)
+pub found-some : (types : List Ty) (o : Option Found) → is_some o ≡ is_some (place_found types o)
 found-some types None = refl
 found-some types (Some at) = refl
 

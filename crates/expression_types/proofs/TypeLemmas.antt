@@ -17,7 +17,7 @@ use Rattle.written_types.specs.Answer.{◌>>=◌, unless, or_fault}
 use Rattle.written_types.specs.Written.{shallow}
 use Rattle.expression_types.specs.Fields.{fields_layer, member_layer, side_layer, record_fields, member_type, side_types}
 use Rattle.expression_types.specs.Types.{is_same, is_int, is_bool, is_text, is_long, unary_type, two_type, bools_type, index_type, pick_type, either_of}
-use Rattle.expression_types.specs.Operators.{one, side_of}
+use Rattle.expression_types.specs.Operators.{unary_slot, side_slot}
 
 -- ---- what was found
 
@@ -112,22 +112,24 @@ long_is t h = long_at t (out-Ty t) refl h
 
 -- ---- operations
 
-at_types : (op : Unary) (s r t u : Ty) → UnaryTyped (one op) s r → t ≡ s → r ≡ u
-    → UnaryTyped (one op) t u
+at_types : (op : Unary) (s r t u : Ty) → UnaryTyped (unary_slot op) s r → t ≡ s → r ≡ u
+    → UnaryTyped (unary_slot op) t u
 at_types op s r t u h a b =
-    subst (λ v. UnaryTyped (one op) v u) (sym a) (subst (UnaryTyped (one op) s) b h)
+    subst (λ v. UnaryTyped (unary_slot op) v u) (sym a) (subst (UnaryTyped (unary_slot op) s) b h)
 
-counts : (t u : Ty) → ty.Int ≡ u → IsLong t → UnaryTyped (one unary.Len) t u
+counts : (t u : Ty) → ty.Int ≡ u → IsLong t → UnaryTyped (unary_slot unary.Len) t u
 counts t u r (inl e) = at_types unary.Len ty.Text ty.Int t u counts_bytes e r
 counts t u r (inr (m, e)) = at_types unary.Len (ty.List m) ty.Int t u (counts_members m) e r
 
 -- an operation that is tested for the type that it takes
 tested : (op : Unary) (s r t u : Ty) (test : Bool) → (test ≡ true → t ≡ s)
-    → UnaryTyped (one op) s r → cond test (Some r) None ≡ Some u → UnaryTyped (one op) t u
+    → UnaryTyped (unary_slot op) s r → cond test (Some r) None ≡ Some u
+    → UnaryTyped (unary_slot op) t u
 tested op s r t u test is h e =
     let p = where_is test r u e in at_types op s r t u h (is p.0) p.1
 
-pub unary_typed : (op : Unary) (t u : Ty) → unary_type op t ≡ Some u → UnaryTyped (one op) t u
+pub unary_typed : (op : Unary) (t u : Ty) → unary_type op t ≡ Some u
+    → UnaryTyped (unary_slot op) t u
 unary_typed unary.Not t u = tested unary.Not ty.Bool ty.Bool t u _ (bool_is t) inverts
 unary_typed unary.Negate t u = tested unary.Negate ty.Int ty.Int t u _ (int_is t) negates
 unary_typed unary.Len t u =
@@ -187,6 +189,6 @@ pick_is t u w x e =
     (bool_is t q.0, tells_apart u w q.1, p.1)
 
 pub side_typed : (s : Side) (other t w : Ty) → either_of s other t ≡ w
-    → UnaryTyped (side_of s) t w
-side_typed side.Left other t w e = subst (UnaryTyped (side_of side.Left) t) e (lefts t other)
-side_typed side.Right other t w e = subst (UnaryTyped (side_of side.Right) t) e (rights other t)
+    → UnaryTyped (side_slot s) t w
+side_typed side.Left other t w e = subst (UnaryTyped (side_slot side.Left) t) e (lefts t other)
+side_typed side.Right other t w e = subst (UnaryTyped (side_slot side.Right) t) e (rights other t)

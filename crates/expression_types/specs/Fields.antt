@@ -11,10 +11,11 @@ are_different [] = true
 are_different (name ∷ names) = not (list_any (bytes_eq name) names) && are_different names
 
 -- fields of these names and types, in order
-abbrev pub fields_of : List (List ℕ) → List Ty → List (Field Ty)
-fields_of [] types = []
-fields_of (name ∷ names) [] = []
-fields_of (name ∷ names) (type ∷ types) = record { name = name; ty = type } ∷ fields_of names types
+abbrev pub typed_fields : List (List ℕ) → List Ty → List (Field Ty)
+typed_fields [] types = []
+typed_fields (name ∷ names) [] = []
+typed_fields (name ∷ names) (type ∷ types) =
+    record { name = name; ty = type } ∷ typed_fields names types
 
 -- the place and the type of the field of that name, where the first of these has the place `from`
 abbrev pub named_field : List ℕ → ℕ → List (Field Ty) → Option (ℕ × Ty)

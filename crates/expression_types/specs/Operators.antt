@@ -32,14 +32,14 @@ operator binary.Remainder = Two (Arithmetic arithmetic.Remainder)
 abbrev pub concat : Operator
 concat = Two Concat
 
-abbrev pub one : Unary → One
-one unary.Not = slot.Not
-one unary.Negate = slot.Negate
-one unary.Len = slot.Len
-one unary.Words = slot.Words
-one unary.Text = slot.Text
-one unary.Number = slot.Number
+abbrev pub unary_slot : Unary → One
+unary_slot unary.Not = slot.Not
+unary_slot unary.Negate = slot.Negate
+unary_slot unary.Len = slot.Len
+unary_slot unary.Words = slot.Words
+unary_slot unary.Text = slot.Text
+unary_slot unary.Number = slot.Number
 
-abbrev pub side_of : Side → One
-side_of side.Left = slot.Left
-side_of side.Right = slot.Right
+abbrev pub side_slot : Side → One
+side_slot side.Left = slot.Left
+side_slot side.Right = slot.Right

@@ -18,9 +18,9 @@ place_in name ((other, x) ∷ names) =
     if bytes_eq name other then Some (0, x) else further 1 (place_in name names)
 
 -- the place and the type that were found
-abbrev pub placed : List Ty → Found → ℕ × Ty
-placed types at = (at.place, type_at types at.ty)
+abbrev pub placed_type : List Ty → Found → ℕ × Ty
+placed_type types at = (at.place, type_at types at.ty)
 
-abbrev pub found : List Ty → Option Found → Option (ℕ × Ty)
-found types None = None
-found types (Some at) = Some (placed types at)
+abbrev pub place_found : List Ty → Option Found → Option (ℕ × Ty)
+place_found types None = None
+place_found types (Some at) = Some (placed_type types at)

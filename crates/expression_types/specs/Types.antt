@@ -18,7 +18,7 @@ use Rattle.written_types.specs.Named.{Named}
 use Rattle.written_types.specs.Written.{shallow, whole_type}
 use Rattle.expression_types.specs.declared.operator.Operator.{Operator}
 use Rattle.expression_types.specs.declared.operator.Operator.TheVariants.{And, Or, Two}
-use Rattle.expression_types.specs.Fields.{are_different, fields_of, named_field, record_fields, member_type}
+use Rattle.expression_types.specs.Fields.{are_different, typed_fields, named_field, record_fields, member_type}
 
 -- ---- what each operation gives of operands of these types; none where it does not take them
 
@@ -88,7 +88,7 @@ module _ (line : ℕ) where
   record_type names types = do
     new ← unless line Twice (are_different names)
     as_many ← unless line Mistyped (nat_eq (length names) (length types))
-    shallow line (ty.Rec (fields_of names types))
+    shallow line (ty.Rec (typed_fields names types))
 
   -- the type of a list of members of these types
   abbrev pub list_type : List Ty → Checked Ty

@@ -37,7 +37,7 @@ pub fn operator_of(op: Binary) -> Operator
 }
 
 pub fn one(op: Unary) -> One
-    ensures { result ≡ spec.one op }
+    ensures { result ≡ spec.unary_slot op }
 {
     match op {
         Unary::Not => One::Not,
@@ -50,7 +50,7 @@ pub fn one(op: Unary) -> One
 }
 
 pub fn side_of(side: Side) -> One
-    ensures { result ≡ spec.side_of side }
+    ensures { result ≡ spec.side_slot side }
 {
     match side {
         Side::Left => One::Left,

@@ -6,7 +6,7 @@ ghost use Rattle.type_table.specs.Table.{type_at, field_at, AreWithin};
 ghost use Rattle.written_types.specs.Answer.{Gives, or_fault};
 ghost use Rattle.expression_types.specs.Fields as spec;
 ghost use Rattle.expression_types.specs.Types as rules;
-ghost use Rattle.expression_types.specs.Places.{placed};
+ghost use Rattle.expression_types.specs.Places.{placed_type};
 
 use crate::scope::Found;
 use flume_grammar::{ScriptFault, ScriptKind};
@@ -17,7 +17,7 @@ use written_types::refused;
 /// Where the field of a name stands in a record, and its type.
 pub fn place_under(line: u32, name: &Str, id: TypeId, types: &Types) -> Result<Found, ScriptFault>
     requires { id < length types.now }
-    ensures gives { Gives (placed types.now) result
+    ensures gives { Gives (placed_type types.now) result
         (rules.place_under line name.now (type_at types.now id)) }
     ensures within { IfOk result (λ at. at.ty < length types.now) }
 {
@@ -28,7 +28,7 @@ pub fn place_under(line: u32, name: &Str, id: TypeId, types: &Types) -> Result<F
 }
 
 fn find_field(line: u32, name: &Str, parts: &[Part]) -> Result<Found, ScriptFault>
-    ensures gives { (types : List Ty) → Gives (placed types) result
+    ensures gives { (types : List Ty) → Gives (placed_type types) result
         (or_fault line Unknown (spec.named_field name.now 0 (map (field_at types) parts.now))) }
     ensures within { (n : ℕ) → AreWithin n parts.now → IfOk result (λ at. at.ty < n) }
 {

@@ -46,7 +46,7 @@ pub fn record_type(
 fn parts_of(alloc: Global, names: &[Str], types: &[TypeId]) -> Result<Parts, AllocError>
     requires { length names.now ≡ length types.now }
     ensures ok { (known : List Ty) → IfOk result (λ parts. map (field_at known) parts
-        ≡ fields.fields_of names.now (map (type_at known) types.now)) }
+        ≡ fields.typed_fields names.now (map (type_at known) types.now)) }
     ensures within { (n : ℕ) → AreTypes n types.now → IfOk result (λ parts. AreWithin n parts) }
 {
     let mut parts = Pile::new(alloc);

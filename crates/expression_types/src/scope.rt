@@ -5,7 +5,7 @@ ghost use Rattle.written_types.specs.Answer.{Gives};
 ghost use Rattle.written_types.specs.Named.{find};
 ghost use Rattle.written_types.specs.Written as spec;
 ghost use Rattle.expression_types.specs.Sight.{with_name};
-ghost use Rattle.expression_types.specs.Places.{place_in, found};
+ghost use Rattle.expression_types.specs.Places.{place_in, place_found};
 
 use flume_grammar::{ScriptFault, Type};
 use flume_value::Str;
@@ -97,7 +97,7 @@ impl Scope {
 
     /// Where the newest of a name stands, and its type.
     pub fn find(&self, name: &Str) -> Option<Found>
-        ensures ok { found self.now.types result ≡ place_in name.now self.now.sight.names }
+        ensures ok { place_found self.now.types result ≡ place_in name.now self.now.sight.names }
         ensures within { IfSome result (λ at. at.ty < length self.now.types) }
     {
         match self.names.get_full(name) {

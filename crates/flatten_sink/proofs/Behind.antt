@@ -3,7 +3,7 @@ use Rattle.std.proofs.Common.{◌≡◌, ℕ, ◌<◌, true, false, Option, Some
 use Rattle.std.proofs.lemmas.Bool.{false≢true, le-ltb, ltb-true}
 use Rattle.exec_graph.specs.declared.graph.Node.{Node}
 use Rattle.exec_graph.specs.declared.graph.Node.TheVariants.{Flatten}
-use Rattle.sink_laws.specs.Chain.{call_of, is_before, lesser}
+use Rattle.sink_laws.specs.Chain.{call_of, is_before, lesser_pair}
 use Rattle.sink_laws.specs.declared.pair.Pair.{Pair}
 use Rattle.sink_laws.proofs.Rerouting.{unlike}
 use Rattle.flatten_sink.specs.inner.Turns.{is_behind}
@@ -15,7 +15,7 @@ not_before a n p h =
     let other = unlike n a.flatten (λ e. omega arith) in rw (later, other) refl
 
 pub stays : (o : Option Pair) (n p : ℕ) (x : Option Node) → is_behind n o ≡ true
-    → lesser o (call_of n p x) ≡ o
+    → lesser_pair o (call_of n p x) ≡ o
 stays None n p x h = absurd (false≢true h)
 stays (Some a) n p (Some (Flatten ins)) h = rw (not_before a n p (ltb-true a.flatten n h)) refl
 stays (Some a) n p _ h = refl

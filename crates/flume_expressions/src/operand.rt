@@ -1,7 +1,7 @@
 // Operands: in parentheses or bare, with the records and lists among them.
 ghost use Rattle.std.specs.Prelude.{◌≡◌, ◌<◌, ◌≤◌, ◌++◌, length, max, [], ◌∷◌, IfOk, IfErr, OnOk};
 ghost use Rattle.flume_grammar.specs.Limits.{the_limits};
-ghost use Rattle.flume_grammar.specs.Parts.{with_part};
+ghost use Rattle.flume_grammar.specs.Parts.{with_named_part};
 ghost use Rattle.flume_grammar.specs.inner.Out.{one, all_of};
 ghost use Rattle.flume_grammar.specs.inner.Reads.{ReadsSuch, PassesSuch, Below, FitsSoFar};
 ghost use Rattle.flume_grammar.specs.inner.Types.{at_comma};
@@ -276,7 +276,7 @@ fn with_value(
     value: Expr,
     depth: u32,
 ) -> Result<Parts<Expr>, AllocError>
-    ensures { IfOk result (λ p. p ≡ with_part fields name value depth) }
+    ensures { IfOk result (λ p. p ≡ with_named_part fields name value depth) }
 {
     let mut fields = fields;
     fields.put(name, value, depth)?;

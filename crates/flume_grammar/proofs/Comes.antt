@@ -19,8 +19,8 @@ use Rattle.flume_grammar.specs.declared.tree.Expr.{Expr}
 use Rattle.flume_grammar.specs.inner.Out.{Out, give, bind, at, one, passed, next, many, all_of}
 use Rattle.flume_grammar.specs.inner.Reading.{sign_at}
 use Rattle.flume_grammar.specs.inner.Expressions.{keyword_start, started, operand_start, fits, is_leaf, so_far, suffix_of, deep_at, extend, goes_on, next_suffix, with_suffix, extended, continued, argument, after_start, bare, operand, expression_within}
-use Rattle.flume_grammar.specs.Terminals.{key, mark}
-use Rattle.flume_grammar.specs.Grammar.{call_of, side_of}
+use Rattle.flume_grammar.specs.Terminals.{keyword_token, mark}
+use Rattle.flume_grammar.specs.Grammar.{unary_call, side_keyword}
 use Rattle.flume_grammar.proofs.Sound.{bound}
 use Rattle.flume_grammar.proofs.Complete.{went, same_mark}
 use Rattle.flume_grammar.specs.Limits.{Limits}
@@ -173,7 +173,7 @@ module _ (limits : Limits) (fair : IsFair limits) where
       (full m 1 a ts (mark end n ∷ us) e p h c s)
       (went (one (sign_at end) (mark end n ∷ us)) _ tt us _ (same_mark end n us) refl)) q
 
-  pub call_start : (k : Keyword) (u : Unary) → call_of k ≡ Some u
+  pub call_start : (k : Keyword) (u : Unary) → unary_call k ≡ Some u
       → keyword_start k ≡ Some (start.Call u)
   call_start keyword.Len u q = let e : unary.Len ≡ u = cc in ap (λ z. Some (start.Call z)) e
   call_start keyword.Words u q = let e : unary.Words ≡ u = cc in ap (λ z. Some (start.Call z)) e
@@ -181,7 +181,7 @@ module _ (limits : Limits) (fair : IsFair limits) where
   call_start keyword.Number u q = let e : unary.Number ≡ u = cc in ap (λ z. Some (start.Call z)) e
   call_start _ u q = cc
 
-  pub side_start : (k : Keyword) (s : Side) → side_of k ≡ Some s → keyword_start k ≡ Some
+  pub side_start : (k : Keyword) (s : Side) → side_keyword k ≡ Some s → keyword_start k ≡ Some
       (start.Side s)
   side_start keyword.Left s q = let e : side.Left ≡ s = cc in ap (λ z. Some (start.Side z)) e
   side_start keyword.Right s q = let e : side.Right ≡ s = cc in ap (λ z. Some (start.Side z)) e
@@ -192,12 +192,12 @@ module _ (limits : Limits) (fair : IsFair limits) where
       (x : SoFar)
       → keyword_start k ≡ Some s → fits s least ≡ true → (nat_lt 1 (suc m) || is_leaf s) ≡ true
       → after_start limits (expression_within limits m) s ts ≡ Ok (x, us)
-      → operand limits (suc m) (expression_within limits m) least (key k n ∷ ts) ≡ Ok
+      → operand limits (suc m) (expression_within limits m) least (keyword_token k n ∷ ts) ≡ Ok
       (x, us)
   keyed_operand m least k n s ts us x e f h q =
-      went (one (operand_start (suc m) least) (key k n ∷ ts)) _ s ts _
-      (ap (λ o. passed (started (suc m) least (key k n) o) ts) e
-      ∙ begins (suc m) least (key k n) s ts f h) q
+      went (one (operand_start (suc m) least) (keyword_token k n ∷ ts)) _ s ts _
+      (ap (λ o. passed (started (suc m) least (keyword_token k n) o) ts) e
+      ∙ begins (suc m) least (keyword_token k n) s ts f h) q
 
   -- an expression of one token
   pub leaf : (m least : ℕ) (t : Token) (e : Expr) (ts : List Token)

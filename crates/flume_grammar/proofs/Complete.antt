@@ -15,8 +15,8 @@ use Rattle.flume_grammar.specs.declared.start.TypeStart.{TypeStart}
 use Rattle.flume_grammar.specs.declared.start.TypeStart.TheVariants as begins
 use Rattle.flume_grammar.specs.inner.Out.{Out, give, bind, at, one, passed, next as next_kind, all_of}
 use Rattle.flume_grammar.specs.inner.Reading.{sign_at, keyword_at, word_at, number_at, comma_at, or_syntax, is_at_keyword, numbered}
-use Rattle.flume_grammar.specs.Terminals.{word_of, key, mark, number}
-use Rattle.flume_grammar.specs.Parts.{Tree, none, with_part}
+use Rattle.flume_grammar.specs.Terminals.{word_of, keyword_token, mark, number_token}
+use Rattle.flume_grammar.specs.Parts.{Tree, none, with_named_part}
 use Rattle.flume_grammar.specs.inner.Types.{deep_start, type_start, pair_type, field_type, next_field_type, at_comma, type_within, whole_type}
 use Rattle.flume_grammar.specs.Grammar.{IsOptionalNumber, absent, present, IsWholeType, IsType, int, bool, text_, named, list, either, table, record_, AreFieldTypes, first, next}
 use Rattle.flume_grammar.proofs.SoundLoops.{field_of}
@@ -38,8 +38,8 @@ same_mark s n us = ap (λ b. passed (if b then Ok tt else Err (at (mark s n) Syn
     (true_same sign_type.the_type s s refl)
 
 pub same_key : (k : Keyword) (n : ℕ) (us : List Token)
-    → one (keyword_at k) (key k n ∷ us) ≡ Ok (tt, us)
-same_key k n us = ap (λ b. passed (if b then Ok tt else Err (at (key k n) Syntax)) us)
+    → one (keyword_at k) (keyword_token k n ∷ us) ≡ Ok (tt, us)
+same_key k n us = ap (λ b. passed (if b then Ok tt else Err (at (keyword_token k n) Syntax)) us)
     (true_same keyword_type.the_type k k refl)
 
 pub same_word : (w : Token) (x : List ℕ) (us : List Token) → word_of w.kind ≡ Some x
@@ -56,7 +56,7 @@ same_comma n limit m us h =
 module _ {X : Type 0} (inner : List Token → Out (X × ℕ)) (p : Parts X) (w : Token) (x : List ℕ)
     (c : ℕ) (us vs : List Token) (e : X) (a : ℕ) (word : word_of w.kind ≡ Some x)
     (part : inner us ≡ Ok ((e, a), vs)) where
-  pub field_on : field_of inner p (w ∷ mark sign.Colon c ∷ us) ≡ Ok (with_part p x e a, vs)
+  pub field_on : field_of inner p (w ∷ mark sign.Colon c ∷ us) ≡ Ok (with_named_part p x e a, vs)
   field_on =
       went (one word_at (w ∷ mark sign.Colon c ∷ us)) _ x (mark sign.Colon c ∷ us) _
       (same_word w x _ word) (went (inner us) _ (e, a) vs _ part refl)
@@ -64,7 +64,7 @@ module _ {X : Type 0} (inner : List Token → Out (X × ℕ)) (p : Parts X) (w :
   pub next_on : (limit m : ℕ) → length p.names < limit
       → bind (one (comma_at (length p.names) limit)
       (mark sign.Comma m ∷ w ∷ mark sign.Colon c ∷ us)) (λ _ ws. field_of inner p ws)
-      ≡ Ok (with_part p x e a, vs)
+      ≡ Ok (with_named_part p x e a, vs)
   next_on limit m h =
       went (one (comma_at (length p.names) limit)
       (mark sign.Comma m ∷ w ∷ mark sign.Colon c ∷ us)) _ tt (w ∷ mark sign.Colon c ∷ us) _
@@ -77,10 +77,11 @@ pub complete_numbered : (k : Keyword) {ts us : List Token} {o : Option (List ℕ
 complete_numbered k (absent {ts}) e = ap (λ t. if t then bind (one (keyword_at k) ts)
     (λ _ us. bind (one number_at us) (λ n vs. give (Some n) vs)) else give None ts) e
 complete_numbered k (present {digits} {n} {m} {ts}) e =
-    ap (λ t. if t then bind (one (keyword_at k) (key k n ∷ number digits m ∷ ts))
+    ap (λ t. if t then bind (one (keyword_at k) (keyword_token k n ∷ number_token digits m ∷ ts))
     (λ _ us. bind (one number_at us) (λ z vs. give (Some z) vs)) else give None
-    (key k n ∷ number digits m ∷ ts)) (true_same keyword_type.the_type k k refl)
-    ∙ went (one (keyword_at k) (key k n ∷ number digits m ∷ ts)) _ tt (number digits m ∷ ts) _
+    (keyword_token k n ∷ number_token digits m ∷ ts)) (true_same keyword_type.the_type k k refl)
+    ∙ went (one (keyword_at k) (keyword_token k n ∷ number_token digits m ∷ ts)) _ tt
+    (number_token digits m ∷ ts) _
     (same_key k n _) refl
 
 -- ---- what is read takes a token
@@ -150,23 +151,25 @@ module _ (limits : Limits) (fair : IsFair limits) where
     complete_type named (suc n) h = refl
     complete_type (list {n = l} {m} {k} {a} {ts} {us} {t} x) (suc n) h =
         let p = positive x in
-        went (one (type_start (suc n)) (key keyword.List l ∷ mark sign.Less m ∷ ts)) _ begins.List
-        (mark sign.Less m ∷ ts) _ (deep_is (suc n) (key keyword.List l) begins.List _
+        went (one (type_start (suc n)) (keyword_token keyword.List l ∷ mark sign.Less m ∷ ts)) _
+        begins.List
+        (mark sign.Less m ∷ ts) _ (deep_is (suc n) (keyword_token keyword.List l) begins.List _
         (omega (arith, h, p)))
         (went (type_within limits n ts) _ (t, a) (mark sign.Greater k ∷ us) _
         (complete_type x n (omega (arith, h))) refl)
     complete_type (either {n = l} {m} {k} {o} {a} {b} {ts} {us} {vs} {s} {t} x y) (suc n) h =
         let p = positive x in
-        went (one (type_start (suc n)) (key keyword.Either l ∷ mark sign.Less m ∷ ts)) _
+        went (one (type_start (suc n)) (keyword_token keyword.Either l ∷ mark sign.Less m ∷ ts)) _
         begins.Either (mark sign.Less m ∷ ts) _
-        (deep_is (suc n) (key keyword.Either l) begins.Either _ (omega (arith, h, p)))
+        (deep_is (suc n) (keyword_token keyword.Either l) begins.Either _ (omega (arith, h, p)))
         (went (pair_type (type_within limits n) (mark sign.Less m ∷ ts)) _ (s, t, max a b + 1) vs
         _ (pair_reads n m k o a b ts us vs s t (complete_type x n (omega (arith, h)))
         (complete_type y n (omega (arith, h)))) refl)
     complete_type (table {n = l} {m} {k} {o} {a} {b} {ts} {us} {vs} {s} {t} x y) (suc n) h =
         let p = positive x in
-        went (one (type_start (suc n)) (key keyword.Table l ∷ mark sign.Less m ∷ ts)) _ begins.Table
-        (mark sign.Less m ∷ ts) _ (deep_is (suc n) (key keyword.Table l) begins.Table _
+        went (one (type_start (suc n)) (keyword_token keyword.Table l ∷ mark sign.Less m ∷ ts)) _
+        begins.Table
+        (mark sign.Less m ∷ ts) _ (deep_is (suc n) (keyword_token keyword.Table l) begins.Table _
         (omega (arith, h, p)))
         (went (pair_type (type_within limits n) (mark sign.Less m ∷ ts)) _ (s, t, max a b + 1) vs
         _ (pair_reads n m k o a b ts us vs s t (complete_type x n (omega (arith, h)))
@@ -190,7 +193,7 @@ module _ (limits : Limits) (fair : IsFair limits) where
         × Reaches at_comma (next_field_type limits (type_within limits n))
         (all_of at_comma (next_field_type limits (type_within limits n)) q vs) p us
     complete_fields (first {w} {x} {n = c} {a} {ts} {us} {t} e y) n h l =
-        let q = with_part none x t a in (
+        let q = with_named_part none x t a in (
           q,
           us,
           field_on (type_within limits n) none w x c ts us t a e
@@ -207,7 +210,7 @@ module _ (limits : Limits) (fair : IsFair limits) where
           ws,
           o,
           reaches_next at_comma (next_field_type limits (type_within limits n)) _ p
-              (with_part p x t a) _ vs r refl step (omega (arith, k)),
+              (with_named_part p x t a) _ vs r refl step (omega (arith, k)),
         )
 
   pub complete_whole : {ts us : List Token} {t : Tree} → IsWholeType limits ts us t

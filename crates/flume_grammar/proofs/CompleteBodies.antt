@@ -16,7 +16,7 @@ use Rattle.flume_grammar.specs.inner.Expressions.{suffix_of, expression_within}
 use Rattle.flume_grammar.specs.inner.Bodies as b
 use Rattle.flume_grammar.specs.inner.Bodies.{value, block_within, whole_block}
 use Rattle.flume_grammar.specs.Grammar as g
-use Rattle.flume_grammar.specs.Terminals.{key, mark, name}
+use Rattle.flume_grammar.specs.Terminals.{keyword_token, mark, name_token}
 use Rattle.flume_grammar.specs.Grammar.{IsExpr, IsBody, IsBlock, AreBodies}
 use Rattle.flume_grammar.proofs.Loops.{Reaches, reaches_start, reaches_next, reaches_end}
 use Rattle.flume_grammar.proofs.Complete.{went, taken, same_key, complete_numbered, shorter_numbered}
@@ -90,22 +90,24 @@ module _ (limits : Limits) (fair : IsFair limits) where
 
   body_starts : (limit : ℕ) (k : Keyword) (z : BodyStart) (n : ℕ) (us : List Token)
       → b.keyword_body k ≡ Some z → 2 ≤ limit
-      → one (b.body_start limit) (key k n ∷ us) ≡ Ok ((z, n), us)
+      → one (b.body_start limit) (keyword_token k n ∷ us) ≡ Ok ((z, n), us)
   body_starts limit k z n us e h =
-      ap (λ o. passed (b.started limit (key k n) o) us) e
-      ∙ ap (λ c. passed (if c then Ok (z, n) else Err (at (key k n) TooDeep)) us)
+      ap (λ o. passed (b.started limit (keyword_token k n) o) us) e
+      ∙ ap (λ c. passed (if c then Ok (z, n) else Err (at (keyword_token k n) TooDeep)) us)
       (le-leb 2 limit h)
 
-  same_name : (x : List ℕ) (n : ℕ) (us : List Token) → one name_at (name x n ∷ us) ≡ Ok (x, us)
+  same_name : (x : List ℕ) (n : ℕ) (us : List Token)
+      → one name_at (name_token x n ∷ us) ≡ Ok (x, us)
   same_name x n us = refl
 
   side_reads : (n : ℕ) (k : Keyword) (m i a : ℕ) (x : List ℕ) (us vs : List Token) (ss : List Body)
       → block_within limits n us ≡ Ok ((ss, a), vs)
-      → b.side (block_within limits n) k (key k m ∷ name x i ∷ us) ≡ Ok ((x, ss, a), vs)
+      → b.side (block_within limits n) k (keyword_token k m ∷ name_token x i ∷ us)
+      ≡ Ok ((x, ss, a), vs)
   side_reads n k m i a x us vs ss q =
-      went (one (keyword_at k) (key k m ∷ name x i ∷ us))
+      went (one (keyword_at k) (keyword_token k m ∷ name_token x i ∷ us))
       (λ _ ws. bind (one name_at ws) (λ y xs. bind (block_within limits n xs)
-      (λ c os. give (y, c.0, c.1) os))) tt (name x i ∷ us) _ (same_key k m _)
+      (λ c os. give (y, c.0, c.1) os))) tt (name_token x i ∷ us) _ (same_key k m _)
       (went (block_within limits n us) (λ c os. give (x, c.0, c.1) os) (ss, a) vs _ q refl)
 
   block_begins : {us vs : List Token} {ss : List Body} {a : ℕ} → IsBlock limits us vs ss a
@@ -139,14 +141,15 @@ module _ (limits : Limits) (fair : IsFair limits) where
         → b.body limits (suc n) (block_within limits n) us ≡ Ok ((x, a), vs)
     complete_body (g.let_ {x} {n = l} {m} {k} {a} {ts} {us} {e} y) n h d =
         let p = (positive limits fair) y in
-        went (one (b.body_start (suc n)) (key keyword.Let l ∷ name x m ∷ mark sign.Assign k ∷ ts)) _
-        (begin.Let, l) (name x m ∷ mark sign.Assign k ∷ ts) _
+        went (one (b.body_start (suc n)) (keyword_token keyword.Let l ∷ name_token x m ∷ mark
+        sign.Assign k ∷ ts)) _
+        (begin.Let, l) (name_token x m ∷ mark sign.Assign k ∷ ts) _
         (body_starts (suc n) keyword.Let begin.Let l _ refl (omega (arith, h, p)))
         (went (value limits (suc n) ts) _ (e, a) us _
         (value_reads y n (omega (arith, h)) d.fits d.stops) refl)
     complete_body (g.emit {n = l} {a} {ts} {us} {vs} {to} {e} o y) n h d =
         let p = (positive limits fair) y in
-        went (one (b.body_start (suc n)) (key keyword.Emit l ∷ ts)) _ (begin.Emit, l) ts _
+        went (one (b.body_start (suc n)) (keyword_token keyword.Emit l ∷ ts)) _ (begin.Emit, l) ts _
         (body_starts (suc n) keyword.Emit begin.Emit l _ refl (omega (arith, h, p)))
         (went (numbered keyword.To ts) _ to us _
         (complete_numbered keyword.To o (no_to limits fair y))
@@ -155,7 +158,7 @@ module _ (limits : Limits) (fair : IsFair limits) where
     complete_body (g.if_ {n = l} {a} {b = c} {ts} {us} {vs} {e} {ss} y z) n h d =
         let p = (positive limits fair) y in
         let (f, o) = block_begins z in
-        went (one (b.body_start (suc n)) (key keyword.If l ∷ ts)) _ (begin.If, l) ts _
+        went (one (b.body_start (suc n)) (keyword_token keyword.If l ∷ ts)) _ (begin.If, l) ts _
         (body_starts (suc n) keyword.If begin.If l _ refl (omega (arith, h, p)))
         (went (value limits (suc n) ts) _ (e, a) us _ (value_reads y n (omega (arith, h)) f o)
         (went (block_within limits n us) _ (ss, c) vs _ (complete_block z n (omega (arith, h, p))
@@ -167,18 +170,20 @@ module _ (limits : Limits) (fair : IsFair limits) where
         w) n h d =
         let p = (positive limits fair) y in
         let (f, o) = block_begins z in
-        went (one (b.body_start (suc n)) (key keyword.If l ∷ ts)) _ (begin.If, l) ts _
+        went (one (b.body_start (suc n)) (keyword_token keyword.If l ∷ ts)) _ (begin.If, l) ts _
         (body_starts (suc n) keyword.If begin.If l _ refl (omega (arith, h, p)))
         (went (value limits (suc n) ts) _ (e, a) us _ (value_reads y n (omega (arith, h)) f o)
-        (went (block_within limits n us) _ (ss, c) (key keyword.Else m ∷ vs) _
+        (went (block_within limits n us) _ (ss, c) (keyword_token keyword.Else m ∷ vs) _
         (complete_block z n (omega (arith, h, p)) (omega (arith, h)))
-        (went (b.otherwise (block_within limits n) (key keyword.Else m ∷ vs)) _ (rs, q) ws _
+        (went (b.otherwise (block_within limits n) (keyword_token keyword.Else m ∷ vs)) _ (rs, q) ws
+        _
         (complete_block w n (omega (arith, h, p)) (omega (arith, h))) refl)))
     complete_body (g.for_ {x} {n = l} {m} {k} {a} {b = c} {ts} {us} {vs} {e} {ss} y z) n h d =
         let p = (positive limits fair) y in
         let (f, o) = block_begins z in
-        went (one (b.body_start (suc n)) (key keyword.For l ∷ name x m ∷ key keyword.In k ∷ ts)) _
-        (begin.For, l) (name x m ∷ key keyword.In k ∷ ts) _
+        went (one (b.body_start (suc n)) (keyword_token keyword.For l ∷ name_token x m ∷
+        keyword_token keyword.In k ∷ ts)) _
+        (begin.For, l) (name_token x m ∷ keyword_token keyword.In k ∷ ts) _
         (body_starts (suc n) keyword.For begin.For l _ refl (omega (arith, h, p)))
         (went (value limits (suc n) ts) _ (e, a) us _ (value_reads y n (omega (arith, h)) f o)
         (went (block_within limits n us) _ (ss, c) vs _ (complete_block z n (omega (arith, h, p))
@@ -186,15 +191,18 @@ module _ (limits : Limits) (fair : IsFair limits) where
     complete_body (g.case_ {x} {y = r} {n = l} {m} {k} {i} {j} {a} {b = c} {c =
         q} {ts} {us} {vs} {ws} {e} {ss} {rs} y z w) n h d =
         let p = (positive limits fair) y in
-        went (one (b.body_start (suc n)) (key keyword.Case l ∷ ts)) _ (begin.Case, l) ts _
+        went (one (b.body_start (suc n)) (keyword_token keyword.Case l ∷ ts)) _ (begin.Case, l) ts _
         (body_starts (suc n) keyword.Case begin.Case l _ refl (omega (arith, h, p)))
-        (went (value limits (suc n) ts) _ (e, a) (key keyword.Left m ∷ name x k ∷ us) _
+        (went (value limits (suc n) ts) _ (e, a) (keyword_token keyword.Left m ∷ name_token x k ∷
+        us) _
         (value_reads y n (omega (arith, h)) (tt, tt) (λ own. refl))
-        (went (b.side (block_within limits n) keyword.Left (key keyword.Left m ∷ name x k ∷ us)) _
-        (x, ss, c) (key keyword.Right i ∷ name r j ∷ vs) _
+        (went (b.side (block_within limits n) keyword.Left
+        (keyword_token keyword.Left m ∷ name_token x k ∷ us)) _
+        (x, ss, c) (keyword_token keyword.Right i ∷ name_token r j ∷ vs) _
         (side_reads n keyword.Left m k c x us _ ss (complete_block z n (omega (arith, h, p))
         (omega (arith, h))))
-        (went (b.side (block_within limits n) keyword.Right (key keyword.Right i ∷ name r j ∷ vs))
+        (went (b.side (block_within limits n) keyword.Right
+        (keyword_token keyword.Right i ∷ name_token r j ∷ vs))
         _ (r, rs, q) ws _ (side_reads n keyword.Right i j q r vs ws rs
         (complete_block w n (omega (arith, h, p)) (omega (arith, h)))) refl)))
 

@@ -12,12 +12,12 @@ use Rattle.flume_grammar.specs.declared.tree.Expr.{Expr}
 use Rattle.flume_grammar.specs.declared.tree.Expr.TheVariants as tree
 use Rattle.flume_grammar.specs.inner.Out.{one, next, all_of}
 use Rattle.flume_grammar.specs.inner.Reading.{word_at, comma_at}
-use Rattle.flume_grammar.specs.Parts.{none, with_part}
+use Rattle.flume_grammar.specs.Parts.{none, with_named_part}
 use Rattle.flume_grammar.specs.inner.Types.{at_comma, whole_type}
 use Rattle.flume_grammar.specs.Operators.{rank, left_rank}
 use Rattle.flume_grammar.specs.inner.Expressions.{operand_start, so_far, suffix_of, continued, field, next_field, next_member, operand, expression_within}
 use Rattle.flume_grammar.specs.Grammar as g
-use Rattle.flume_grammar.specs.Terminals.{key, mark, number, text, name}
+use Rattle.flume_grammar.specs.Terminals.{keyword_token, mark, number_token, text_token, name_token}
 use Rattle.flume_grammar.specs.Grammar.{IsExpr, AreFields, AreMembers}
 use Rattle.flume_grammar.proofs.Loops.{Reaches, reaches_start, reaches_next, reaches_end}
 use Rattle.flume_grammar.proofs.Complete.{went, taken, same_word, same_comma, field_on, next_on, complete_whole}
@@ -60,7 +60,7 @@ module _ (limits : Limits) (fair : IsFair limits) where
         let i = full limits fair m 3 a ts us e p (omega (arith, h)) (λ n q. complete_expr x n 3 q
         (omega arith)
         (lit≤ tt) f) (λ own. stops limits fair 3 3 (lit≤ tt) (under_not limits fair) own us f) in
-        comes_at limits fair m least 3 (a + 1) 3 (key keyword.Not n ∷ ts) us
+        comes_at limits fair m least 3 (a + 1) 3 (keyword_token keyword.Not n ∷ ts) us
         (tree.Unary unary.Not e) (lit≤ tt)
         (lit≤ tt)
         (keyed_operand limits fair m least keyword.Not n (start.Prefix unary.Not) ts us _ refl
@@ -101,15 +101,15 @@ module _ (limits : Limits) (fair : IsFair limits) where
         (went (expression_within limits m 1 us) _ (z, b) (mark sign.CloseBracket o ∷ vs) _ i refl)
         (omega (arith, s)) (lit≤ tt)
     complete_expr (g.num {digits} {n} {ts}) m least h l k f =
-        leaf limits fair m least (number digits n) (tree.Number digits) ts refl refl
+        leaf limits fair m least (number_token digits n) (tree.Number digits) ts refl refl
     complete_expr (g.textlit {content} {n} {ts}) m least h l k f =
-        leaf limits fair m least (text content n) (tree.Text content) ts refl refl
+        leaf limits fair m least (text_token content n) (tree.Text content) ts refl refl
     complete_expr (g.true_ {n} {ts}) m least h l k f =
-        leaf limits fair m least (key keyword.True n) (tree.Bool true) ts refl refl
+        leaf limits fair m least (keyword_token keyword.True n) (tree.Bool true) ts refl refl
     complete_expr (g.false_ {n} {ts}) m least h l k f =
-        leaf limits fair m least (key keyword.False n) (tree.Bool false) ts refl refl
+        leaf limits fair m least (keyword_token keyword.False n) (tree.Bool false) ts refl refl
     complete_expr (g.variable {x} {n} {ts}) m least h l k f =
-        leaf limits fair m least (name x n) (tree.Name x) ts refl refl
+        leaf limits fair m least (name_token x n) (tree.Name x) ts refl refl
     complete_expr (g.paren {n} {m = o} {a} {ts} {us} {e} x) m least h l k f =
         let c = complete_expr x m 1 h (omega arith) (lit≤ tt) (tt, tt) in
         let (y, vs, p, q) = inside limits fair m ts (mark sign.Close o ∷ us) (e, a)
@@ -147,7 +147,8 @@ module _ (limits : Limits) (fair : IsFair limits) where
         (es, a) _ r refl)
         refl)))
     complete_expr (g.empty {n} {m = o} {k = i} {ts} {us} {t} w) m least h l k f =
-        comes_at limits fair m least 8 1 8 (key keyword.Empty n ∷ mark sign.Less o ∷ ts) us
+        comes_at limits fair m least 8 1 8 (keyword_token keyword.Empty n ∷ mark sign.Less o ∷ ts)
+        us
         (tree.Empty t)
         (lit≤ tt) (lit≤ tt)
         (keyed_operand limits fair m least keyword.Empty n start.Empty (mark sign.Less o ∷ ts) us _
@@ -158,7 +159,7 @@ module _ (limits : Limits) (fair : IsFair limits) where
     complete_expr (g.sided {k = word} {s} {n} {m = o} {i} {j} {o = q} {a} {ts} {us} {vs} {t} {e} c w
         x) m least h l k f =
         let p = positive limits fair x in
-        comes_at limits fair m least 8 (a + 1) 8 (key word n ∷ mark sign.Less o ∷ ts) vs
+        comes_at limits fair m least 8 (a + 1) 8 (keyword_token word n ∷ mark sign.Less o ∷ ts) vs
         (tree.Side s t e)
         (lit≤ tt) (lit≤ tt)
         (keyed_operand limits fair m least word n (start.Side s) (mark sign.Less o ∷ ts) vs _
@@ -170,7 +171,7 @@ module _ (limits : Limits) (fair : IsFair limits) where
         (λ z b. complete_expr x z 1 b (omega arith) (lit≤ tt) (tt, tt)) (λ own. refl) _ _ refl)))
     complete_expr (g.call {k = word} {u} {n} {m = o} {i} {a} {ts} {us} {e} c x) m least h l k f =
         let p = positive limits fair x in
-        comes_at limits fair m least 8 (a + 1) 8 (key word n ∷ mark sign.Open o ∷ ts) us
+        comes_at limits fair m least 8 (a + 1) 8 (keyword_token word n ∷ mark sign.Open o ∷ ts) us
         (tree.Unary u e)
         (lit≤ tt) (lit≤ tt)
         (keyed_operand limits fair m least word n (start.Call u) (mark sign.Open o ∷ ts) us _
@@ -181,7 +182,8 @@ module _ (limits : Limits) (fair : IsFair limits) where
     complete_expr (g.concat {n} {m = o} {i} {j} {a} {b} {ts} {us} {vs} {e} {f = z} x y) m least h l
         k f =
         let p = positive limits fair x in
-        comes_at limits fair m least 8 (max a b + 1) 8 (key keyword.Concat n ∷ mark sign.Open o ∷
+        comes_at limits fair m least 8 (max a b + 1) 8 (keyword_token keyword.Concat n ∷ mark
+        sign.Open o ∷
         ts) vs
         (tree.Concat e z) (lit≤ tt) (lit≤ tt)
         (keyed_operand limits fair m least keyword.Concat n start.Concat (mark sign.Open o ∷ ts) vs
@@ -194,7 +196,8 @@ module _ (limits : Limits) (fair : IsFair limits) where
     complete_expr (g.pick {n} {m = o} {i} {j} {o = q} {a} {b} {c} {ts} {us} {vs} {ws} {e} {f =
         z} {g = y} x v w) m least h l k f =
         let p = positive limits fair x in
-        comes_at limits fair m least 8 (max (max a b) c + 1) 8 (key keyword.Pick n ∷ mark sign.Open
+        comes_at limits fair m least 8 (max (max a b) c + 1) 8
+        (keyword_token keyword.Pick n ∷ mark sign.Open
         o ∷ ts) ws
         (tree.Pick e z y) (lit≤ tt) (lit≤ tt)
         (keyed_operand limits fair m least keyword.Pick n start.Pick (mark sign.Open o ∷ ts) ws _
@@ -215,7 +218,7 @@ module _ (limits : Limits) (fair : IsFair limits) where
         × Reaches at_comma (next_field limits (expression_within limits m))
         (all_of at_comma (next_field limits (expression_within limits m)) q vs) p us
     complete_fields (g.first {w} {x} {n} {a} {ts} {us} {e} v y) m h l f s =
-        let q = with_part none x e a in
+        let q = with_named_part none x e a in
         let i = full limits fair m 1 a ts us e (positive limits fair y) (omega (arith, h))
         (λ n b. complete_expr y n 1 b (omega arith) (lit≤ tt) f) s in (
           q,
@@ -236,7 +239,7 @@ module _ (limits : Limits) (fair : IsFair limits) where
           ws,
           o,
           reaches_next at_comma (next_field limits (expression_within limits m)) _ p
-              (with_part p x e a) _ vs r refl step (omega (arith, k)),
+              (with_named_part p x e a) _ vs r refl step (omega (arith, k)),
         )
 
     complete_members : {a : ℕ} {ts us : List Token} {es : List Expr}

@@ -19,7 +19,7 @@ use Rattle.flume_grammar.specs.inner.Reading.{sign_at, keyword_at, name_at, comm
 use Rattle.flume_grammar.specs.inner.Types.{at_comma}
 use Rattle.flume_grammar.specs.inner.Statements as s
 use Rattle.flume_grammar.specs.Grammar as g
-use Rattle.flume_grammar.specs.Terminals.{key, mark, name, number}
+use Rattle.flume_grammar.specs.Terminals.{keyword_token, mark, name_token, number_token}
 use Rattle.flume_grammar.specs.Grammar.{IsCombiner, AreNames, IsOperation, IsLet, AreLets, IsRepeat}
 use Rattle.flume_grammar.proofs.Loops.{Reaches, reaches_start, reaches_next, reaches_end}
 use Rattle.flume_grammar.proofs.Sound.{bound, one_token}
@@ -34,7 +34,7 @@ use Rattle.flume_grammar.proofs.Fair.{IsFair}
 module _ (part : List (List ℕ) → List Token → Out (List (List ℕ))) (Room : List (List ℕ) → Type 0)
     (fewer : (xs : List (List ℕ)) (x : List ℕ) → Room (xs ++ x ∷ []) → Room xs)
     (step : (xs : List (List ℕ)) (x : List ℕ) (m n : ℕ) (us : List Token) → Room (xs ++ x ∷ [])
-    → part xs (mark sign.Comma m ∷ name x n ∷ us) ≡ Ok (xs ++ x ∷ [], us))
+    → part xs (mark sign.Comma m ∷ name_token x n ∷ us) ≡ Ok (xs ++ x ∷ [], us))
   where
     complete_names : {ts us : List Token} {xs : List (List ℕ)} → AreNames ts us xs → Room xs
         → (x : List ℕ) × (vs : List Token) × (one name_at ts ≡ Ok (x, vs))
@@ -46,7 +46,8 @@ module _ (part : List (List ℕ) → List Token → Out (List (List ℕ))) (Room
           vs,
           q,
           reaches_next at_comma part _ xs (xs ++ x ∷ [])
-              (mark sign.Comma m ∷ name x n ∷ us) us r refl (step xs x m n us h) (omega arith),
+              (mark sign.Comma m ∷ name_token x n ∷ us) us r refl (step xs x m n us h)
+              (omega arith),
         )
 
 -- names, before what is no comma
@@ -73,11 +74,11 @@ module _ (limits : Limits) (fair : IsFair limits) where
 
   next_input : (xs : List (List ℕ)) (x : List ℕ) (m n : ℕ) (us : List Token)
       → length (xs ++ x ∷ []) ≤ limits.inputs
-      → s.next_input limits xs (mark sign.Comma m ∷ name x n ∷ us) ≡ Ok (xs ++ x ∷ [], us)
+      → s.next_input limits xs (mark sign.Comma m ∷ name_token x n ∷ us) ≡ Ok (xs ++ x ∷ [], us)
   next_input xs x m n us h =
       let j = length-append xs (x ∷ []) in
-      went (one (comma_at (length xs) limits.inputs) (mark sign.Comma m ∷ name x n ∷ us)) _ tt
-      (name x n ∷ us) _ (same_comma (length xs) limits.inputs m _ (omega (arith, h, j))) refl
+      went (one (comma_at (length xs) limits.inputs) (mark sign.Comma m ∷ name_token x n ∷ us)) _ tt
+      (name_token x n ∷ us) _ (same_comma (length xs) limits.inputs m _ (omega (arith, h, j))) refl
 
   few_inputs : (xs : List (List ℕ)) (x : List ℕ) → length (xs ++ x ∷ []) ≤ limits.inputs
       → length xs ≤ limits.inputs
@@ -95,9 +96,9 @@ module _ (limits : Limits) (fair : IsFair limits) where
 
   complete_combined : {ts us : List Token} {z : Combiner} (c : List ℕ) (m k : ℕ)
       → IsCombiner ts us z
-      → s.by_combiner (name c m ∷ key keyword.By k ∷ ts) ≡ Ok ((c, z), us)
+      → s.by_combiner (name_token c m ∷ keyword_token keyword.By k ∷ ts) ≡ Ok ((c, z), us)
   complete_combined {ts} {us} {z} c m k x =
-      went (one (keyword_at keyword.By) (key keyword.By k ∷ ts))
+      went (one (keyword_at keyword.By) (keyword_token keyword.By k ∷ ts))
       (λ _ vs. bind (s.combiner_at vs) (λ w ws. give (c, w) ws)) tt ts _
       (same_key keyword.By k ts) (went (s.combiner_at ts) _ z us _ (complete_combiner x) refl)
 
@@ -110,7 +111,7 @@ module _ (limits : Limits) (fair : IsFair limits) where
       None ts) h.1) refl
   complete_operation g.group h = refl
   complete_operation (g.combine {c} {n} {m} {k} {ts} {us} {b = z} x) h =
-      went (s.by_combiner (name c m ∷ key keyword.By k ∷ ts))
+      went (s.by_combiner (name_token c m ∷ keyword_token keyword.By k ∷ ts))
       (λ y vs. give (operation.Combine y.0 y.1) vs) (c, z) us _ (complete_combined c m k x) refl
   complete_operation (g.flatten {n} {ts} {us} {xs} x l) h =
       went (s.inputs limits ts) (λ ys vs. give (operation.Flatten ys) vs) xs us _
@@ -119,13 +120,13 @@ module _ (limits : Limits) (fair : IsFair limits) where
   complete_operation g.join h = refl
   complete_operation g.top h = refl
   complete_operation (g.combine_all {c} {n} {m} {k} {ts} {us} {b = z} x) h =
-      went (s.by_combiner (name c m ∷ key keyword.By k ∷ ts))
+      went (s.by_combiner (name_token c m ∷ keyword_token keyword.By k ∷ ts))
       (λ y vs. give (operation.CombineAll y.0 y.1) vs) (c, z) us _ (complete_combined c m k x)
       refl
   complete_operation (g.operate {f} {n} {m} {k} {ts} {us} {xs} x l) h =
       went (s.inputs limits ts) (λ ys vs. bind (one (keyword_at keyword.By) vs)
       (λ _ ws. bind (one name_at ws) (λ z ps. give (operation.Operate ys z) ps))) xs
-      (key keyword.By m ∷ name f k ∷ us) _ (complete_inputs x l refl) refl
+      (keyword_token keyword.By m ∷ name_token f k ∷ us) _ (complete_inputs x l refl) refl
   complete_operation g.do_with h = refl
 
   pub shorter_names : {ts us : List Token} {xs : List (List ℕ)} → AreNames ts us xs
@@ -182,26 +183,27 @@ module _ (limits : Limits) (fair : IsFair limits) where
       (went (s.turn_let limits us) _ l vs _ (complete_turn_let z h) refl) (shorter_let z)
 
   complete_head : {ts us vs : List Token} {digits : List ℕ} {xs ys : List (List ℕ)}
-      {i j : ℕ} (m k : ℕ) → AreNames ts (key keyword.As i ∷ us) xs
+      {i j : ℕ} (m k : ℕ) → AreNames ts (keyword_token keyword.As i ∷ us) xs
       → AreNames us (mark sign.OpenBrace j ∷ vs) ys
-      → s.repeat_head (number digits m ∷ key keyword.From k ∷ ts)
+      → s.repeat_head (number_token digits m ∷ keyword_token keyword.From k ∷ ts)
       ≡ Ok ((digits, xs, ys), mark sign.OpenBrace j ∷ vs)
   complete_head {ts} {us} {vs} {digits} {xs} {ys} {i} {j} m k x y =
       went (s.names ts) (λ zs ws. bind (one (keyword_at keyword.As) ws)
-      (λ _ ps. bind (s.names ps) (λ os qs. give (digits, zs, os) qs))) xs (key keyword.As i ∷ us) _
+      (λ _ ps. bind (s.names ps) (λ os qs. give (digits, zs, os) qs))) xs (keyword_token keyword.As
+      i ∷ us) _
       (complete_list x refl)
       (went (s.names us) (λ os qs. give (digits, xs, os) qs) ys (mark sign.OpenBrace j ∷ vs) _
       (complete_list y refl) refl)
 
   complete_inside : {ts us vs : List Token} {ls : List TurnLet} {xs : List (List ℕ)} {o p : ℕ}
-      (j : ℕ) → AreLets limits ts (key keyword.Give o ∷ us) ls
+      (j : ℕ) → AreLets limits ts (keyword_token keyword.Give o ∷ us) ls
       → AreNames us (mark sign.CloseBrace p ∷ vs) xs
       → s.repeat_body limits (mark sign.OpenBrace j ∷ ts) ≡ Ok ((ls, xs), vs)
   complete_inside {ts} {us} {vs} {ls} {xs} {o} {p} j x y =
       went (s.turn_lets limits ts) (λ rs ws. bind (one (keyword_at keyword.Give) ws)
       (λ _ os. bind (s.names os) (λ zs qs. bind (one (sign_at sign.CloseBrace) qs)
-      (λ _ ps. give (rs, zs) ps)))) ls (key keyword.Give o ∷ us) _
-      (reaches_end s.at_let (s.next_let limits) _ ls (key keyword.Give o ∷ us)
+      (λ _ ps. give (rs, zs) ps)))) ls (keyword_token keyword.Give o ∷ us) _
+      (reaches_end s.at_let (s.next_let limits) _ ls (keyword_token keyword.Give o ∷ us)
       (complete_lets x (refl, refl)) refl)
       (went (s.names us) (λ zs qs. bind (one (sign_at sign.CloseBrace) qs)
       (λ _ ps. give (ls, zs) ps)) xs (mark sign.CloseBrace p ∷ vs) _ (complete_list y refl) refl)
@@ -268,9 +270,9 @@ module _ (limits : Limits) (fair : IsFair limits) where
       ≡ Ok (form.Repeat names r, vs)
   complete_repeat names (g.repeat_ {digits} {xs} {ys} {zs} {ls} {n} {m} {k} {i} {j} {o} {p} {ts}
       {us} {vs} {ws} {ps} a b c d) =
-      went (s.repeat_at limits (number digits m ∷ key keyword.From k ∷ ts))
+      went (s.repeat_at limits (number_token digits m ∷ keyword_token keyword.From k ∷ ts))
       (λ r qs. give (form.Repeat names r) qs) (repeat_of (digits, xs, ys) (ls, zs)) ps _
-      (went (s.repeat_head (number digits m ∷ key keyword.From k ∷ ts))
+      (went (s.repeat_head (number_token digits m ∷ keyword_token keyword.From k ∷ ts))
       (λ h qs. bind (s.repeat_body limits qs) (λ y os. give (repeat_of h y) os)) (digits, xs, ys)
       (mark sign.OpenBrace j ∷ vs) _ (complete_head m k a b)
       (went (s.repeat_body limits (mark sign.OpenBrace j ∷ vs))

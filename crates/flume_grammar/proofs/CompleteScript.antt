@@ -13,7 +13,7 @@ use Rattle.flume_grammar.specs.inner.Types.{at_comma, whole_type}
 use Rattle.flume_grammar.specs.inner.Bodies.{whole_block}
 use Rattle.flume_grammar.specs.inner.Statements as s
 use Rattle.flume_grammar.specs.Grammar as g
-use Rattle.flume_grammar.specs.Terminals.{key, mark, name, text}
+use Rattle.flume_grammar.specs.Terminals.{keyword_token, mark, name_token, text_token}
 use Rattle.flume_grammar.specs.Grammar.{IsOptionalNumber, AreMoreTypes, IsBlock, IsStatement, AreStatements, IsScript}
 use Rattle.flume_grammar.proofs.Loops.{Reaches, reaches_start, reaches_next, reaches_end}
 use Rattle.flume_grammar.proofs.Complete.{went, same_comma, shorter_numbered, shorter_type, complete_whole}
@@ -50,22 +50,23 @@ module _ (limits : Limits) (fair : IsFair limits) where
   complete_statement : {ts us : List Token} {x : Statement} → IsStatement limits ts us x
       → IsSettled us → s.statement_at limits ts ≡ Ok (x, us)
   complete_statement (g.type_ {x} {n} {m} {k} {ts} {us} {t} w) h =
-      went (s.type_form limits (name x m ∷ mark sign.Assign k ∷ ts))
+      went (s.type_form limits (name_token x m ∷ mark sign.Assign k ∷ ts))
       (λ f vs. give (record { line = n; form = f }) vs) (form.Type x t) us _
       (went (whole_type limits ts) (λ z vs. give (form.Type x z) vs) t us _
       ((complete_whole limits fair) w) refl) refl
   complete_statement (g.input {x} {f} {n} {m} {k} {i} {j} {ts} {us} {t} w) h =
-      went (s.input_form limits (name x m ∷ mark sign.Colon k ∷ ts))
+      went (s.input_form limits (name_token x m ∷ mark sign.Colon k ∷ ts))
       (λ z vs. give (record { line = n; form = z }) vs) (form.Input x t f) us _
       (went (whole_type limits ts) (λ z ws. bind (one (keyword_at keyword.From) ws)
       (λ _ xs. bind (one text_at xs) (λ y ys. give (form.Input x z y) ys))) t
-      (key keyword.From i ∷ text f j ∷ us) _ ((complete_whole limits fair) w) refl) refl
+      (keyword_token keyword.From i ∷ text_token f j ∷ us) _ ((complete_whole limits fair) w)
+      refl) refl
   complete_statement (g.fn_ {x} {y} {n} {m} {k} {i} {j} {o} {p} {d} {ts} {us} {vs} {ws} {xs} {ys}
       {s = z} {t} {types} {c} {b = ss} u v w e f q l) h =
       let (no_comma, scale) = before_block f q in
       went
       ((s.function_form limits)
-      (name x m ∷ mark sign.Open k ∷ name y i ∷ mark sign.Colon j ∷ ts))
+      (name_token x m ∷ mark sign.Open k ∷ name_token y i ∷ mark sign.Colon j ∷ ts))
       (λ e zs. give (record { line = n; form = e }) zs)
       (form.Function (record {
         name = x;
@@ -77,7 +78,7 @@ module _ (limits : Limits) (fair : IsFair limits) where
         body =
             ss;
       })) ys _
-      (went (s.signature limits (mark sign.Open k ∷ name y i ∷ mark sign.Colon j ∷ ts))
+      (went (s.signature limits (mark sign.Open k ∷ name_token y i ∷ mark sign.Colon j ∷ ts))
       (λ e zs. bind (numbered keyword.Scale zs)
       (λ f ys. bind (whole_block limits ys)
       (λ r os. give (form.Function (record {

@@ -21,7 +21,7 @@ use Rattle.flume_grammar.specs.Parts.{Tree}
 use Rattle.flume_grammar.specs.inner.Types.{whole_type}
 use Rattle.flume_grammar.specs.inner.Bodies.{whole_block}
 use Rattle.flume_grammar.specs.inner.Statements as s
-use Rattle.flume_grammar.specs.Terminals.{key}
+use Rattle.flume_grammar.specs.Terminals.{keyword_token}
 use Rattle.flume_grammar.proofs.Sound.{bound, gave}
 use Rattle.flume_grammar.proofs.Open.{Takes, Class, Behind, any, Sub, free, within, IsComplete}
 use Rattle.flume_grammar.proofs.OpenSmallest.{Owns, given}
@@ -140,7 +140,7 @@ module _ (limits : Limits) (fair : IsFair limits) where
       (λ _. then_ any any any s.combiner_at _
       (then_ any any any (one s.combiner_start) _
       (token any s.combiner_start (λ t. owns_option t (of_keyword s.keyword_combiner t.kind))
-      (key keyword.Sum 1) _ refl tt) (λ k _. o_combiner k))
+      (keyword_token keyword.Sum 1) _ refl tt) (λ k _. o_combiner k))
       (λ k _. given any any _ (free any))))
 
   o_inputs : IsComplete any no_comma (s.inputs limits)
@@ -175,7 +175,7 @@ module _ (limits : Limits) (fair : IsFair limits) where
   o_operation : IsComplete any settled (s.operation_at limits)
   o_operation =
       told s.operation_start _ (λ t. owns_option t (of_keyword s.keyword_operation t.kind))
-      (key keyword.Group 1) _ refl o_begin
+      (keyword_token keyword.Group 1) _ refl o_begin
 
   -- ---- repeats
 
@@ -191,7 +191,7 @@ module _ (limits : Limits) (fair : IsFair limits) where
       (λ o _. given settled settled _ (λ rs i. i))))
 
   o_turn_let : IsComplete any settled (s.turn_let limits)
-  o_turn_let = told s.line_of_let _ owns_let (key keyword.Let 1) 1 refl o_own
+  o_turn_let = told s.line_of_let _ owns_let (keyword_token keyword.Let 1) 1 refl o_own
 
   pub let_turns : Turns in_turn settled s.at_let (s.next_let limits) (λ ls. Unit {0})
   let_turns =
@@ -283,7 +283,7 @@ module _ (limits : Limits) (fair : IsFair limits) where
       then_ any no_comma settled s.names _ o_names (λ xs _. sign_then no_comma settled
       sign.Assign _ refl
       (λ _. told s.let_start _ (λ t. owns_option t (of_keyword s.keyword_let t.kind))
-      (key keyword.Group 1) _ refl (o_let xs)))
+      (keyword_token keyword.Group 1) _ refl (o_let xs)))
   o_form stating.Output =
       name_then any settled _ tt (λ x. keyword_then any settled keyword.To _ tt
       (λ _. text_then any settled _ tt (λ f. given any settled _ (free settled))))
@@ -301,7 +301,8 @@ module _ (limits : Limits) (fair : IsFair limits) where
   o_statement : IsComplete any settled (s.statement_at limits)
   o_statement =
       told s.statement_start _
-      (λ t. owns_statement t (of_keyword s.keyword_statement t.kind)) (key keyword.Output 1) _
+      (λ t. owns_statement t (of_keyword s.keyword_statement t.kind))
+      (keyword_token keyword.Output 1) _
       refl o_named
 
   -- before nothing but the end

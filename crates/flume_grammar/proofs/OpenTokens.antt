@@ -16,7 +16,7 @@ use Rattle.flume_grammar.specs.declared.fault.Stop.{Stop}
 use Rattle.flume_grammar.specs.declared.fault.Stop.TheVariants.{Fault}
 use Rattle.flume_grammar.specs.inner.Out.{Out, give, bind, no_deeper, at, one, passed, all_of}
 use Rattle.flume_grammar.specs.inner.Reading.{is_sign, is_keyword, sign_at, keyword_at, name_of, name_at, word_at, number_of, number_at, text_of, text_at, comma_at, or_syntax, is_at_sign}
-use Rattle.flume_grammar.specs.Terminals.{word_of, key, mark, name, number, text}
+use Rattle.flume_grammar.specs.Terminals.{word_of, keyword_token, mark, name_token, number_token, text_token}
 use Rattle.flume_grammar.specs.inner.Types.{at_comma}
 use Rattle.flume_grammar.proofs.Sound.{bound}
 use Rattle.flume_grammar.proofs.Open.{Takes, takes_one, Class, Behind, any, Sub, free, IsOpen, Gives, IsComplete, no_longer}
@@ -55,10 +55,10 @@ owns_comma parts limit t =
 
 -- the name `a` and the number `0`
 abbrev pub a_name : Token
-a_name = name (97 ∷ []) 1
+a_name = name_token (97 ∷ []) 1
 
 abbrev pub a_number : Token
-a_number = number (48 ∷ []) 1
+a_number = number_token (48 ∷ []) 1
 
 pub token : {A : Type 0} (b : Class) (g : Token → Result A Stop) → ((t : Token) → Owns t (g t))
     → (t : Token) (a : A) → g t ≡ Ok a → b t.kind → IsComplete b any (one g)
@@ -100,8 +100,8 @@ a_sign b s i =
 
 pub a_keyword : (b : Class) (k : Keyword) → b (kind.Keyword k)
     → IsComplete b any (one (keyword_at k))
-a_keyword b k i = token b (keyword_at k) (owns_keyword k) (key k 1) tt
-    (ap (λ x. if x then Ok tt else Err (at (key k 1) Syntax))
+a_keyword b k i = token b (keyword_at k) (owns_keyword k) (keyword_token k 1) tt
+    (ap (λ x. if x then Ok tt else Err (at (keyword_token k 1) Syntax))
     (true_same keyword_type.the_type k k refl)) i
 
 module _ {B : Type 0} (b c : Class) where
@@ -139,7 +139,7 @@ module _ {B : Type 0} (b c : Class) where
       → ((x : List ℕ) → IsComplete any c (f x)) → IsComplete b c (λ ts. bind (one text_at ts) f)
   text_then f i h =
       then_ b any c (one text_at) f (token b text_at (λ t. owns_option t (text_of t.kind))
-      (text [] 1) _ refl i) (λ x g. h x)
+      (text_token [] 1) _ refl i) (λ x g. h x)
 
 -- a token, and then more
 pub owned_then : {A B : Type 0} (c : Class) (g : Token → Result A Stop)

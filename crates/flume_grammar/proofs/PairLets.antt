@@ -14,7 +14,7 @@ use Rattle.flume_grammar.specs.declared.tree.TurnLet.{TurnLet}
 use Rattle.flume_grammar.specs.inner.Out.{give, bind, one, all_of}
 use Rattle.flume_grammar.specs.inner.Reading.{sign_at, is_keyword, name_at, of_keyword}
 use Rattle.flume_grammar.specs.inner.Statements as s
-use Rattle.flume_grammar.specs.Terminals.{key}
+use Rattle.flume_grammar.specs.Terminals.{keyword_token}
 use Rattle.flume_grammar.specs.Limits.{Limits}
 use Rattle.flume_grammar.proofs.Fair.{IsFair}
 use Rattle.flume_grammar.proofs.Open.{any, free, within}
@@ -58,7 +58,7 @@ module _ (K : Kinds) (limits more : Limits) (fair : IsFair limits) (fair_more : 
       (pair_then K any any any (one s.combiner_start) (one s.combiner_start) _ _
       (pair_token K growth.syntax_ any s.combiner_start
       (token any s.combiner_start (λ t. owns_option t (of_keyword s.keyword_combiner t.kind))
-      (key keyword.Sum 1) _ refl tt)
+      (keyword_token keyword.Sum 1) _ refl tt)
       (λ t. plain_option K growth.syntax_ t
       (of_keyword s.keyword_combiner t.kind))) r_combiner)
       (λ k. whole_given K limits more fair fair_more growth _)))
@@ -150,7 +150,7 @@ module _ (K : Kinds) (limits more : Limits) (fair : IsFair limits) (fair_more : 
       pair_then K any any settled (one s.operation_start) (one s.operation_start) _ _
       (pair_token K growth.syntax_ any s.operation_start
       (token any s.operation_start
-      (λ t. owns_option t (of_keyword s.keyword_operation t.kind)) (key keyword.Group 1) _
+      (λ t. owns_option t (of_keyword s.keyword_operation t.kind)) (keyword_token keyword.Group 1) _
       refl tt) (λ t. plain_option K growth.syntax_ t
       (of_keyword s.keyword_operation t.kind)))
       r_begin
@@ -192,7 +192,7 @@ module _ (K : Kinds) (limits more : Limits) (fair : IsFair limits) (fair_more : 
   r_turn_let =
       pair_then K any any settled (one s.line_of_let) (one s.line_of_let) _ _
       (pair_token K growth.syntax_ any s.line_of_let
-      (token any s.line_of_let owns_let (key keyword.Let 1) 1 refl tt) plain_let) r_own
+      (token any s.line_of_let owns_let (keyword_token keyword.Let 1) 1 refl tt) plain_let) r_own
 
   r_next_let : (ls : List TurnLet)
       → IsPair K any settled (s.next_let limits ls) (s.next_let more ls)

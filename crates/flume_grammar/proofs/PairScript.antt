@@ -13,7 +13,7 @@ use Rattle.flume_grammar.specs.Parts.{Tree}
 use Rattle.flume_grammar.specs.inner.Types.{whole_type}
 use Rattle.flume_grammar.specs.inner.Bodies.{whole_block}
 use Rattle.flume_grammar.specs.inner.Statements as s
-use Rattle.flume_grammar.specs.Terminals.{key}
+use Rattle.flume_grammar.specs.Terminals.{keyword_token}
 use Rattle.flume_grammar.specs.Limits.{Limits}
 use Rattle.flume_grammar.proofs.Fair.{IsFair}
 use Rattle.flume_grammar.proofs.Open.{any, free, within}
@@ -114,7 +114,7 @@ module _ (K : Kinds) (limits more : Limits) (fair : IsFair limits) (fair_more : 
       (λ _. pair_then K any any settled (one s.let_start) (one s.let_start) _ _
       (pair_token K growth.syntax_ any s.let_start
       (token any s.let_start (λ t. owns_option t (of_keyword s.keyword_let t.kind))
-      (key keyword.Group 1) _ refl tt)
+      (keyword_token keyword.Group 1) _ refl tt)
       (λ t. plain_option K growth.syntax_ t
       (of_keyword s.keyword_let t.kind)))
       (λ z. r_let K limits more fair fair_more growth xs z)))
@@ -142,7 +142,7 @@ module _ (K : Kinds) (limits more : Limits) (fair : IsFair limits) (fair_more : 
       (pair_token K growth.syntax_ any s.statement_start
       (token any s.statement_start
       (λ t. o_scripts.owns_statement limits fair t (of_keyword s.keyword_statement t.kind))
-      (key keyword.Output 1) _ refl tt)
+      (keyword_token keyword.Output 1) _ refl tt)
       (λ t. plain_statement t (of_keyword s.keyword_statement t.kind)))
       r_named
 

@@ -14,9 +14,9 @@ use Rattle.flume_grammar.specs.declared.fault.Stop.TheVariants.{Fault}
 use Rattle.flume_grammar.specs.declared.parts.Parts.{Parts}
 use Rattle.flume_grammar.specs.inner.Out.{Out, give, bind, no_deeper, at, one, all_of}
 use Rattle.flume_grammar.specs.inner.Reading.{is_sign, is_keyword, sign_at, keyword_at, name_of, name_at, word_at, number_of, number_at, text_of, text_at, comma_at, or_syntax}
-use Rattle.flume_grammar.specs.Terminals.{word_of, text}
+use Rattle.flume_grammar.specs.Terminals.{word_of, text_token}
 use Rattle.flume_grammar.specs.Limits.{Limits}
-use Rattle.flume_grammar.specs.Parts.{with_part}
+use Rattle.flume_grammar.specs.Parts.{with_named_part}
 use Rattle.flume_grammar.specs.inner.Types.{at_comma}
 use Rattle.flume_grammar.proofs.Sound.{bound}
 use Rattle.flume_grammar.proofs.SoundTokens.{comma_read}
@@ -127,7 +127,7 @@ module _ (K : Kinds) (no_syntax : K Syntax → ⊥) where
         → IsPair K b c (λ ts. bind (one text_at ts) f) (λ ts. bind (one text_at ts) g)
     pair_text i h = pair_then K b any c (one text_at) (one text_at) f g
         (pair_token b text_at (token b text_at (λ t. owns_option t (text_of t.kind))
-        (text [] 1) _ refl i) (λ t. plain_option t (text_of t.kind))) h
+        (text_token [] 1) _ refl i) (λ t. plain_option t (text_of t.kind))) h
 
   module _ {B : Type 0} (b c : Class) where
     pub pair_sign : (s : Sign) (f g : Unit {0} → List Token → Out B) → b (kind.Sign s)
@@ -257,5 +257,5 @@ pair_shallow K b n m p q l x d e =
 -- ---- types
 
 pub part_added : {A : Type 0} (p : Parts A) (x : List ℕ) (a : A) (d : ℕ)
-    → length (with_part p x a d).names ≡ suc (length p.names)
+    → length (with_named_part p x a d).names ≡ suc (length p.names)
 part_added p x a d = let i = length-append p.names (x ∷ []) in omega (arith, i)

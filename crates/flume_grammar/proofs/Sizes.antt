@@ -10,17 +10,17 @@ use Rattle.flume_grammar.specs.declared.tree.Expr.{Expr}
 use Rattle.flume_grammar.specs.inner.Out.{next}
 use Rattle.flume_grammar.specs.inner.Reading.{same_keyword, is_at_keyword}
 use Rattle.flume_grammar.specs.Grammar as g
-use Rattle.flume_grammar.specs.Grammar.{IsExpr, AreFields, AreMembers, call_of, side_of}
+use Rattle.flume_grammar.specs.Grammar.{IsExpr, AreFields, AreMembers, unary_call, side_keyword}
 use Rattle.flume_grammar.proofs.Complete.{shorter_type}
 use Rattle.flume_grammar.specs.Limits.{Limits}
 use Rattle.flume_grammar.proofs.Fair.{IsFair}
 
-side_no_to : (k : Keyword) (s : Side) → side_of k ≡ Some s → same_keyword k keyword.To ≡ false
+side_no_to : (k : Keyword) (s : Side) → side_keyword k ≡ Some s → same_keyword k keyword.To ≡ false
 side_no_to keyword.Left s q = refl
 side_no_to keyword.Right s q = refl
 side_no_to _ s q = cc
 
-call_no_to : (k : Keyword) (u : Unary) → call_of k ≡ Some u → same_keyword k keyword.To ≡ false
+call_no_to : (k : Keyword) (u : Unary) → unary_call k ≡ Some u → same_keyword k keyword.To ≡ false
 call_no_to keyword.Len u q = refl
 call_no_to keyword.Words u q = refl
 call_no_to keyword.Text u q = refl

@@ -15,7 +15,7 @@ use Rattle.flume_grammar.specs.inner.Reading.{keyword_at, is_at_keyword, numbere
 use Rattle.flume_grammar.specs.inner.Bodies as b
 use Rattle.flume_grammar.specs.inner.Bodies.{Block, value, block_layer, block_within}
 use Rattle.flume_grammar.specs.Grammar as g
-use Rattle.flume_grammar.specs.Terminals.{key, mark, name}
+use Rattle.flume_grammar.specs.Terminals.{keyword_token, mark, name_token}
 use Rattle.flume_grammar.specs.Grammar.{IsExpr, IsBody, IsBlock, AreBodies}
 use Rattle.flume_grammar.proofs.Sound.{bound, gave, moved_by, one_token}
 use Rattle.flume_grammar.proofs.SoundTokens.{of_kind, past_sign, past_keyword, past_name, by_keyword, numbered_read}
@@ -41,7 +41,7 @@ module _ (limits : Limits) (fair : IsFair limits) where
   -- what the parser reads behind this keyword is in the grammar
   abbrev Shows : Keyword → (ℕ → List Token → Out (Body × ℕ)) → Type 0
   Shows k p = (n : ℕ) (ts : List Token) (x : Body × ℕ) (us : List Token) → p n ts ≡ Ok (x, us)
-      → IsRead (key k n ∷ ts) us x
+      → IsRead (keyword_token k n ∷ ts) us x
 
   module _ (limit : ℕ) (inner : List Token → Out Block) (h : SoundB inner) where
     s_let : Shows keyword.Let (b.let_body limits limit)
@@ -51,9 +51,11 @@ module _ (limits : Limits) (fair : IsFair limits) where
         let d = bound (value limits limit c.rest) _ x us c.after in
         let y : Body × ℕ = (body.Let n a.got d.got.0, d.got.1 + 1) in
         let v = gave y x d.rest us d.after in
-        moved_by IsRead (key keyword.Let n ∷ name a.got a.line ∷ mark sign.Assign c.line ∷ c.rest) _
+        moved_by IsRead (keyword_token keyword.Let n ∷ name_token a.got a.line ∷ mark sign.Assign
+        c.line ∷ c.rest) _
         d.rest us
-        y x (ap (λ z. key keyword.Let n ∷ z) (a.is ∙ ap (λ z. name a.got a.line ∷ z) c.is)) v.1
+        y x (ap (λ z. keyword_token keyword.Let n ∷ z) (a.is ∙ ap (λ z. name_token a.got a.line ∷ z)
+        c.is)) v.1
         v.0
         (g.let_ (value_is limit c.rest d.got d.rest d.part))
 
@@ -63,13 +65,13 @@ module _ (limits : Limits) (fair : IsFair limits) where
         let d = bound (value limits limit a.rest) _ x us a.after in
         let y : Body × ℕ = (body.Emit n a.got d.got.0, d.got.1 + 1) in
         let v = gave y x d.rest us d.after in
-        moved_by IsRead (key keyword.Emit n ∷ ts) _ d.rest us y x refl v.1 v.0
+        moved_by IsRead (keyword_token keyword.Emit n ∷ ts) _ d.rest us y x refl v.1 v.0
         (g.emit (numbered_read keyword.To ts a.got a.rest a.part)
         (value_is limit a.rest d.got d.rest d.part))
 
     abbrev Otherwise : List Token → List Token → Block → Type 0
     Otherwise vs us c = ((c ≡ ([], 0)) × (vs ≡ us)) ⊎ ((m : ℕ) × (ws : List Token)
-        × (vs ≡ key keyword.Else m ∷ ws) × IsBlock limits ws us c.0 c.1)
+        × (vs ≡ keyword_token keyword.Else m ∷ ws) × IsBlock limits ws us c.0 c.1)
 
     s_otherwise : (vs : List Token) (c : Block) (us : List Token)
         → b.otherwise inner vs ≡ Ok (c, us) → Otherwise vs us c
@@ -96,13 +98,15 @@ module _ (limits : Limits) (fair : IsFair limits) where
         elim (s_otherwise c.rest d.got d.rest d.part) [
           | inl (o, r) ↦
               (let z : Body × ℕ = (body.If n a.got.0 c.got.0 [], max (max a.got.1 c.got.1) 0 + 1) in
-              moved_by IsRead (key keyword.If n ∷ ts) (key keyword.If n ∷ ts) c.rest us z x refl (r
+              moved_by IsRead (keyword_token keyword.If n ∷ ts) (keyword_token keyword.If n ∷ ts)
+              c.rest us z x refl (r
               ∙ v.1)
               (ap (λ (k : Block). (
                 body.If n a.got.0 c.got.0 k.0,
                 max (max a.got.1 c.got.1) k.1 + 1,
               )) (sym o) ∙ v.0) (g.if_ e f))
-          | inr (m, ws, r, k) ↦ moved_by IsRead (key keyword.If n ∷ ts) (key keyword.If n ∷ ts)
+          | inr (m, ws, r, k) ↦ moved_by IsRead (keyword_token keyword.If n ∷ ts)
+              (keyword_token keyword.If n ∷ ts)
               d.rest us y x
               refl v.1 v.0 (g.if_else e (subst (λ z. (IsBlock limits) a.rest z c.got.0 c.got.1) r f)
               k)
@@ -116,9 +120,11 @@ module _ (limits : Limits) (fair : IsFair limits) where
         let e = bound (inner d.rest) _ x us d.after in
         let y : Body × ℕ = (body.For n a.got d.got.0 e.got.0, max d.got.1 e.got.1 + 1) in
         let v = gave y x e.rest us e.after in
-        moved_by IsRead (key keyword.For n ∷ name a.got a.line ∷ key keyword.In c.line ∷ c.rest) _
+        moved_by IsRead (keyword_token keyword.For n ∷ name_token a.got a.line ∷ keyword_token
+        keyword.In c.line ∷ c.rest) _
         e.rest us y
-        x (ap (λ z. key keyword.For n ∷ z) (a.is ∙ ap (λ z. name a.got a.line ∷ z) c.is)) v.1
+        x (ap (λ z. keyword_token keyword.For n ∷ z) (a.is ∙ ap (λ z. name_token a.got a.line ∷ z)
+        c.is)) v.1
         v.0
         (g.for_ (value_is limit c.rest d.got d.rest d.part) (h d.rest e.got e.rest e.part))
 
@@ -126,7 +132,7 @@ module _ (limits : Limits) (fair : IsFair limits) where
       n : ℕ
       m : ℕ
       vs : List Token
-      start : ts ≡ key k n ∷ name x.0 m ∷ vs
+      start : ts ≡ keyword_token k n ∷ name_token x.0 m ∷ vs
       block : (IsBlock limits) vs us x.1 x.2
 
     s_side : (k : Keyword) (ts : List Token) (x : List ℕ × List Body × ℕ) (us : List Token)
@@ -140,8 +146,9 @@ module _ (limits : Limits) (fair : IsFair limits) where
           n = a.line;
           m = c.line;
           vs = c.rest;
-          start = a.is ∙ ap (λ z. key k a.line ∷ z) c.is
-              ∙ ap (λ (z : List ℕ × List Body × ℕ). key k a.line ∷ name z.0 c.line ∷ c.rest) v.0;
+          start = a.is ∙ ap (λ z. keyword_token k a.line ∷ z) c.is
+              ∙ ap (λ (z : List ℕ × List Body × ℕ). keyword_token k a.line ∷ name_token z.0 c.line ∷
+              c.rest) v.0;
           block = subst (λ (z : List ℕ × List Body × ℕ). (IsBlock limits) c.rest us z.1 z.2) v.0
               (subst (λ z. (IsBlock limits) c.rest z d.got.0 d.got.1) v.1
               (h c.rest d.got d.rest d.part));
@@ -160,7 +167,7 @@ module _ (limits : Limits) (fair : IsFair limits) where
           max (max a.got.1 c.got.2) d.got.2 + 1,
         ) in
         let v = gave y x d.rest us d.after in
-        moved_by IsRead (key keyword.Case n ∷ ts) _ d.rest us y x refl v.1 v.0
+        moved_by IsRead (keyword_token keyword.Case n ∷ ts) _ d.rest us y x refl v.1 v.0
         (g.case_ (subst (λ z. (IsExpr limits) 1 ts z a.got.0 a.got.1) l.start
         (value_is limit ts a.got a.rest a.part))
         (subst (λ z. (IsBlock limits) l.vs z c.got.1 c.got.2) r.start l.block) r.block)
@@ -194,7 +201,7 @@ module _ (limits : Limits) (fair : IsFair limits) where
         let k = by_keyword b.keyword_body (λ j z. Shows j (b.after_start limits limit inner z))
         s_after t.token.kind a.got.0 i.0 in
         subst (λ z. IsRead z us x) (sym (t.is ∙ ap (λ z. z ∷ a.rest)
-        (of_kind t.token (kind.Keyword k.0) k.1 ∙ ap (key k.0) i.1)))
+        (of_kind t.token (kind.Keyword k.0) k.1 ∙ ap (keyword_token k.0) i.1)))
         (k.2 a.got.1 a.rest x us a.after)
 
     abbrev BodiesOf : List Token → Block → List Token → Type 0

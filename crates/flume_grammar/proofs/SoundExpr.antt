@@ -14,7 +14,7 @@ use Rattle.flume_grammar.specs.inner.Out.{bind, one}
 use Rattle.flume_grammar.specs.inner.Reading.{is_sign}
 use Rattle.flume_grammar.specs.inner.Expressions.{fits, operand_start, so_far, Inner, continued, after_start, bare, enclosed, operand, expression_layer, expression_within}
 use Rattle.flume_grammar.specs.Grammar as g
-use Rattle.flume_grammar.specs.Terminals.{key, mark}
+use Rattle.flume_grammar.specs.Terminals.{keyword_token, mark}
 use Rattle.flume_grammar.specs.Grammar.{IsExpr}
 use Rattle.flume_grammar.proofs.Sound.{Bound, bound, gave}
 use Rattle.flume_grammar.proofs.SoundTokens.{past_sign, sign_kind}
@@ -49,7 +49,7 @@ module _ (limits : Limits) (fair : IsFair limits) where
         let a = bound (inner 3 vs) _ x us q in
         let y = so_far 3 (tree.Unary unary.Not a.got.0) (a.got.1 + 1) in
         let v = gave y x a.rest us a.after in
-        so_moved limits fair least (key keyword.Not n ∷ vs) ts a.rest us y x e v.1 v.0
+        so_moved limits fair least (keyword_token keyword.Not n ∷ vs) ts a.rest us y x e v.1 v.0
         (g.not_ (h 3 vs a.got a.rest (lit≤ tt) a.part), leb-true least 3 f)
     s_after least (start.Prefix unary.Negate) ts vs x us l f (n, e) q =
         let a = bound (inner 7 vs) _ x us q in

@@ -17,7 +17,7 @@ use Rattle.flume_grammar.specs.inner.Types.{at_comma, whole_type}
 use Rattle.flume_grammar.specs.inner.Bodies.{block_within, whole_block}
 use Rattle.flume_grammar.specs.inner.Statements as s
 use Rattle.flume_grammar.specs.Grammar as g
-use Rattle.flume_grammar.specs.Terminals.{key, mark, name, text}
+use Rattle.flume_grammar.specs.Terminals.{keyword_token, mark, name_token, text_token}
 use Rattle.flume_grammar.specs.Grammar.{AreNames, IsOptionalNumber, IsWholeType, AreMoreTypes, IsBlock, IsStatement}
 use Rattle.flume_grammar.proofs.Sound.{bound, gave, moved_by, shallow}
 use Rattle.flume_grammar.proofs.SoundTokens.{past_sign, past_keyword, past_name, past_text, begun, comma_read, numbered_read}
@@ -38,7 +38,7 @@ module _ (limits : Limits) (fair : IsFair limits) where
   -- what the parser reads behind this keyword is in the grammar
   abbrev pub Shows : Keyword → (List Token → Out Form) → Type 0
   Shows k p = (n : ℕ) (ts : List Token) (x : Form) (us : List Token) → p ts ≡ Ok (x, us)
-      → StatementOf n (key k n ∷ ts) us x
+      → StatementOf n (keyword_token k n ∷ ts) us x
 
   pub s_type : Shows keyword.Type (s.type_form limits)
   s_type n ts x us q =
@@ -46,10 +46,11 @@ module _ (limits : Limits) (fair : IsFair limits) where
       let c = past_sign sign.Assign a.rest _ x us a.after in
       let d = bound (whole_type limits c.rest) _ x us c.after in
       let v = gave (form.Type a.got d.got) x d.rest us d.after in
-      moved_by (StatementOf n) (key keyword.Type n ∷ name a.got a.line ∷ mark
+      moved_by (StatementOf n) (keyword_token keyword.Type n ∷ name_token a.got a.line ∷ mark
       sign.Assign c.line ∷
       c.rest) _ d.rest us (form.Type a.got d.got) x
-      (ap (λ z. key keyword.Type n ∷ z) (a.is ∙ ap (λ z. name a.got a.line ∷ z) c.is)) v.1 v.0
+      (ap (λ z. keyword_token keyword.Type n ∷ z) (a.is ∙ ap (λ z. name_token a.got a.line ∷ z)
+      c.is)) v.1 v.0
       (g.type_ ((sound_whole limits fair) c.rest d.got d.rest d.part))
 
   pub s_input_form : Shows keyword.Input (s.input_form limits)
@@ -60,14 +61,16 @@ module _ (limits : Limits) (fair : IsFair limits) where
       let e = past_keyword keyword.From d.rest _ x us d.after in
       let f = past_text e.rest _ x us e.after in
       let v = gave (form.Input a.got d.got f.got) x f.rest us f.after in
-      let y : (IsWholeType limits) c.rest (key keyword.From e.line ∷ text f.got f.line ∷ f.rest)
+      let y : (IsWholeType limits) c.rest (keyword_token keyword.From e.line ∷ text_token f.got
+      f.line ∷ f.rest)
       d.got = subst (λ z. (IsWholeType limits) c.rest z d.got) (e.is
-      ∙ ap (λ z. key keyword.From e.line ∷ z) f.is)
+      ∙ ap (λ z. keyword_token keyword.From e.line ∷ z) f.is)
       ((sound_whole limits fair) c.rest d.got d.rest d.part) in
-      moved_by (StatementOf n) (key keyword.Input n ∷ name a.got a.line ∷ mark
+      moved_by (StatementOf n) (keyword_token keyword.Input n ∷ name_token a.got a.line ∷ mark
       sign.Colon c.line ∷
       c.rest) _ f.rest us (form.Input a.got d.got f.got) x
-      (ap (λ z. key keyword.Input n ∷ z) (a.is ∙ ap (λ z. name a.got a.line ∷ z) c.is)) v.1 v.0
+      (ap (λ z. keyword_token keyword.Input n ∷ z) (a.is ∙ ap (λ z. name_token a.got a.line ∷ z)
+      c.is)) v.1 v.0
       (g.input y)
 
   -- ---- lets
@@ -75,8 +78,9 @@ module _ (limits : Limits) (fair : IsFair limits) where
   -- a let behind its names, by the keyword that its right side begins with
   abbrev Lets : Keyword → LetStart → Type 0
   Lets w z = (n k j : ℕ) (ts vs : List Token) (xs : List (List ℕ)) (x : Form) (ws : List Token)
-      → AreNames ts (mark sign.Assign k ∷ key w j ∷ vs) xs
-      → s.after_let limits xs z vs ≡ Ok (x, ws) → StatementOf n (key keyword.Let n ∷ ts) ws x
+      → AreNames ts (mark sign.Assign k ∷ keyword_token w j ∷ vs) xs
+      → s.after_let limits xs z vs ≡ Ok (x, ws)
+      → StatementOf n (keyword_token keyword.Let n ∷ ts) ws x
 
   plain : (w : Keyword) (o : Option OperationStart) → IfSome o (Operates limits fair w)
       → IfSome (option_map letting.Plain o) (Lets w)
@@ -84,14 +88,16 @@ module _ (limits : Limits) (fair : IsFair limits) where
   plain w (Some o) h = λ n k j ts vs xs x ws e q.
       let a = bound (s.after_begin limits o vs) _ x ws q in
       let v = gave (form.Let xs a.got) x a.rest ws a.after in
-      moved_by (StatementOf n) (key keyword.Let n ∷ ts) _ a.rest ws (form.Let xs a.got) x refl
+      moved_by (StatementOf n) (keyword_token keyword.Let n ∷ ts) _ a.rest ws (form.Let xs a.got) x
+      refl
       v.1 v.0 (g.let_ e (h j vs a.got a.rest a.part))
 
   s_lets : (w : Keyword) → IfSome (s.keyword_let w) (Lets w)
   s_lets keyword.Repeat = λ n k j ts vs xs x ws e q.
       let a = bound (s.repeat_at limits vs) _ x ws q in
       let v = gave (form.Repeat xs a.got) x a.rest ws a.after in
-      moved_by (StatementOf n) (key keyword.Let n ∷ ts) _ a.rest ws (form.Repeat xs a.got) x refl
+      moved_by (StatementOf n) (keyword_token keyword.Let n ∷ ts) _ a.rest ws (form.Repeat xs a.got)
+      x refl
       v.1 v.0 (g.repeat e (s_repeat limits fair j vs a.got a.rest a.part))
   s_lets w = plain w (s.keyword_operation w) (s_operates limits fair w)
 
@@ -110,11 +116,13 @@ module _ (limits : Limits) (fair : IsFair limits) where
       let c = past_keyword keyword.To a.rest _ x us a.after in
       let d = past_text c.rest _ x us c.after in
       let v = gave (form.Output a.got d.got) x d.rest us d.after in
-      moved_by (StatementOf n) (key keyword.Output n ∷ name a.got a.line ∷ key
+      moved_by (StatementOf n) (keyword_token keyword.Output n ∷ name_token a.got a.line ∷
+      keyword_token
       keyword.To c.line ∷
-      text d.got d.line ∷ d.rest) _ d.rest us (form.Output a.got d.got) x
-      (ap (λ z. key keyword.Output n ∷ z) (a.is
-      ∙ ap (λ z. name a.got a.line ∷ z) (c.is ∙ ap (λ z. key keyword.To c.line ∷ z) d.is))) v.1
+      text_token d.got d.line ∷ d.rest) _ d.rest us (form.Output a.got d.got) x
+      (ap (λ z. keyword_token keyword.Output n ∷ z) (a.is
+      ∙ ap (λ z. name_token a.got a.line ∷ z) (c.is ∙ ap (λ z. keyword_token keyword.To c.line ∷ z)
+      d.is))) v.1
       v.0 g.output
 
   abbrev Outputs : List Token → List Tree → List Token → Type 0
@@ -150,7 +158,8 @@ module _ (limits : Limits) (fair : IsFair limits) where
         {ts us vs ws : List Token}
         → IsWholeType limits ts (mark sign.Close o ∷ mark sign.Arrow p ∷ us) s
         → IsWholeType limits us vs t → Outputs vs types ws
-        → IsSignature (mark sign.Open k ∷ name x i ∷ mark sign.Colon j ∷ ts) ws (x, s, t, types)
+        → IsSignature (mark sign.Open k ∷ name_token x i ∷ mark sign.Colon j ∷ ts) ws
+        (x, s, t, types)
 
   s_signature : (ts : List Token) (x : Signature) (us : List Token)
       → s.signature limits ts ≡ Ok (x, us) → IsSignature ts us x
@@ -166,9 +175,11 @@ module _ (limits : Limits) (fair : IsFair limits) where
       let own : Signature = (c.got, e.got, m.got, r.got) in
       let v = gave own x r.rest us r.after in
       moved_by IsSignature
-      (mark sign.Open a.line ∷ name c.got c.line ∷ mark sign.Colon d.line ∷ d.rest) ts r.rest us
+      (mark sign.Open a.line ∷ name_token c.got c.line ∷ mark sign.Colon d.line ∷ d.rest) ts r.rest
+      us
       own x
-      (a.is ∙ ap (λ z. mark sign.Open a.line ∷ z) (c.is ∙ ap (λ z. name c.got c.line ∷ z) d.is))
+      (a.is ∙ ap (λ z. mark sign.Open a.line ∷ z) (c.is ∙ ap (λ z. name_token c.got c.line ∷ z)
+      d.is))
       v.1 v.0
       (signature (subst (λ z. IsWholeType limits d.rest z e.got) (f.is
       ∙ ap (λ z. mark sign.Close f.line ∷ z) l.is)
@@ -190,7 +201,7 @@ module _ (limits : Limits) (fair : IsFair limits) where
   signed : {n i d : ℕ} {x : List ℕ} {ts us vs ws : List Token} {h : Signature}
       {c : Option (List ℕ)} {b : List Body} → IsSignature ts us h
       → IsOptionalNumber keyword.Scale us vs c → IsBlock limits vs ws b d → d ≤ limits.depth
-      → StatementOf n (key keyword.Fn n ∷ name x i ∷ ts) ws (function_of x h c b)
+      → StatementOf n (keyword_token keyword.Fn n ∷ name_token x i ∷ ts) ws (function_of x h c b)
   signed (signature takes gives more) scale body small =
       g.fn_ takes gives more.0 more.1 scale body small
 
@@ -204,7 +215,8 @@ module _ (limits : Limits) (fair : IsFair limits) where
       (sound_block limits fair limits.depth) d.rest e.got e.rest e.part in
       let y = function_of a.got c.got d.got e.got in
       let v = gave y x e.rest us e.after in
-      moved_by (StatementOf n) (key keyword.Fn n ∷ name a.got a.line ∷ a.rest) _ e.rest us y x
-      (ap (λ z. key keyword.Fn n ∷ z) a.is) v.1 v.0
+      moved_by (StatementOf n) (keyword_token keyword.Fn n ∷ name_token a.got a.line ∷ a.rest) _
+      e.rest us y x
+      (ap (λ z. keyword_token keyword.Fn n ∷ z) a.is) v.1 v.0
       (signed (s_signature a.rest c.got c.rest c.part)
       (numbered_read keyword.Scale c.rest d.got d.rest d.part) k.spelled k.small)

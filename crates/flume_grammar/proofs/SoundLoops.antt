@@ -6,7 +6,7 @@ use Rattle.flume_grammar.specs.declared.parts.Parts.{Parts}
 use Rattle.flume_grammar.specs.inner.Out.{Out, give, bind, one, many, all_of}
 use Rattle.flume_grammar.specs.inner.Reading.{sign_at, word_at}
 use Rattle.flume_grammar.specs.Terminals.{word_of, mark}
-use Rattle.flume_grammar.specs.Parts.{with_part}
+use Rattle.flume_grammar.specs.Parts.{with_named_part}
 use Rattle.flume_grammar.proofs.Sound.{Bound, bound, gave, moved_by}
 use Rattle.flume_grammar.proofs.SoundTokens.{past_sign, word_read}
 
@@ -77,13 +77,13 @@ pub record FieldRead {X : Type 0} (R : List Token → List Token → X → ℕ �
   pub start : ts ≡ word ∷ mark sign.Colon line ∷ rest
   pub is_word : word_of word.kind ≡ Some name_
   pub spelled : R rest us part depth
-  pub is : with_part p name_ part depth ≡ q
+  pub is : with_named_part p name_ part depth ≡ q
 
 abbrev pub field_of : {X : Type 0} → (List Token → Out (X × ℕ)) → Parts X → List Token
     → Out (Parts X)
 field_of inner p ts =
     bind (one word_at ts) (λ w us. bind (one (sign_at sign.Colon) us)
-    (λ _ vs. bind (inner vs) (λ x ws. give (with_part p w x.0 x.1) ws)))
+    (λ _ vs. bind (inner vs) (λ x ws. give (with_named_part p w x.0 x.1) ws)))
 
 pub field_read : {X : Type 0} (R : List Token → List Token → X → ℕ → Type 0) (inner : List Token
     → Out (X × ℕ))
@@ -95,7 +95,7 @@ field_read R inner h p ts q us e =
     let w = word_read a.got ts a.rest a.part in
     let b = past_sign sign.Colon a.rest _ q us a.after in
     let c = bound (inner b.rest) _ q us b.after in
-    let g = gave (with_part p a.got c.got.0 c.got.1) q c.rest us c.after in
+    let g = gave (with_named_part p a.got c.got.0 c.got.1) q c.rest us c.after in
     record {
       word = w.token;
       name_ = a.got;

@@ -16,7 +16,7 @@ use Rattle.flume_grammar.specs.inner.Reading.{keyword_at, comma_at, name_at, is_
 use Rattle.flume_grammar.specs.inner.Types.{at_comma}
 use Rattle.flume_grammar.specs.inner.Statements as s
 use Rattle.flume_grammar.specs.Grammar as g
-use Rattle.flume_grammar.specs.Terminals.{key, mark, name, number}
+use Rattle.flume_grammar.specs.Terminals.{keyword_token, mark, name_token, number_token}
 use Rattle.flume_grammar.specs.Grammar.{IsCombiner, AreNames, IsOperation}
 use Rattle.flume_grammar.proofs.Sound.{bound, gave, moved_by}
 use Rattle.flume_grammar.proofs.SoundTokens.{past_sign, past_keyword, past_name, past_number, begun, comma_read}
@@ -49,13 +49,13 @@ module _ (limits : Limits) (fair : IsFair limits) where
   -- a combiner, behind the keyword that it begins with
   abbrev Combines : Keyword → CombinerStart → Type 0
   Combines k z = (n : ℕ) (ts : List Token) (x : Combiner) (us : List Token)
-      → s.after_combiner z ts ≡ Ok (x, us) → IsCombiner (key k n ∷ ts) us x
+      → s.after_combiner z ts ≡ Ok (x, us) → IsCombiner (keyword_token k n ∷ ts) us x
 
   whole : (k : Keyword) (c : Combiner)
-      → ((n : ℕ) (ts : List Token) → IsCombiner (key k n ∷ ts) ts c)
+      → ((n : ℕ) (ts : List Token) → IsCombiner (keyword_token k n ∷ ts) ts c)
       → Combines k (combining.Whole c)
   whole k c h n ts x us q = let v = gave c x ts us q in
-      moved_by IsCombiner _ (key k n ∷ ts) ts us c x refl v.1 v.0 (h n ts)
+      moved_by IsCombiner _ (keyword_token k n ∷ ts) ts us c x refl v.1 v.0 (h n ts)
 
   s_combines : (k : Keyword) → IfSome (s.keyword_combiner k) (Combines k)
   s_combines keyword.Sum = whole keyword.Sum combiner.Sum (λ n ts. g.sum)
@@ -67,9 +67,9 @@ module _ (limits : Limits) (fair : IsFair limits) where
   s_combines keyword.Top = λ n ts x us q.
       let d = past_number ts _ x us q in
       let v = gave (combiner.Top d.got) x d.rest us d.after in
-      moved_by IsCombiner (key keyword.Top n ∷ number d.got d.line ∷ d.rest)
-      (key keyword.Top n ∷ ts) d.rest us (combiner.Top d.got) x
-      (ap (λ z. key keyword.Top n ∷ z) d.is) v.1 v.0 g.top
+      moved_by IsCombiner (keyword_token keyword.Top n ∷ number_token d.got d.line ∷ d.rest)
+      (keyword_token keyword.Top n ∷ ts) d.rest us (combiner.Top d.got) x
+      (ap (λ z. keyword_token keyword.Top n ∷ z) d.is) v.1 v.0 g.top
   s_combines keyword.Mean = whole keyword.Mean combiner.Mean (λ n ts. g.mean)
   s_combines keyword.Distinct = whole keyword.Distinct combiner.Distinct (λ n ts. g.distinct)
   s_combines _ = tt
@@ -92,7 +92,7 @@ module _ (limits : Limits) (fair : IsFair limits) where
       let c = past_name a.rest _ ys us a.after in
       let v = gave (xs ++ c.got ∷ []) ys c.rest us c.after in
       let n = length-append xs (c.got ∷ []) in
-      let w : AreNames ts (mark sign.Comma m.line ∷ name c.got c.line ∷ c.rest) xs =
+      let w : AreNames ts (mark sign.Comma m.line ∷ name_token c.got c.line ∷ c.rest) xs =
       subst (λ z. AreNames ts z xs) (m.is ∙ ap (λ z. mark sign.Comma m.line ∷ z) c.is) e in
       subst (λ z. NamesOf ts z us) v.0 (subst (NamesOf ts (xs ++ c.got ∷ [])) v.1
       (g.more w, omega (arith, m.fewer, n)))
@@ -117,7 +117,7 @@ module _ (limits : Limits) (fair : IsFair limits) where
     n : ℕ
     m : ℕ
     vs : List Token
-    start : ts ≡ name x.0 n ∷ key keyword.By m ∷ vs
+    start : ts ≡ name_token x.0 n ∷ keyword_token keyword.By m ∷ vs
     by_ : IsCombiner vs us x.1
 
   s_combined : (ts : List Token) (x : Combined) (us : List Token)
@@ -131,8 +131,9 @@ module _ (limits : Limits) (fair : IsFair limits) where
         n = a.line;
         m = c.line;
         vs = c.rest;
-        start = a.is ∙ ap (λ z. name a.got a.line ∷ z) c.is
-            ∙ ap (λ (z : Combined). name z.0 a.line ∷ key keyword.By c.line ∷ c.rest) v.0;
+        start = a.is ∙ ap (λ z. name_token a.got a.line ∷ z) c.is
+            ∙ ap (λ (z : Combined). name_token z.0 a.line ∷ keyword_token keyword.By c.line ∷
+            c.rest) v.0;
         by_ = subst (λ (z : Combined). IsCombiner c.rest us z.1) v.0
             (subst (λ z. IsCombiner c.rest z d.got) v.1
             (s_combiner c.rest d.got d.rest d.part));
@@ -141,61 +142,69 @@ module _ (limits : Limits) (fair : IsFair limits) where
   -- what stands behind the names of a collection and a function
   s_beside : (n m k : ℕ) (c f : List ℕ) (ts : List Token) (o : Option (List ℕ)) (us : List Token)
       → s.beside ts ≡ Ok (o, us)
-      → IsOperation limits (key keyword.Do n ∷ name c m ∷ name f k ∷ ts) us (s.applied c f o)
+      → IsOperation limits (keyword_token keyword.Do n ∷ name_token c m ∷ name_token f k ∷ ts) us
+      (s.applied c f o)
   s_beside n m k c f ts o us q = by (is_at_keyword keyword.With (next ts)) q
     where
       by : (t : Bool)
           → (if t then bind (one (keyword_at keyword.With) ts) (λ _ vs. s.object vs) else give None
           ts) ≡ Ok (o, us)
-          → IsOperation limits (key keyword.Do n ∷ name c m ∷ name f k ∷ ts) us (s.applied c f o)
+          → IsOperation limits (keyword_token keyword.Do n ∷ name_token c m ∷ name_token f k ∷ ts)
+          us (s.applied c f o)
       by true p =
           let a = past_keyword keyword.With ts _ o us p in
           let d = past_name a.rest _ o us a.after in
           let v = gave (Some d.got) o d.rest us d.after in
           moved_by (IsOperation limits)
-          (key keyword.Do n ∷ name c m ∷ name f k ∷ key keyword.With a.line ∷ name d.got d.line ∷
-          d.rest) (key keyword.Do n ∷ name c m ∷ name f k ∷ ts) d.rest us
+          (keyword_token keyword.Do n ∷ name_token c m ∷ name_token f k ∷ keyword_token keyword.With
+          a.line ∷ name_token d.got d.line ∷
+          d.rest) (keyword_token keyword.Do n ∷ name_token c m ∷ name_token f k ∷ ts) d.rest us
           (operation.DoWith c f d.got) (s.applied c f o)
-          (ap (λ z. key keyword.Do n ∷ name c m ∷ name f k ∷ z) (a.is
-          ∙ ap (λ z. key keyword.With a.line ∷ z) d.is)) v.1 (ap (s.applied c f) v.0) g.do_with
+          (ap (λ z. keyword_token keyword.Do n ∷ name_token c m ∷ name_token f k ∷ z) (a.is
+          ∙ ap (λ z. keyword_token keyword.With a.line ∷ z) d.is)) v.1 (ap (s.applied c
+          f) v.0) g.do_with
       by false p =
           let v = gave None o ts us p in
-          moved_by (IsOperation limits) (key keyword.Do n ∷ name c m ∷ name f k ∷ ts)
-          (key keyword.Do n ∷ name c m ∷ name f k ∷ ts) ts us (operation.Do c f)
+          moved_by (IsOperation limits) (keyword_token keyword.Do n ∷ name_token c m ∷ name_token f
+          k ∷ ts)
+          (keyword_token keyword.Do n ∷ name_token c m ∷ name_token f k ∷ ts) ts us
+          (operation.Do c f)
           (s.applied c f o) refl v.1 (ap (s.applied c f) v.0) g.do_
 
   -- an operation on one collection, and a combination of one
   s_alone : (k : Keyword) (make : List ℕ → Operation)
       → ((n m : ℕ) (c : List ℕ) (ts : List Token)
-      → IsOperation limits (key k n ∷ name c m ∷ ts) ts (make c))
+      → IsOperation limits (keyword_token k n ∷ name_token c m ∷ ts) ts (make c))
       → (n : ℕ) (ts : List Token) (x : Operation) (us : List Token)
       → bind (one name_at ts) (λ c vs. give (make c) vs) ≡ Ok (x, us)
-      → IsOperation limits (key k n ∷ ts) us x
+      → IsOperation limits (keyword_token k n ∷ ts) us x
   s_alone k make h n ts x us q =
       let a = past_name ts _ x us q in
       let v = gave (make a.got) x a.rest us a.after in
-      moved_by (IsOperation limits) (key k n ∷ name a.got a.line ∷ a.rest) _ a.rest us
-      (make a.got) x (ap (λ z. key k n ∷ z) a.is) v.1 v.0 (h n a.line a.got a.rest)
+      moved_by (IsOperation limits) (keyword_token k n ∷ name_token a.got a.line ∷ a.rest) _ a.rest
+      us
+      (make a.got) x (ap (λ z. keyword_token k n ∷ z) a.is) v.1 v.0 (h n a.line a.got a.rest)
 
   s_by : (k : Keyword) (make : List ℕ → Combiner → Operation)
       → ((n m j : ℕ) (c : List ℕ) (b : Combiner) (ts us : List Token) → IsCombiner ts us b
-      → IsOperation limits (key k n ∷ name c m ∷ key keyword.By j ∷ ts) us (make c b))
+      → IsOperation limits (keyword_token k n ∷ name_token c m ∷ keyword_token keyword.By j ∷ ts) us
+      (make c b))
       → (n : ℕ) (ts : List Token) (x : Operation) (us : List Token)
       → bind (s.by_combiner ts) (λ y vs. give (make y.0 y.1) vs) ≡ Ok (x, us)
-      → IsOperation limits (key k n ∷ ts) us x
+      → IsOperation limits (keyword_token k n ∷ ts) us x
   s_by k make h n ts x us q =
       let a = bound (s.by_combiner ts) _ x us q in
       let c = s_combined ts a.got a.rest a.part in
       let v = gave (make a.got.0 a.got.1) x a.rest us a.after in
       moved_by (IsOperation limits)
-      (key k n ∷ name a.got.0 c.n ∷ key keyword.By c.m ∷ c.vs) _ a.rest us
-      (make a.got.0 a.got.1) x (ap (λ z. key k n ∷ z) c.start) v.1 v.0
+      (keyword_token k n ∷ name_token a.got.0 c.n ∷ keyword_token keyword.By c.m ∷ c.vs) _ a.rest us
+      (make a.got.0 a.got.1) x (ap (λ z. keyword_token k n ∷ z) c.start) v.1 v.0
       (h n c.n c.m a.got.0 a.got.1 c.vs a.rest c.by_)
 
   -- an operation, behind the keyword that it begins with
   abbrev pub Operates : Keyword → OperationStart → Type 0
   Operates k z = (n : ℕ) (ts : List Token) (x : Operation) (us : List Token)
-      → s.after_begin limits z ts ≡ Ok (x, us) → IsOperation limits (key k n ∷ ts) us x
+      → s.after_begin limits z ts ≡ Ok (x, us) → IsOperation limits (keyword_token k n ∷ ts) us x
 
   pub s_operates : (k : Keyword) → IfSome (s.keyword_operation k) (Operates k)
   s_operates keyword.Do = λ n ts x us q.
@@ -204,9 +213,10 @@ module _ (limits : Limits) (fair : IsFair limits) where
       let d = bound (s.beside c.rest) _ x us c.after in
       let v = gave (s.applied a.got c.got d.got) x d.rest us d.after in
       moved_by (IsOperation limits)
-      (key keyword.Do n ∷ name a.got a.line ∷ name c.got c.line ∷ c.rest) _ d.rest us
-      (s.applied a.got c.got d.got) x (ap (λ z. key keyword.Do n ∷ z) (a.is
-      ∙ ap (λ z. name a.got a.line ∷ z) c.is)) v.1 v.0
+      (keyword_token keyword.Do n ∷ name_token a.got a.line ∷ name_token c.got c.line ∷ c.rest) _
+      d.rest us
+      (s.applied a.got c.got d.got) x (ap (λ z. keyword_token keyword.Do n ∷ z) (a.is
+      ∙ ap (λ z. name_token a.got a.line ∷ z) c.is)) v.1 v.0
       (s_beside n a.line c.line a.got c.got c.rest d.got d.rest d.part)
   s_operates keyword.Group = s_alone keyword.Group operation.Group (λ n m c ts. g.group)
   s_operates keyword.Combine =
@@ -215,7 +225,7 @@ module _ (limits : Limits) (fair : IsFair limits) where
       let a = bound (s.inputs limits ts) _ x us q in
       let f = s_inputs ts a.got a.rest a.part in
       let v = gave (operation.Flatten a.got) x a.rest us a.after in
-      moved_by (IsOperation limits) (key keyword.Flatten n ∷ ts) _ a.rest us
+      moved_by (IsOperation limits) (keyword_token keyword.Flatten n ∷ ts) _ a.rest us
       (operation.Flatten a.got) x refl v.1 v.0 (g.flatten f.0 f.1)
   s_operates keyword.Count = s_alone keyword.Count operation.Count (λ n m c ts. g.count)
   s_operates keyword.Join = λ n ts x us q.
@@ -223,18 +233,22 @@ module _ (limits : Limits) (fair : IsFair limits) where
       let c = past_sign sign.Comma a.rest _ x us a.after in
       let d = past_name c.rest _ x us c.after in
       let v = gave (operation.Join a.got d.got) x d.rest us d.after in
-      moved_by (IsOperation limits) (key keyword.Join n ∷ name a.got a.line ∷ mark sign.Comma c.line
-      ∷ name d.got d.line ∷ d.rest) _ d.rest us (operation.Join a.got d.got) x
-      (ap (λ z. key keyword.Join n ∷ z) (a.is
-      ∙ ap (λ z. name a.got a.line ∷ z) (c.is ∙ ap (λ z. mark sign.Comma c.line ∷ z) d.is))) v.1
+      moved_by (IsOperation limits) (keyword_token keyword.Join n ∷ name_token a.got a.line ∷ mark
+      sign.Comma c.line
+      ∷ name_token d.got d.line ∷ d.rest) _ d.rest us (operation.Join a.got d.got) x
+      (ap (λ z. keyword_token keyword.Join n ∷ z) (a.is
+      ∙ ap (λ z. name_token a.got a.line ∷ z) (c.is ∙ ap (λ z. mark sign.Comma c.line ∷ z) d.is)))
+      v.1
       v.0 g.join
   s_operates keyword.Top = λ n ts x us q.
       let a = past_number ts _ x us q in
       let c = past_name a.rest _ x us a.after in
       let v = gave (operation.Top a.got c.got) x c.rest us c.after in
-      moved_by (IsOperation limits) (key keyword.Top n ∷ number a.got a.line ∷ name c.got c.line ∷
-      c.rest) _ c.rest us (operation.Top a.got c.got) x (ap (λ z. key keyword.Top n ∷ z) (a.is
-      ∙ ap (λ z. number a.got a.line ∷ z) c.is)) v.1 v.0 g.top
+      moved_by (IsOperation limits) (keyword_token keyword.Top n ∷ number_token a.got a.line ∷
+      name_token c.got c.line ∷
+      c.rest) _ c.rest us (operation.Top a.got c.got) x (ap (λ z. keyword_token keyword.Top n ∷ z)
+      (a.is
+      ∙ ap (λ z. number_token a.got a.line ∷ z) c.is)) v.1 v.0 g.top
   s_operates keyword.Combineall =
       s_by keyword.Combineall operation.CombineAll (λ n m j c b ts us h. g.combine_all h)
   s_operates keyword.Operate = λ n ts x us q.
@@ -243,9 +257,11 @@ module _ (limits : Limits) (fair : IsFair limits) where
       let c = past_keyword keyword.By a.rest _ x us a.after in
       let d = past_name c.rest _ x us c.after in
       let v = gave (operation.Operate a.got d.got) x d.rest us d.after in
-      let names : AreNames ts (key keyword.By c.line ∷ name d.got d.line ∷ d.rest) a.got
-      = subst (λ z. AreNames ts z a.got) (c.is ∙ ap (λ z. key keyword.By c.line ∷ z) d.is) f.0 in
-      moved_by (IsOperation limits) (key keyword.Operate n ∷ ts) _ d.rest us
+      let names : AreNames ts (keyword_token keyword.By c.line ∷ name_token d.got d.line ∷ d.rest)
+      a.got
+      = subst (λ z. AreNames ts z a.got) (c.is ∙ ap (λ z. keyword_token keyword.By c.line ∷ z) d.is)
+      f.0 in
+      moved_by (IsOperation limits) (keyword_token keyword.Operate n ∷ ts) _ d.rest us
       (operation.Operate a.got d.got) x refl v.1 v.0 (g.operate names f.1)
   s_operates _ = tt
 

@@ -13,12 +13,12 @@ use Rattle.flume_grammar.specs.declared.tree.Expr.{Expr}
 use Rattle.flume_grammar.specs.declared.tree.Expr.TheVariants as tree
 use Rattle.flume_grammar.specs.inner.Out.{Out, bind, one, all_of}
 use Rattle.flume_grammar.specs.inner.Reading.{comma_at}
-use Rattle.flume_grammar.specs.Parts.{none, with_part}
+use Rattle.flume_grammar.specs.Parts.{none, with_named_part}
 use Rattle.flume_grammar.specs.inner.Types.{at_comma, whole_type}
 use Rattle.flume_grammar.specs.inner.Expressions.{so_far, Inner, empty, field, next_field, record_, Members, next_member, list, argument, call, sided, concat, pick}
 use Rattle.flume_grammar.specs.Grammar as g
-use Rattle.flume_grammar.specs.Terminals.{key, mark}
-use Rattle.flume_grammar.specs.Grammar.{IsWholeType, IsExpr, AreFields, AreMembers, call_of, side_of}
+use Rattle.flume_grammar.specs.Terminals.{keyword_token, mark}
+use Rattle.flume_grammar.specs.Grammar.{IsWholeType, IsExpr, AreFields, AreMembers, unary_call, side_keyword}
 use Rattle.flume_grammar.proofs.Sound.{bound, gave}
 use Rattle.flume_grammar.proofs.SoundTokens.{past_sign, comma_read}
 use Rattle.flume_grammar.proofs.SoundLoops.{field_read, kept_all}
@@ -42,7 +42,7 @@ module _ (limits : Limits) (fair : IsFair limits) where
     s_first ts p us q =
         let f = field_read (IsExpr limits 1) (inner 1) one_inner none ts p us q in
         subst (λ z. FieldsOf ts z us) f.is
-        (subst (λ z. FieldsOf z (with_part none f.name_ f.part f.depth) us) (sym f.start)
+        (subst (λ z. FieldsOf z (with_named_part none f.name_ f.part f.depth) us) (sym f.start)
         (g.first f.is_word f.spelled, omega arith))
 
     s_more : (ts : List Token) (p : Parts Expr) (vs : List Token) (q : Parts Expr) (us : List Token)
@@ -144,7 +144,7 @@ module _ (limits : Limits) (fair : IsFair limits) where
           after = c.after;
         }
 
-    pub s_empty : Shows (key keyword.Empty) (empty limits)
+    pub s_empty : Shows (keyword_token keyword.Empty) (empty limits)
     s_empty n ts x us q =
         let a = past_sign sign.Less ts _ x us q in
         let b = bound (whole_type limits a.rest) _ x us a.after in
@@ -153,13 +153,14 @@ module _ (limits : Limits) (fair : IsFair limits) where
         let w : (IsWholeType limits) a.rest (mark sign.Greater c.line ∷ c.rest) b.got = subst
         (λ z. (IsWholeType limits) a.rest z b.got) c.is
         ((sound_whole limits fair) a.rest b.got b.rest b.part) in
-        so_moved limits fair 8 (key keyword.Empty n ∷ mark sign.Less a.line ∷ a.rest)
-        (key keyword.Empty n ∷ ts)
-        c.rest us (so_far 8 (tree.Empty b.got) 1) x (ap (λ z. key keyword.Empty n ∷ z) a.is) v.1
+        so_moved limits fair 8 (keyword_token keyword.Empty n ∷ mark sign.Less a.line ∷ a.rest)
+        (keyword_token keyword.Empty n ∷ ts)
+        c.rest us (so_far 8 (tree.Empty b.got) 1) x (ap (λ z. keyword_token keyword.Empty n ∷ z)
+        a.is) v.1
         v.0 (g.empty w, lit≤ tt)
 
-    pub s_sided : (k : Keyword) (s : Side) → side_of k ≡ Some s
-        → Shows (key k) (sided limits inner s)
+    pub s_sided : (k : Keyword) (s : Side) → side_keyword k ≡ Some s
+        → Shows (keyword_token k) (sided limits inner s)
     s_sided k s e n ts x us q =
         let a = past_sign sign.Less ts _ x us q in
         let b = bound (whole_type limits a.rest) _ x us a.after in
@@ -172,32 +173,38 @@ module _ (limits : Limits) (fair : IsFair limits) where
         subst (λ z. (IsWholeType limits) a.rest z b.got) (c.is
         ∙ ap (λ z. mark sign.Greater c.line ∷ z) d.is)
         ((sound_whole limits fair) a.rest b.got b.rest b.part) in
-        so_moved limits fair 8 (key k n ∷ mark sign.Less a.line ∷ a.rest) (key k n ∷ ts) f.rest us
-        (so_far 8 (tree.Side s b.got f.got.0) (f.got.1 + 1)) x (ap (λ z. key k n ∷ z) a.is) v.1
+        so_moved limits fair 8 (keyword_token k n ∷ mark sign.Less a.line ∷ a.rest)
+        (keyword_token k n ∷ ts) f.rest us
+        (so_far 8 (tree.Side s b.got f.got.0) (f.got.1 + 1)) x
+        (ap (λ z. keyword_token k n ∷ z) a.is) v.1
         v.0 (g.sided e w f.spelled, lit≤ tt)
 
-    pub s_call : (k : Keyword) (u : Unary) → call_of k ≡ Some u → Shows (key k) (call inner u)
+    pub s_call : (k : Keyword) (u : Unary) → unary_call k ≡ Some u
+        → Shows (keyword_token k) (call inner u)
     s_call k u e n ts x us q =
         let a = past_sign sign.Open ts _ x us q in
         let b = past_argument sign.Close a.rest _ x us a.after in
         let v = gave (so_far 8 (tree.Unary u b.got.0) (b.got.1 + 1)) x b.rest us b.after in
-        so_moved limits fair 8 (key k n ∷ mark sign.Open a.line ∷ a.rest) (key k n ∷ ts) b.rest us
-        (so_far 8 (tree.Unary u b.got.0) (b.got.1 + 1)) x (ap (λ z. key k n ∷ z) a.is) v.1 v.0
+        so_moved limits fair 8 (keyword_token k n ∷ mark sign.Open a.line ∷ a.rest)
+        (keyword_token k n ∷ ts) b.rest us
+        (so_far 8 (tree.Unary u b.got.0) (b.got.1 + 1)) x (ap (λ z. keyword_token k n ∷ z) a.is) v.1
+        v.0
         (g.call e b.spelled, lit≤ tt)
 
-    pub s_concat : Shows (key keyword.Concat) (concat inner)
+    pub s_concat : Shows (keyword_token keyword.Concat) (concat inner)
     s_concat n ts x us q =
         let a = past_sign sign.Open ts _ x us q in
         let b = past_argument sign.Comma a.rest _ x us a.after in
         let c = past_argument sign.Close b.rest _ x us b.after in
         let v = gave (so_far 8 (tree.Concat b.got.0 c.got.0) (max b.got.1 c.got.1 + 1)) x c.rest us
         c.after in
-        so_moved limits fair 8 (key keyword.Concat n ∷ mark sign.Open a.line ∷ a.rest)
-        (key keyword.Concat n ∷ ts) c.rest us
+        so_moved limits fair 8 (keyword_token keyword.Concat n ∷ mark sign.Open a.line ∷ a.rest)
+        (keyword_token keyword.Concat n ∷ ts) c.rest us
         (so_far 8 (tree.Concat b.got.0 c.got.0) (max b.got.1 c.got.1 + 1)) x
-        (ap (λ z. key keyword.Concat n ∷ z) a.is) v.1 v.0 (g.concat b.spelled c.spelled, lit≤ tt)
+        (ap (λ z. keyword_token keyword.Concat n ∷ z) a.is) v.1 v.0
+        (g.concat b.spelled c.spelled, lit≤ tt)
 
-    pub s_pick : Shows (key keyword.Pick) (pick inner)
+    pub s_pick : Shows (keyword_token keyword.Pick) (pick inner)
     s_pick n ts x us q =
         let a = past_sign sign.Open ts _ x us q in
         let b = past_argument sign.Comma a.rest _ x us a.after in
@@ -206,10 +213,10 @@ module _ (limits : Limits) (fair : IsFair limits) where
         let y = so_far 8 (tree.Pick b.got.0 c.got.0 d.got.0)
         (max (max b.got.1 c.got.1) d.got.1 + 1) in
         let v = gave y x d.rest us d.after in
-        so_moved limits fair 8 (key keyword.Pick n ∷ mark sign.Open a.line ∷ a.rest)
-        (key keyword.Pick n ∷ ts)
+        so_moved limits fair 8 (keyword_token keyword.Pick n ∷ mark sign.Open a.line ∷ a.rest)
+        (keyword_token keyword.Pick n ∷ ts)
         d.rest us y x
-        (ap (λ z. key keyword.Pick n ∷ z) a.is) v.1 v.0 (
+        (ap (λ z. keyword_token keyword.Pick n ∷ z) a.is) v.1 v.0 (
           g.pick b.spelled c.spelled d.spelled,
           lit≤ tt,
         )

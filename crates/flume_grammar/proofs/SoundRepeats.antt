@@ -7,7 +7,7 @@ use Rattle.flume_grammar.specs.declared.tree.TurnLet.{TurnLet}
 use Rattle.flume_grammar.specs.declared.tree.Repeat.{Repeat}
 use Rattle.flume_grammar.specs.inner.Statements as s
 use Rattle.flume_grammar.specs.Grammar as g
-use Rattle.flume_grammar.specs.Terminals.{key, mark, number}
+use Rattle.flume_grammar.specs.Terminals.{keyword_token, mark, number_token}
 use Rattle.flume_grammar.specs.Grammar.{AreNames, IsLet, AreLets, IsRepeat}
 use Rattle.flume_grammar.proofs.Sound.{bound, gave, moved_by}
 use Rattle.flume_grammar.proofs.SoundTokens.{past_sign, past_keyword, past_number, past_let}
@@ -23,8 +23,8 @@ Head = List ℕ × List (List ℕ) × List (List ℕ)
 -- num "from" name { "," name } "as" name { "," name }
 data IsHead : List Token → List Token → Head → Type 0 where
   head : {digits : List ℕ} {xs ys : List (List ℕ)} {n m k : ℕ} {ts us vs : List Token}
-      → AreNames ts (key keyword.As k ∷ us) xs → AreNames us vs ys
-      → IsHead (number digits n ∷ key keyword.From m ∷ ts) vs (digits, xs, ys)
+      → AreNames ts (keyword_token keyword.As k ∷ us) xs → AreNames us vs ys
+      → IsHead (number_token digits n ∷ keyword_token keyword.From m ∷ ts) vs (digits, xs, ys)
 
 s_head : (ts : List Token) (x : Head) (us : List Token) → s.repeat_head ts ≡ Ok (x, us)
     → IsHead ts us x
@@ -36,8 +36,9 @@ s_head ts x us q =
     let f = bound (s.names e.rest) _ x us e.after in
     let own : Head = (a.got, d.got, f.got) in
     let v = gave own x f.rest us f.after in
-    moved_by IsHead (number a.got a.line ∷ key keyword.From c.line ∷ c.rest) ts f.rest us own x
-    (a.is ∙ ap (λ z. number a.got a.line ∷ z) c.is) v.1 v.0
+    moved_by IsHead (number_token a.got a.line ∷ keyword_token keyword.From c.line ∷ c.rest) ts
+    f.rest us own x
+    (a.is ∙ ap (λ z. number_token a.got a.line ∷ z) c.is) v.1 v.0
     (head (subst (λ z. AreNames c.rest z d.got) e.is (s_names c.rest d.got d.rest d.part))
     (s_names e.rest f.got f.rest f.part))
 
@@ -48,7 +49,7 @@ Inside = List TurnLet × List (List ℕ)
 -- "{" { let } "give" name { "," name } "}"
 data IsInside (limits : Limits) : List Token → List Token → Inside → Type 0 where
   inside : {ls : List TurnLet} {xs : List (List ℕ)} {n m k : ℕ} {ts us vs : List Token}
-      → AreLets limits ts (key keyword.Give m ∷ us) ls
+      → AreLets limits ts (keyword_token keyword.Give m ∷ us) ls
       → AreNames us (mark sign.CloseBrace k ∷ vs) xs
       → IsInside limits (mark sign.OpenBrace n ∷ ts) vs (ls, xs)
 
@@ -68,7 +69,7 @@ module _ (limits : Limits) (fair : IsFair limits) where
       let v = gave own x e.rest us e.after in
       let y : AreNames a.rest (mark sign.Assign d.line ∷ d.rest) c.got = subst
       (λ z. AreNames a.rest z c.got) d.is (s_names a.rest c.got c.rest c.part) in
-      moved_by (IsLet limits) (key keyword.Let a.got ∷ a.rest) ts e.rest us own x
+      moved_by (IsLet limits) (keyword_token keyword.Let a.got ∷ a.rest) ts e.rest us own x
       a.is v.1 v.0
       (g.let_ y (s_operation limits fair d.rest e.got e.rest e.part))
 
@@ -95,16 +96,19 @@ module _ (limits : Limits) (fair : IsFair limits) where
       (subst (λ z. AreNames d.rest z e.got) f.is (s_names d.rest e.got e.rest e.part)))
 
   joined : {n : ℕ} {ts us vs : List Token} {h : Head} {b : Inside} → IsHead ts us h
-      → IsInside limits us vs b → IsRepeat limits (key keyword.Repeat n ∷ ts) vs (repeat_of h b)
+      → IsInside limits us vs b
+      → IsRepeat limits (keyword_token keyword.Repeat n ∷ ts) vs (repeat_of h b)
   joined (head from entering) (inside lets gives) = g.repeat_ from entering lets gives
 
   pub s_repeat : (n : ℕ) (ts : List Token) (x : Repeat) (us : List Token)
-      → s.repeat_at limits ts ≡ Ok (x, us) → IsRepeat limits (key keyword.Repeat n ∷ ts) us x
+      → s.repeat_at limits ts ≡ Ok (x, us)
+      → IsRepeat limits (keyword_token keyword.Repeat n ∷ ts) us x
   s_repeat n ts x us q =
       let a = bound (s.repeat_head ts) _ x us q in
       let c = bound (s.repeat_body limits a.rest) _ x us a.after in
       let own = repeat_of a.got c.got in
       let v = gave own x c.rest us c.after in
-      moved_by (IsRepeat limits) (key keyword.Repeat n ∷ ts) (key keyword.Repeat n ∷ ts) c.rest us
+      moved_by (IsRepeat limits) (keyword_token keyword.Repeat n ∷ ts)
+      (keyword_token keyword.Repeat n ∷ ts) c.rest us
       own x refl v.1 v.0
       (joined (s_head ts a.got a.rest a.part) (s_body a.rest c.got c.rest c.part))

@@ -10,7 +10,7 @@ use Rattle.flume_grammar.specs.inner.Out.{one}
 use Rattle.flume_grammar.specs.inner.Reading.{of_keyword}
 use Rattle.flume_grammar.specs.inner.Statements as s
 use Rattle.flume_grammar.specs.Grammar as g
-use Rattle.flume_grammar.specs.Terminals.{key}
+use Rattle.flume_grammar.specs.Terminals.{keyword_token}
 use Rattle.flume_grammar.specs.Grammar.{IsStatement, AreStatements, IsScript}
 use Rattle.flume_grammar.proofs.Sound.{bound, gave, moved_by, one_token}
 use Rattle.flume_grammar.proofs.SoundLoops.{kept_list}
@@ -47,8 +47,9 @@ module _ (limits : Limits) (fair : IsFair limits) where
       let c = bound (s.form_at limits a.got.0 a.rest) _ x us a.after in
       let y : Statement = record { line = a.got.1; form = c.got } in
       let v = gave y x c.rest us c.after in
-      moved_by (IsStatement limits) (key k.0 a.got.1 ∷ a.rest) ts c.rest us y x
-      (t.is ∙ ap (λ z. z ∷ a.rest) (of_kind t.token (kind.Keyword k.0) k.1 ∙ ap (key k.0) i.1))
+      moved_by (IsStatement limits) (keyword_token k.0 a.got.1 ∷ a.rest) ts c.rest us y x
+      (t.is ∙ ap (λ z. z ∷ a.rest) (of_kind t.token (kind.Keyword k.0) k.1 ∙ ap (keyword_token k.0)
+      i.1))
       v.1 v.0 (k.2 a.got.1 a.rest c.got c.rest c.part)
 
   -- what is read to the end is a script

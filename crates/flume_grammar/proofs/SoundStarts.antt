@@ -16,8 +16,8 @@ use Rattle.flume_grammar.specs.declared.tree.Expr.TheVariants as tree
 use Rattle.flume_grammar.specs.inner.Out.{at, one}
 use Rattle.flume_grammar.specs.inner.Expressions.{keyword_start, sign_start, start_of, fits, is_leaf, started, operand_start, Inner}
 use Rattle.flume_grammar.specs.Grammar as g
-use Rattle.flume_grammar.specs.Terminals.{key, mark}
-use Rattle.flume_grammar.specs.Grammar.{IsExpr, call_of, side_of}
+use Rattle.flume_grammar.specs.Terminals.{keyword_token, mark}
+use Rattle.flume_grammar.specs.Grammar.{IsExpr, unary_call, side_keyword}
 use Rattle.flume_grammar.proofs.Sound.{one_token}
 use Rattle.flume_grammar.specs.Limits.{Limits}
 use Rattle.flume_grammar.proofs.Fair.{IsFair}
@@ -30,25 +30,25 @@ module _ (limits : Limits) (fair : IsFair limits) where
     -- how an operand began, with the tokens from there on
     abbrev pub Begun : Start → List Token → List Token → Type 0
     Begun (start.Leaf e) ts us = IsExpr limits 8 ts us e 1
-    Begun start.Empty ts us = (n : ℕ) × (ts ≡ key keyword.Empty n ∷ us)
+    Begun start.Empty ts us = (n : ℕ) × (ts ≡ keyword_token keyword.Empty n ∷ us)
     Begun start.Record ts us = (n : ℕ) × (ts ≡ mark sign.OpenBrace n ∷ us)
     Begun start.List ts us = (n : ℕ) × (ts ≡ mark sign.OpenBracket n ∷ us)
-    Begun (start.Side s) ts us = (k : Keyword) × (n : ℕ) × (side_of k ≡ Some s)
-        × (ts ≡ key k n ∷ us)
-    Begun (start.Prefix unary.Not) ts us = (n : ℕ) × (ts ≡ key keyword.Not n ∷ us)
+    Begun (start.Side s) ts us = (k : Keyword) × (n : ℕ) × (side_keyword k ≡ Some s)
+        × (ts ≡ keyword_token k n ∷ us)
+    Begun (start.Prefix unary.Not) ts us = (n : ℕ) × (ts ≡ keyword_token keyword.Not n ∷ us)
     Begun (start.Prefix unary.Negate) ts us = (n : ℕ) × (ts ≡ mark sign.Minus n ∷ us)
     Begun (start.Prefix u) ts us = ⊥
-    Begun (start.Call u) ts us = (k : Keyword) × (n : ℕ) × (call_of k ≡ Some u)
-        × (ts ≡ key k n ∷ us)
-    Begun start.Concat ts us = (n : ℕ) × (ts ≡ key keyword.Concat n ∷ us)
-    Begun start.Pick ts us = (n : ℕ) × (ts ≡ key keyword.Pick n ∷ us)
+    Begun (start.Call u) ts us = (k : Keyword) × (n : ℕ) × (unary_call k ≡ Some u)
+        × (ts ≡ keyword_token k n ∷ us)
+    Begun start.Concat ts us = (n : ℕ) × (ts ≡ keyword_token keyword.Concat n ∷ us)
+    Begun start.Pick ts us = (n : ℕ) × (ts ≡ keyword_token keyword.Pick n ∷ us)
 
     begun_by : (s r : Start) (ts us : List Token) → (let x : Option Start = Some s in x) ≡ Some r
         → Begun s ts us → Begun r ts us
     begun_by s r ts us q h = let e : s ≡ r = cc in subst (λ z. Begun z ts us) e h
 
     begun_key : (n : ℕ) (k : Keyword) (s : Start) (us : List Token) → keyword_start k ≡ Some s
-        → Begun s (key k n ∷ us) us
+        → Begun s (keyword_token k n ∷ us) us
     begun_key n keyword.True s us q = begun_by (start.Leaf (tree.Bool true)) s _ us q g.true_
     begun_key n keyword.False s us q = begun_by (start.Leaf (tree.Bool false)) s _ us q g.false_
     begun_key n keyword.Empty s us q = begun_by start.Empty s _ us q (n, refl)

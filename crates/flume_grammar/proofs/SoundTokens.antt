@@ -15,7 +15,7 @@ use Rattle.flume_grammar.specs.declared.fault.Stop.{Stop}
 use Rattle.flume_grammar.specs.inner.Out.{Out, give, bind, one, next}
 use Rattle.flume_grammar.specs.inner.Reading.{is_sign, is_keyword, sign_at, keyword_at, name_of, name_at, word_at, number_of, number_at, text_of, text_at, comma_at, or_syntax, of_keyword, is_at_keyword, numbered}
 use Rattle.flume_grammar.specs.inner.Statements.{line_of_let}
-use Rattle.flume_grammar.specs.Terminals.{word_of, key, mark, name, number, text}
+use Rattle.flume_grammar.specs.Terminals.{word_of, keyword_token, mark, name_token, number_token, text_token}
 use Rattle.flume_grammar.specs.Grammar.{IsOptionalNumber, absent, present}
 use Rattle.flume_grammar.proofs.Sound.{bound, gave, moved_by, one_token}
 
@@ -86,31 +86,31 @@ past_sign s = past (λ _. mark s) (sign_at s) (λ t u q.
 
 pub past_keyword : {B : Type 0} (k : Keyword) (ts : List Token) (f : Unit {0} → List Token → Out B)
     (b : B) (vs : List Token) → bind (one (keyword_at k) ts) f ≡ Ok (b, vs)
-    → Past (λ _. key k) f ts b vs
-past_keyword k = past (λ _. key k) (keyword_at k) (λ t u q.
+    → Past (λ _. keyword_token k) f ts b vs
+past_keyword k = past (λ _. keyword_token k) (keyword_at k) (λ t u q.
     of_kind t (kind.Keyword k) (keyword_kind k t.kind (chosen (is_keyword k t.kind) _ tt u q).0))
 
 -- the line on which a let begins
 pub past_let : {B : Type 0} (ts : List Token) (f : ℕ → List Token → Out B) (b : B)
     (vs : List Token) → bind (one line_of_let ts) f ≡ Ok (b, vs)
-    → Past (λ n _. key keyword.Let n) f ts b vs
-past_let = past (λ n _. key keyword.Let n) line_of_let (λ t n q.
+    → Past (λ n _. keyword_token keyword.Let n) f ts b vs
+past_let = past (λ n _. keyword_token keyword.Let n) line_of_let (λ t n q.
     let c = chosen (is_keyword keyword.Let t.kind) _ t.line n q in
     of_kind t (kind.Keyword keyword.Let) (keyword_kind keyword.Let t.kind c.0)
-    ∙ ap (key keyword.Let) c.1)
+    ∙ ap (keyword_token keyword.Let) c.1)
 
 module _ {B : Type 0} (ts : List Token) (f : List ℕ → List Token → Out B) (b : B)
     (vs : List Token) where
-  pub past_name : bind (one name_at ts) f ≡ Ok (b, vs) → Past name f ts b vs
-  past_name = past name name_at (λ t x q. of_kind t (kind.Name x)
+  pub past_name : bind (one name_at ts) f ≡ Ok (b, vs) → Past name_token f ts b vs
+  past_name = past name_token name_at (λ t x q. of_kind t (kind.Name x)
       ((content_kind t.kind x).0 (some_of t (name_of t.kind) x q))) ts f b vs
 
-  pub past_number : bind (one number_at ts) f ≡ Ok (b, vs) → Past number f ts b vs
-  past_number = past number number_at (λ t x q. of_kind t (kind.Number x)
+  pub past_number : bind (one number_at ts) f ≡ Ok (b, vs) → Past number_token f ts b vs
+  past_number = past number_token number_at (λ t x q. of_kind t (kind.Number x)
       ((content_kind t.kind x).1 (some_of t (number_of t.kind) x q))) ts f b vs
 
-  pub past_text : bind (one text_at ts) f ≡ Ok (b, vs) → Past text f ts b vs
-  past_text = past text text_at (λ t x q. of_kind t (kind.Text x)
+  pub past_text : bind (one text_at ts) f ≡ Ok (b, vs) → Past text_token f ts b vs
+  past_text = past text_token text_at (λ t x q. of_kind t (kind.Text x)
       ((content_kind t.kind x).2 (some_of t (text_of t.kind) x q))) ts f b vs
 
 -- ---- what a keyword begins
@@ -129,7 +129,7 @@ pub record Begun {A B : Type 0} (P : Keyword → A → Type 0) (f : A → List T
   pub got : A
   pub line : ℕ
   pub rest : List Token
-  pub is : ts ≡ key word line ∷ rest
+  pub is : ts ≡ keyword_token word line ∷ rest
   pub holds : P word got
   pub after : f got rest ≡ Ok (b, vs)
 
@@ -200,7 +200,8 @@ numbered_read k ts x us q = by (is_at_keyword k (next ts)) q
         let a = past_keyword k ts _ x us p in
         let c = past_number a.rest _ x us a.after in
         let v = gave (Some c.got) x c.rest us c.after in
-        moved_by (IsOptionalNumber k) (key k a.line ∷ number c.got c.line ∷ c.rest) ts c.rest us
-        (Some c.got) x (a.is ∙ ap (λ z. key k a.line ∷ z) c.is) v.1 v.0 present
+        moved_by (IsOptionalNumber k) (keyword_token k a.line ∷ number_token c.got c.line ∷ c.rest)
+        ts c.rest us
+        (Some c.got) x (a.is ∙ ap (λ z. keyword_token k a.line ∷ z) c.is) v.1 v.0 present
     by false p = let v = gave None x ts us p in
         moved_by (IsOptionalNumber k) ts ts ts us None x refl v.1 v.0 absent

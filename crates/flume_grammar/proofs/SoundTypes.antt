@@ -14,8 +14,8 @@ use Rattle.flume_grammar.specs.declared.start.TypeStart.TheVariants as type_star
 use Rattle.flume_grammar.specs.declared.tree.Type.TheVariants as type_tree
 use Rattle.flume_grammar.specs.inner.Out.{give, bind, at, one, all_of}
 use Rattle.flume_grammar.specs.inner.Reading.{comma_at}
-use Rattle.flume_grammar.specs.Terminals.{key, mark, name}
-use Rattle.flume_grammar.specs.Parts.{Tree, none, with_part}
+use Rattle.flume_grammar.specs.Terminals.{keyword_token, mark, name_token}
+use Rattle.flume_grammar.specs.Parts.{Tree, none, with_named_part}
 use Rattle.flume_grammar.specs.inner.Types.{Inner, kind_type, keyword_type, deep_start, type_start, list_type, pair_type, field_type, next_field_type, at_comma, record_type, after_start, type_layer, type_within, whole_type}
 use Rattle.flume_grammar.specs.Grammar.{IsWholeType, IsType, int, bool, text_, named, list, either, table, record_, AreFieldTypes, first, next as next_type_}
 use Rattle.flume_grammar.specs.Limits.{Limits}
@@ -37,9 +37,9 @@ module _ (limits : Limits) (fair : IsFair limits) where
   -- how a type began, with the tokens from there on
   abbrev Started : TypeStart → List Token → List Token → Type 0
   Started (type_start_.Leaf t) ts us = IsType limits ts us t 1
-  Started type_start_.List ts us = (n : ℕ) × (ts ≡ key keyword.List n ∷ us)
-  Started type_start_.Either ts us = (n : ℕ) × (ts ≡ key keyword.Either n ∷ us)
-  Started type_start_.Table ts us = (n : ℕ) × (ts ≡ key keyword.Table n ∷ us)
+  Started type_start_.List ts us = (n : ℕ) × (ts ≡ keyword_token keyword.List n ∷ us)
+  Started type_start_.Either ts us = (n : ℕ) × (ts ≡ keyword_token keyword.Either n ∷ us)
+  Started type_start_.Table ts us = (n : ℕ) × (ts ≡ keyword_token keyword.Table n ∷ us)
   Started type_start_.Record ts us = (n : ℕ) × (ts ≡ mark sign.OpenBrace n ∷ us)
 
   deep_inv : (limit : ℕ) (t : Token) (s r : TypeStart) → deep_start limit t s ≡ Ok r → s ≡ r
@@ -50,19 +50,22 @@ module _ (limits : Limits) (fair : IsFair limits) where
       by false p = cc
 
   started_key : (limit n : ℕ) (k : Keyword) (s : TypeStart) (us : List Token)
-      → keyword_type k limit (key k n) ≡ Ok s → Started s (key k n ∷ us) us
+      → keyword_type k limit (keyword_token k n) ≡ Ok s → Started s (keyword_token k n ∷ us) us
   started_key limit n keyword.Int s us q = let e : type_start_.Leaf type_tree.Int ≡ s = cc in
-      subst (λ z. Started z (key keyword.Int n ∷ us) us) e int
+      subst (λ z. Started z (keyword_token keyword.Int n ∷ us) us) e int
   started_key limit n keyword.Bool s us q = let e : type_start_.Leaf type_tree.Bool ≡ s = cc in
-      subst (λ z. Started z (key keyword.Bool n ∷ us) us) e bool
+      subst (λ z. Started z (keyword_token keyword.Bool n ∷ us) us) e bool
   started_key limit n keyword.Text s us q = let e : type_start_.Leaf type_tree.Text ≡ s = cc in
-      subst (λ z. Started z (key keyword.Text n ∷ us) us) e text_
-  started_key limit n keyword.List s us q = subst (λ z. Started z (key keyword.List n ∷ us) us)
-      (deep_inv limit (key keyword.List n) type_start_.List s q) (n, refl)
-  started_key limit n keyword.Either s us q = subst (λ z. Started z (key keyword.Either n ∷ us) us)
-      (deep_inv limit (key keyword.Either n) type_start_.Either s q) (n, refl)
-  started_key limit n keyword.Table s us q = subst (λ z. Started z (key keyword.Table n ∷ us) us)
-      (deep_inv limit (key keyword.Table n) type_start_.Table s q) (n, refl)
+      subst (λ z. Started z (keyword_token keyword.Text n ∷ us) us) e text_
+  started_key limit n keyword.List s us q =
+      subst (λ z. Started z (keyword_token keyword.List n ∷ us) us)
+      (deep_inv limit (keyword_token keyword.List n) type_start_.List s q) (n, refl)
+  started_key limit n keyword.Either s us q =
+      subst (λ z. Started z (keyword_token keyword.Either n ∷ us) us)
+      (deep_inv limit (keyword_token keyword.Either n) type_start_.Either s q) (n, refl)
+  started_key limit n keyword.Table s us q =
+      subst (λ z. Started z (keyword_token keyword.Table n ∷ us) us)
+      (deep_inv limit (keyword_token keyword.Table n) type_start_.Table s q) (n, refl)
   started_key limit n _ s us q = cc
 
   started_sign : (limit n : ℕ) (k : Sign) (s : TypeStart) (us : List Token)
@@ -76,7 +79,7 @@ module _ (limits : Limits) (fair : IsFair limits) where
       → kind_type k limit (record { kind = k; line = n }) ≡ Ok s
       → Started s (record { kind = k; line = n } ∷ us) us
   started_kind limit n (kind.Name x) s us q = let e : type_start_.Leaf (type_tree.Named x)
-      ≡ s = cc in subst (λ z. Started z (name x n ∷ us) us) e named
+      ≡ s = cc in subst (λ z. Started z (name_token x n ∷ us) us) e named
   started_kind limit n (kind.Keyword k) s us q = started_key limit n k s us q
   started_kind limit n (kind.Sign k) s us q = started_sign limit n k s us q
   started_kind limit n (kind.Number x) s us q = cc
@@ -91,7 +94,8 @@ module _ (limits : Limits) (fair : IsFair limits) where
 
   module _ (inner : Inner) (h : Sound inner) where
     s_list : (n : ℕ) (ts : List Token) (x : Tree × ℕ) (us : List Token)
-        → list_type inner ts ≡ Ok (x, us) → IsType limits (key keyword.List n ∷ ts) us x.0 x.1
+        → list_type inner ts ≡ Ok (x, us)
+        → IsType limits (keyword_token keyword.List n ∷ ts) us x.0 x.1
     s_list n ts x us q =
         let a = past_sign sign.Less ts _ x us q in
         let b = bound (inner a.rest) _ x us a.after in
@@ -99,9 +103,10 @@ module _ (limits : Limits) (fair : IsFair limits) where
         let g = gave (type_tree.List b.got.0, b.got.1 + 1) x c.rest us c.after in
         let y : (IsType limits) a.rest (mark sign.Greater c.line ∷ c.rest) b.got.0 b.got.1 = subst
         (λ z. (IsType limits) a.rest z b.got.0 b.got.1) c.is (h a.rest b.got b.rest b.part) in
-        moved_by IsRead (key keyword.List n ∷ mark sign.Less a.line ∷ a.rest)
-        (key keyword.List n ∷ ts) c.rest
-        us (type_tree.List b.got.0, b.got.1 + 1) x (ap (λ z. key keyword.List n ∷ z) a.is) g.1
+        moved_by IsRead (keyword_token keyword.List n ∷ mark sign.Less a.line ∷ a.rest)
+        (keyword_token keyword.List n ∷ ts) c.rest
+        us (type_tree.List b.got.0, b.got.1 + 1) x (ap (λ z. keyword_token keyword.List n ∷ z) a.is)
+        g.1
         g.0 (list y)
 
     -- the fields so far of a record that began with those tokens
@@ -113,7 +118,7 @@ module _ (limits : Limits) (fair : IsFair limits) where
     s_first ts p us q =
         let f = field_read (IsType limits) inner h none ts p us q in
         subst (λ z. SoFarOf ts z us) f.is
-        (subst (λ z. SoFarOf z (with_part none f.name_ f.part f.depth) us) (sym f.start)
+        (subst (λ z. SoFarOf z (with_named_part none f.name_ f.part f.depth) us) (sym f.start)
         (first f.is_word f.spelled, omega arith))
 
     s_next : (ts : List Token) (p : Parts Tree) (vs : List Token) (q : Parts Tree) (us : List Token)
@@ -157,8 +162,9 @@ module _ (limits : Limits) (fair : IsFair limits) where
         → ((n m j o a b : ℕ) (vs ws us : List Token) (s t : Tree)
         → IsType limits vs (mark sign.Comma j ∷ ws) s a
         → IsType limits ws (mark sign.Greater o ∷ us) t b
-        → IsType limits (key k n ∷ mark sign.Less m ∷ vs) us (f s t) (max a b + 1))
-        → (n : ℕ) (ts vs : List Token) (x : Tree × ℕ) (us : List Token) → ts ≡ key k n ∷ vs
+        → IsType limits (keyword_token k n ∷ mark sign.Less m ∷ vs) us (f s t) (max a b + 1))
+        → (n : ℕ) (ts vs : List Token) (x : Tree × ℕ) (us : List Token)
+        → ts ≡ keyword_token k n ∷ vs
         → bind (pair_type inner vs) (λ y ws. give (f y.0 y.1, y.2) ws) ≡ Ok (x, us)
         → IsRead ts us x
     s_both k f rule n ts vs x us e q =
@@ -174,8 +180,8 @@ module _ (limits : Limits) (fair : IsFair limits) where
         (h a.rest b.got b.rest b.part) in
         let right = subst (λ z. (IsType limits) c.rest z d.got.0 d.got.1) o.is
         (h c.rest d.got d.rest d.part) in
-        moved_by IsRead (key k n ∷ mark sign.Less a.line ∷ a.rest) ts o.rest us
-        (f b.got.0 d.got.0, max b.got.1 d.got.1 + 1) x (e ∙ ap (λ z. key k n ∷ z) a.is)
+        moved_by IsRead (keyword_token k n ∷ mark sign.Less a.line ∷ a.rest) ts o.rest us
+        (f b.got.0 d.got.0, max b.got.1 d.got.1 + 1) x (e ∙ ap (λ z. keyword_token k n ∷ z) a.is)
         (y.1 ∙ g.1) (ap (λ (z : Tree × Tree × ℕ). (f z.0 z.1, z.2)) y.0 ∙ g.0)
         (rule n a.line c.line o.line b.got.1 d.got.1 a.rest c.rest o.rest b.got.0 d.got.0 left
         right)

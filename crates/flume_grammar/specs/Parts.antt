@@ -12,8 +12,8 @@ abbrev pub none : {A : Type 0} → Parts A
 none = record { names = []; parts = []; depth = 0 }
 
 -- one more part, of this name and depth
-abbrev pub with_part : {A : Type 0} → Parts A → List ℕ → A → ℕ → Parts A
-with_part p name part d = record {
+abbrev pub with_named_part : {A : Type 0} → Parts A → List ℕ → A → ℕ → Parts A
+with_named_part p name part d = record {
   names = p.names ++ name ∷ [];
   parts = p.parts ++ part ∷ [];
   depth = max p.depth d;

@@ -8,20 +8,20 @@ use Rattle.flume_tokens.specs.declared.token.TokenKind.TheVariants as kind
 use Rattle.flume_tokens.specs.Keywords.{keyword_spelling}
 
 -- a token of a kind, on some line
-abbrev pub key : Keyword → ℕ → Token
-key k n = record { kind = kind.Keyword k; line = n }
+abbrev pub keyword_token : Keyword → ℕ → Token
+keyword_token k n = record { kind = kind.Keyword k; line = n }
 
 abbrev pub mark : Sign → ℕ → Token
 mark s n = record { kind = kind.Sign s; line = n }
 
-abbrev pub name : List ℕ → ℕ → Token
-name x n = record { kind = kind.Name x; line = n }
+abbrev pub name_token : List ℕ → ℕ → Token
+name_token x n = record { kind = kind.Name x; line = n }
 
-abbrev pub number : List ℕ → ℕ → Token
-number digits n = record { kind = kind.Number digits; line = n }
+abbrev pub number_token : List ℕ → ℕ → Token
+number_token digits n = record { kind = kind.Number digits; line = n }
 
-abbrev pub text : List ℕ → ℕ → Token
-text content n = record { kind = kind.Text content; line = n }
+abbrev pub text_token : List ℕ → ℕ → Token
+text_token content n = record { kind = kind.Text content; line = n }
 
 -- the name of a field, which may be any word, reserved or not
 abbrev pub word_of : TokenKind → Option (List ℕ)

@@ -1,7 +1,7 @@
 //! What is read so far of a record and of an expression.
 
 ghost use Rattle.std.specs.Prelude.{◌≡◌, [], length, OnOk};
-ghost use Rattle.flume_grammar.specs.Parts.{none, with_part};
+ghost use Rattle.flume_grammar.specs.Parts.{none, with_named_part};
 
 use crate::tree::{Binary, Expr};
 use flume_tokens::flume_value::{Pile, Str};
@@ -33,7 +33,7 @@ impl<T: Drop> Parts<T> {
     }
 
     pub fn put(&mut self, name: Str, part: T, depth: u32) -> Result<(), AllocError>
-        ensures { OnOk result (self.new ≡ with_part self.old name part depth) }
+        ensures { OnOk result (self.new ≡ with_named_part self.old name part depth) }
     {
         self.names.push(name)?;
         self.parts.push(part)?;

@@ -2,7 +2,7 @@
 ghost use Rattle.std.specs.Prelude.{◌≡◌, ◌<◌, ◌≤◌, IfOk};
 ghost use Rattle.flume_tokens.specs.declared.token.Token.{Token};
 ghost use Rattle.flume_grammar.specs.Limits.{the_limits};
-ghost use Rattle.flume_grammar.specs.Parts.{with_part};
+ghost use Rattle.flume_grammar.specs.Parts.{with_named_part};
 ghost use Rattle.flume_grammar.specs.inner.Out.{one, all_of};
 ghost use Rattle.flume_grammar.specs.inner.Reads.{Reads, ReadsSuch, PassesSuch, Within, Below};
 ghost use Rattle.flume_grammar.specs.inner.Types as spec;
@@ -190,7 +190,7 @@ fn with_field(
     part: Type,
     depth: u32,
 ) -> Result<Parts<Type>, AllocError>
-    ensures { IfOk result (λ p. p ≡ with_part fields name part depth) }
+    ensures { IfOk result (λ p. p ≡ with_named_part fields name part depth) }
 {
     let mut fields = fields;
     fields.put(name, part, depth)?;

@@ -15,7 +15,7 @@ use Rattle.made_course.proofs.of_run_course.PromiseLemmas.{promises}
 use Rattle.made_course.specs.of_run_course.Answers.{IsRefused}
 use Rattle.made_course.specs.of_run_course.Lent.{lent_to}
 use Rattle.made_course.specs.of_run_course.Promises.{ScriptPromises}
-use Rattle.made_course.specs.of_run_course.World.{Keeps, World}
+use Rattle.made_course.specs.of_run_course.Outside.{Keeps, Outside}
 use Rattle.run_settings.specs.Settings.{standard}
 use Rattle.run_texts.specs.declared.status.Status.{Status}
 use Rattle.run_texts.specs.declared.status.Status.TheVariants.{WantOfMemory}
@@ -24,7 +24,7 @@ use Rattle.flume_run.specs.Lent.{lends}
 use Rattle.flume_run.specs.Promises.{Promises}
 
 module _ (words : List (List ℕ)) where
-  pub of_make : (before after : World) (status : Status) (w : Workload)
+  pub of_make : (before after : Outside) (status : Status) (w : Workload)
       → Some w ≡ workload_for words → Makes w before after status
       → Promises words before after status
   of_make before after status w is made = record {
@@ -35,7 +35,7 @@ module _ (words : List (List ℕ)) where
     others = λ none. let both : Some w ≡ None = is ∙ none in absurd (cc both);
   }
 
-  pub of_script : (before after : World) (status : Status)
+  pub of_script : (before after : Outside) (status : Status)
       → ◌≡◌ {A = Option Workload} None (workload_for words)
       → ScriptPromises words before after status → Promises words before after status
   of_script before after status is kept = record {
@@ -45,7 +45,7 @@ module _ (words : List (List ℕ)) where
   }
 
   -- no memory was found for the words, and nothing was asked for
-  pub of_no_memory : (before after : World) → IsRefused WantOfMemory before after
+  pub of_no_memory : (before after : Outside) → IsRefused WantOfMemory before after
       → Keeps before after → after.source ≡ before.source → after.hosts ≡ before.hosts
       → Promises words before after WantOfMemory
   of_no_memory before after refused kept same hosts = record {
@@ -67,7 +67,7 @@ module _ (words : List (List ℕ)) where
 
   -- ---- over a cache
 
-  pub of_reused : (before after : World) (cache later : SeenCache) (status : Status)
+  pub of_reused : (before after : Outside) (cache later : SeenCache) (status : Status)
       (run : CachedRun) → Some run ≡ cached_for words
       → Reuses before after cache later status run
       → CachedPromises words before after cache later status
@@ -80,7 +80,7 @@ module _ (words : List (List ℕ)) where
     untouched = λ none. let both : Some run ≡ None = is ∙ none in absurd (cc both);
   }
 
-  pub of_others : (before after : World) (cache : SeenCache) (status : Status)
+  pub of_others : (before after : Outside) (cache : SeenCache) (status : Status)
       → ◌≡◌ {A = Option CachedRun} None (cached_for words) → Promises words before after status
       → CachedPromises words before after cache cache status
   of_others before after cache status is kept = record {
@@ -91,7 +91,7 @@ module _ (words : List (List ℕ)) where
   }
 
   -- no memory was found for the words of a cached run
-  pub of_no_cache : (before after : World) (cache : SeenCache)
+  pub of_no_cache : (before after : Outside) (cache : SeenCache)
       → ((others : List (List ℕ)) → ReusePromises others before after cache cache WantOfMemory)
       → Promises words before after WantOfMemory
       → CachedPromises words before after cache cache WantOfMemory

@@ -6,7 +6,7 @@ use Rattle.cached_course.specs.Promises.{ReusePromises}
 use Rattle.command_words.specs.Cached.{CachedRun, cached_for}
 use Rattle.command_words.specs.declared.words.Command.TheVariants.{Run}
 use Rattle.made_course.specs.of_run_course.Asked.{AskFor}
-use Rattle.made_course.specs.of_run_course.World.{World}
+use Rattle.made_course.specs.of_run_course.Outside.{Outside}
 use Rattle.run_texts.specs.declared.status.Status.{Status}
 use Rattle.flume_run.specs.Lent.{lends}
 use Rattle.flume_run.specs.Promises.{Promises}
@@ -19,7 +19,7 @@ without_entries failures = record { entries = Some []; faults = failures }
 abbrev pub lends_to : List (List ℕ) → ℕ
 lends_to words = option_map_or (λ run. run.settings.workers) (cached_for words) (lends words)
 
-module _ (before after : World) (cache later : SeenCache) (status : Status) where
+module _ (before after : Outside) (cache later : SeenCache) (status : Status) where
   -- a cached run promises what it does by all words that ask for the same run without a cache
   abbrev pub Reuses : CachedRun → Type 0
   Reuses run =
@@ -28,7 +28,7 @@ module _ (before after : World) (cache later : SeenCache) (status : Status) wher
 
 -- What is so after a call with these words, which found the one world and cache and left the other,
 -- and answered so.
-pub record CachedPromises (words : List (List ℕ)) (before after : World)
+pub record CachedPromises (words : List (List ℕ)) (before after : Outside)
     (cache later : SeenCache) (status : Status) : Type 0 where
   -- words of a cached run
   pub cached : (run : CachedRun) → cached_for words ≡ Some run

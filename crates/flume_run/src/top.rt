@@ -4,7 +4,7 @@ ghost use Rattle.flume_run.specs.Cached.{CachedPromises, lends_to, without_entri
 ghost use Rattle.flume_run.specs.Lent.{lends};
 ghost use Rattle.flume_run.specs.Promises.{Promises};
 ghost use Rattle.outside.specs.Says.{HasLine};
-ghost use Rattle.made_course.specs.of_run_course.World.{world};
+ghost use Rattle.made_course.specs.of_run_course.Outside.{world};
 ghost use Rattle.run_texts.specs.Lines.{line_of};
 ghost use Rattle.run_texts.specs.declared.status.Status.TheVariants.{WantOfMemory};
 

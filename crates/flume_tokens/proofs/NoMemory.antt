@@ -8,7 +8,7 @@ use Rattle.flume_tokens.specs.declared.token.Token.{Token}
 use Rattle.flume_tokens.specs.declared.piece.Piece.{Piece}
 use Rattle.flume_tokens.specs.declared.piece.Piece.TheVariants as piece
 use Rattle.flume_tokens.specs.Pieces.{piece_of}
-use Rattle.flume_tokens.specs.Tokens.{TokensOrFault, ahead, and_on, tokens_from, line_at, list_of, listed, tokens_of}
+use Rattle.flume_tokens.specs.Tokens.{TokensOrFault, ahead, and_on, tokens_from, line_at, list_of, token_list, tokens_of}
 
 abbrev Fails : TokensOrFault → Type 0
 Fails r = r ≡ Err Memory
@@ -41,7 +41,7 @@ never_memory bs e = by (nat_lt 65536 (length bs)) (is_utf8 bs) e
   where
     by : (t u : Bool)
         → (if t then Err (Refused 0 TooLong)
-        else if not u then Err (Refused (line_at bs (utf8_valid_len bs)) Utf8) else listed bs)
+        else if not u then Err (Refused (line_at bs (utf8_valid_len bs)) Utf8) else token_list bs)
         ≡ Err Memory
         → ⊥
     by true u e = cc

@@ -27,9 +27,9 @@ use Rattle.flume_tokens.specs.declared.keyword.Keyword.{Keyword}
 use Rattle.flume_tokens.specs.declared.sign.Sign.{Sign}
 use Rattle.flume_tokens.specs.Keywords.{keyword_of}
 use Rattle.flume_tokens.specs.Signs.{sign_of}
-use Rattle.flume_tokens.specs.Texts.{Closed, closed_text, escaped, taken, with_byte}
-use Rattle.flume_tokens.specs.Pieces.{piece_of, is_blank, is_in, word_kind, word, number, text, text_piece, sign, sign_piece}
-use Rattle.flume_tokens.specs.Tokens.{TokensOrFault, ahead, and_on, tokens_from, line_at, list_of, listed, tokens_of}
+use Rattle.flume_tokens.specs.Texts.{Closed, closed_text, byte_escaped, one_more_taken, with_byte}
+use Rattle.flume_tokens.specs.Pieces.{piece_of, is_blank, is_of_class, word_kind, piece_of_word, digits_piece, quoted_piece, text_piece, sign, sign_piece}
+use Rattle.flume_tokens.specs.Tokens.{TokensOrFault, ahead, and_on, tokens_from, line_at, list_of, token_list, tokens_of}
 use Rattle.flume_tokens.specs.Utf8.{IsUtf8Text}
 
 -- ---- bytes
@@ -78,7 +78,7 @@ is k c {b} {d} t h g e =
     let r : c ≡ d = cc in
     record { behind = omega (arith, q); value = omega (arith, r) }
 
-escape : (b c : ℕ) → escaped b ≡ Some c → Escape b c
+escape : (b c : ℕ) → byte_escaped b ≡ Some c → Escape b c
 escape b c e = by (b == 110) refl (b == 116) refl (b == 92) refl (b == 34) refl e
   where
     by : (n : Bool) → (b == 110) ≡ n → (t : Bool) → (b == 116) ≡ t → (s : Bool) → (b == 92) ≡ s
@@ -125,7 +125,7 @@ step run b bs content n u plain escaped_ e =
         (subst (λ xs. IsUtf8 xs) (append_assoc run (b ∷ []) rest) (plain rest m c))
 
     behind : (b == 92) ≡ true → (r : Closed) → closed_text true bs ≡ r
-        → IsClosed (taken r) content n → IsUtf8 (run ++ content)
+        → IsClosed (one_more_taken r) content n → IsUtf8 (run ++ content)
     behind s None c e = cc
     behind s (Some (rest, m)) c e =
         let k = eqb-true b 92 s in
@@ -136,7 +136,7 @@ step run b bs content n u plain escaped_ e =
         (escaped_ rest m (after run b bs small u) c))
 
     by : (q : Bool) → (b == 34) ≡ q → (l s : Bool) → (b == 92) ≡ s
-        → IsClosed (if q then Some ([], 1) else if l then None else if s then taken
+        → IsClosed (if q then Some ([], 1) else if l then None else if s then one_more_taken
         (closed_text true bs) else with_byte (Some b) (closed_text false bs)) content n
         → IsUtf8 (run ++ content)
     by true q l s ss e = ended q (ap content_of e)
@@ -147,9 +147,9 @@ step run b bs content n u plain escaped_ e =
 escape_then : (c : ℕ) (bs rest : List ℕ) (m : ℕ) → IsUtf8 (c ∷ bs)
     → ((xs : List ℕ) (k : ℕ) → IsUtf8 bs → IsClosed (closed_text false bs) xs k → IsUtf8 xs)
     → IsClosed (closed_text true (c ∷ bs)) rest m → IsUtf8 rest
-escape_then c bs rest m u behind e = by (escaped c) refl (closed_text false bs) refl e
+escape_then c bs rest m u behind e = by (byte_escaped c) refl (closed_text false bs) refl e
   where
-    by : (o : Option ℕ) → escaped c ≡ o → (r : Closed) → closed_text false bs ≡ r
+    by : (o : Option ℕ) → byte_escaped c ≡ o → (r : Closed) → closed_text false bs ≡ r
         → IsClosed (with_byte o r) rest m → IsUtf8 rest
     by None o r q e = cc
     by (Some d) o None q e = cc
@@ -182,11 +182,11 @@ record Quoted (bs content : List ℕ) : Type 0 where
 abbrev text_of_piece : List ℕ → ℕ → Piece
 text_of_piece content n = piece.Token (kind.Text content) n
 
-no_word : (bs content : List ℕ) (n : ℕ) → word bs ≡ text_of_piece content n → ⊥
+no_word : (bs content : List ℕ) (n : ℕ) → piece_of_word bs ≡ text_of_piece content n → ⊥
 no_word bs content n e = by (nat_lt 32 (length w)) (keyword_of w) e
   where
     w : List ℕ
-    w = take_while (is_in class.Word) bs
+    w = take_while (is_of_class class.Word) bs
 
     by : (t : Bool) (o : Option Keyword)
         → (if t then piece.Fault refusal.TooLong else piece.Token (word_kind w o) (length w))
@@ -215,14 +215,17 @@ quoted bs content n e =
         record { quote = q; n = m; is = c ∙ ap (λ ys. Some (ys, m)) same }
 
     plain : (a d : Bool)
-        → (if a then word bs else if d then number bs else sign bs) ≡ text_of_piece content n → ⊥
+        → (if a then piece_of_word bs else if d then digits_piece bs else sign bs)
+        ≡ text_of_piece content n → ⊥
     plain true d e = no_word bs content n e
     plain false true e = cc
     plain false false e = no_sign (sign_of bs) content n e
 
     by : (q : Bool) → (slice_index bs 0 == 34) ≡ q
-        → (if q then text bs else if is_ascii_alphabetic (slice_index bs 0) then word bs else if
-        is_ascii_digit (slice_index bs 0) then number bs else sign bs) ≡ text_of_piece content n
+        → (if q then quoted_piece bs else if is_ascii_alphabetic (slice_index bs 0) then
+        piece_of_word bs else if
+        is_ascii_digit (slice_index bs 0) then digits_piece bs else sign
+        bs) ≡ text_of_piece content n
         → Quoted bs content
     by true q e = a_text (closed_text false (drop 1 bs)) refl (eqb-true (slice_index bs 0) 34 q) e
     by false q e =
@@ -291,7 +294,7 @@ texts bs list e = by (nat_lt 65536 (length bs)) (is_utf8 bs) refl e
 
     by : (t u : Bool) → is_utf8 bs ≡ u
         → (if t then Err (Refused 0 TooLong) else if not u then Err
-        (Refused (line_at bs (utf8_valid_len bs)) Utf8) else listed bs) ≡ Ok list
+        (Refused (line_at bs (utf8_valid_len bs)) Utf8) else token_list bs) ≡ Ok list
         → All Sound list.items
     by true u q e = cc
     by false false q e = cc

@@ -9,7 +9,7 @@ use Rattle.flume_tokens.specs.declared.fault.Refusal.TheVariants.{Utf8}
 use Rattle.flume_tokens.specs.declared.fault.TokenFault.{TokenFault}
 use Rattle.flume_tokens.specs.declared.fault.TokenFault.TheVariants.{Refused}
 use Rattle.flume_tokens.specs.declared.token.TokenList.{TokenList}
-use Rattle.flume_tokens.specs.Tokens.{line_at, listed, tokens_of}
+use Rattle.flume_tokens.specs.Tokens.{line_at, token_list, tokens_of}
 
 second : (b : Bool) (x y : Result TokenList TokenFault) → b ≡ false → (if b then x else y) ≡ y
 second b x y e = ap (λ t. if t then x else y) e
@@ -29,7 +29,7 @@ refused bs h g =
     ∙ first (not (is_utf8 bs)) _ _
     (ap not (false_from (is_utf8 bs) (λ e. g (IsUtf8-from_is_utf8 bs e))))
 
-pub cut : (bs : List ℕ) → length bs ≤ 65536 → IsUtf8 bs → tokens_of bs ≡ listed bs
+pub cut : (bs : List ℕ) → length bs ≤ 65536 → IsUtf8 bs → tokens_of bs ≡ token_list bs
 unfolding tokens_of
 cut bs h g =
     second (nat_lt 65536 (length bs)) _ _ (le-ltb 65536 (length bs) h)

@@ -20,10 +20,10 @@ abbrev pub is_blank : ℕ → Bool
 is_blank b = b == 32 || b == 9 || b == 13
 
 -- a word has letters, digits and `_`; a comment goes up to the end of its line
-abbrev pub is_in : Class → ℕ → Bool
-is_in class.Word b = is_ascii_alphanumeric b || b == 95
-is_in class.Digit b = is_ascii_digit b
-is_in class.Comment b = not (b == 10)
+abbrev pub is_of_class : Class → ℕ → Bool
+is_of_class class.Word b = is_ascii_alphanumeric b || b == 95
+is_of_class class.Digit b = is_ascii_digit b
+is_of_class class.Comment b = not (b == 10)
 
 -- a reserved word is a keyword, any other a name
 abbrev pub word_kind : List ℕ → Option Keyword → TokenKind
@@ -31,15 +31,15 @@ word_kind sign_spelling (Some keyword) = kind.Keyword keyword
 word_kind sign_spelling None = kind.Name sign_spelling
 
 -- the longest word, of at most 32 bytes
-abbrev pub word : List ℕ → Piece
-word bs =
-    let sign_spelling = take_while (is_in class.Word) bs in
+abbrev pub piece_of_word : List ℕ → Piece
+piece_of_word bs =
+    let sign_spelling = take_while (is_of_class class.Word) bs in
     if nat_lt 32 (length sign_spelling) then piece.Fault refusal.TooLong else piece.Token
     (word_kind sign_spelling (keyword_of sign_spelling)) (length sign_spelling)
 
 -- all digits that follow
-abbrev pub number : List ℕ → Piece
-number bs = let digits = take_while (is_in class.Digit) bs in
+abbrev pub digits_piece : List ℕ → Piece
+digits_piece bs = let digits = take_while (is_of_class class.Digit) bs in
     piece.Token (kind.Number digits) (length digits)
 
 abbrev pub text_piece : Closed → Piece
@@ -47,8 +47,8 @@ text_piece (Some (content, taken)) = piece.Token (kind.Text content) (taken + 1)
 text_piece None = piece.Fault refusal.Token
 
 -- a text that is closed on its line
-abbrev pub text : List ℕ → Piece
-text bs = text_piece (closed_text false (drop 1 bs))
+abbrev pub quoted_piece : List ℕ → Piece
+quoted_piece bs = text_piece (closed_text false (drop 1 bs))
 
 abbrev pub sign_piece : Option Sign → Piece
 sign_piece (Some s) = piece.Token (kind.Sign s) (length (sign_spelling s))
@@ -71,8 +71,8 @@ piece_of bs =
     let b = slice_index bs 0 in
     if b == 10 then piece.LineEnd
     else if is_blank b then piece.Gap 1
-    else if b == 35 then piece.Gap (length (take_while (is_in class.Comment) bs))
-    else if b == 34 then text bs
-    else if is_ascii_alphabetic b then word bs
-    else if is_ascii_digit b then number bs
+    else if b == 35 then piece.Gap (length (take_while (is_of_class class.Comment) bs))
+    else if b == 34 then quoted_piece bs
+    else if is_ascii_alphabetic b then piece_of_word bs
+    else if is_ascii_digit b then digits_piece bs
     else sign bs

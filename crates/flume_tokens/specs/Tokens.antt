@@ -43,8 +43,8 @@ list_of last_line (Ok ts) = Ok (record { items = ts; last_line = last_line })
 list_of last_line (Err e) = Err e
 
 -- the tokens and the number of the last line: that of the end
-abbrev pub listed : List ℕ → Result TokenList TokenFault
-listed bs = list_of (line_at bs (length bs)) (tokens_from 0 1 bs)
+abbrev pub token_list : List ℕ → Result TokenList TokenFault
+token_list bs = list_of (line_at bs (length bs)) (tokens_from 0 1 bs)
 
 -- The tokens of a script, or its first fault: TooLong, else Utf8 at the first byte that is not part
 -- of UTF-8,
@@ -53,4 +53,4 @@ unfoldable pub tokens_of : List ℕ → Result TokenList TokenFault
 tokens_of bs =
     if nat_lt 65536 (length bs) then Err (Refused 0 TooLong)
     else if not (is_utf8 bs) then Err (Refused (line_at bs (utf8_valid_len bs)) Utf8)
-    else listed bs
+    else token_list bs

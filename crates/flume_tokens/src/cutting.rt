@@ -40,8 +40,8 @@ pub fn tokens(alloc: Global, bytes: &[u8]) -> Result<TokenList, TokenFault>
 /// The tokens and the last line.
 fn listed(alloc: Global, bytes: &[u8]) -> Result<TokenList, TokenFault>
     requires { length bytes.now ≤ 65536 }
-    ensures ok { IfOk result (λ ts. spec.listed bytes.now ≡ Ok ts) }
-    ensures err { IfErr result (λ e. e ≢ TokenFault.Memory → spec.listed bytes.now ≡ Err e) }
+    ensures ok { IfOk result (λ ts. spec.token_list bytes.now ≡ Ok ts) }
+    ensures err { IfErr result (λ e. e ≢ TokenFault.Memory → spec.token_list bytes.now ≡ Err e) }
 {
     Ok(TokenList {
         items: Pile::from_vec(cut(alloc, bytes)?),

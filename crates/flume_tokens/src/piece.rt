@@ -58,9 +58,9 @@ pub fn piece_of(alloc: Global, bytes: &[u8]) -> Result<Piece, AllocError>
 
 /// The length of the longest run of bytes of the class at the beginning.
 fn run_of(class: Class, bytes: &[u8]) -> usize
-    ensures value { result ≡ prefix_len (spec.is_in class) bytes.now }
+    ensures value { result ≡ prefix_len (spec.is_of_class class) bytes.now }
     ensures within { result ≤ length bytes.now }
-    ensures moves { spec.is_in class (slice_index bytes.now 0) ≡ true → 0 < length bytes.now
+    ensures moves { spec.is_of_class class (slice_index bytes.now 0) ≡ true → 0 < length bytes.now
         → 0 < result }
 {
     let mut end = 0;
@@ -71,7 +71,7 @@ fn run_of(class: Class, bytes: &[u8]) -> usize
 }
 
 fn is_in(class: Class, b: u8) -> bool
-    ensures { result ≡ spec.is_in class b }
+    ensures { result ≡ spec.is_of_class class b }
 {
     match class {
         Class::Word => b.is_ascii_alphanumeric() || b == b'_',
@@ -82,7 +82,7 @@ fn is_in(class: Class, b: u8) -> bool
 
 fn text(alloc: Global, bytes: &[u8]) -> Result<Piece, AllocError>
     requires { 0 < length bytes.now }
-    ensures value { IfOk result (λ p. p ≡ spec.text bytes.now) }
+    ensures value { IfOk result (λ p. p ≡ spec.quoted_piece bytes.now) }
     ensures within { IfOk result (λ p. spec.TakesWithin p (length bytes.now)) }
 {
     match closed_text(alloc, &bytes[1..])? {
@@ -93,7 +93,7 @@ fn text(alloc: Global, bytes: &[u8]) -> Result<Piece, AllocError>
 
 fn word(alloc: Global, bytes: &[u8]) -> Result<Piece, AllocError>
     requires { is_ascii_alphabetic (slice_index bytes.now 0) ≡ true }
-    ensures value { IfOk result (λ p. p ≡ spec.word bytes.now) }
+    ensures value { IfOk result (λ p. p ≡ spec.piece_of_word bytes.now) }
     ensures within { IfOk result (λ p. spec.TakesWithin p (length bytes.now)) }
 {
     let end = run_of(Class::Word, bytes);
@@ -109,7 +109,7 @@ fn word(alloc: Global, bytes: &[u8]) -> Result<Piece, AllocError>
 
 fn number(alloc: Global, bytes: &[u8]) -> Result<Piece, AllocError>
     requires { is_ascii_digit (slice_index bytes.now 0) ≡ true }
-    ensures value { IfOk result (λ p. p ≡ spec.number bytes.now) }
+    ensures value { IfOk result (λ p. p ≡ spec.digits_piece bytes.now) }
     ensures within { IfOk result (λ p. spec.TakesWithin p (length bytes.now)) }
 {
     let end = run_of(Class::Digit, bytes);

@@ -35,7 +35,7 @@ pub fn closed_text(alloc: Global, bytes: &[u8]) -> Result<Option<(Str, usize)>, 
 
 /// The byte that stands for a backslash and this byte.
 fn escaped(b: u8) -> Option<u8>
-    ensures { result ≡ spec.escaped b }
+    ensures { result ≡ spec.byte_escaped b }
 {
     match b {
         b'n' => Some(b'\n'),

@@ -11,7 +11,7 @@ use Rattle.flume_types.specs.declared.column.Column.{Column}
 use Rattle.flume_types.specs.declared.column.ColumnKind.{ColumnKind}
 use Rattle.flume_types.specs.declared.column.ColumnKind.TheVariants as kind
 use Rattle.flume_types.specs.Typing.{each_has, layer_has, has_type}
-use Rattle.flume_types.specs.Columns.{cell_kind, cell_column, columns_and, cells_under, field_columns, record_columns, flat_columns, columns_of, input_at, input_columns_of}
+use Rattle.flume_types.specs.Columns.{cell_kind, cell_column, columns_and, cells_under, field_columns, record_columns, flat_columns, columns_of, columns_at, input_columns_of}
 use Rattle.flume_types.specs.Cells.{field_cells, row_cells, cells_of, is_cell, are_filled}
 use Rattle.flume_types.proofs.TypingLemmas.{has_type-step}
 
@@ -92,7 +92,7 @@ cells_under-are_filled prefix (f ∷ fields) columns e cells =
     filled f fields name k more is rest (x ∷ xs) =
         λ i. (has_type-step x f.ty ∙ cell_typed (out-Value x) (out-Ty f.ty) k is) i && rest xs i
 
-input_filled : (t : Ty-F Ty) (columns : List Column) → input_at t ≡ Some columns
+input_filled : (t : Ty-F Ty) (columns : List Column) → columns_at t ≡ Some columns
     → (cells : List Value) → layer_has has_type (Value-F.Rec cells) t ≡ are_filled columns cells
 input_filled (Ty-F.Rec fields) columns e cells = cells_under-are_filled [] fields columns e cells
 input_filled _ columns e cells = cc
@@ -124,7 +124,7 @@ fields_of_cells (f ∷ fields) columns e =
     (λ i. columns_and (field_of_cell f.name (out-Ty f.ty) parts.0 parts.2 i)
     (fields_of_cells fields parts.1 parts.3 i)) ∙ sym (ap Some parts.4)
 
-flat_input : (t : Ty-F Ty) (columns : List Column) → input_at t ≡ Some columns → flat_columns t
+flat_input : (t : Ty-F Ty) (columns : List Column) → columns_at t ≡ Some columns → flat_columns t
     ≡ Some columns
 flat_input (Ty-F.Rec fields) columns e = fields_of_cells fields columns e
 flat_input _ columns e = cc

@@ -53,9 +53,9 @@ abbrev pub columns_of : Ty → Option (List Column)
 columns_of t = flat_columns (out-Ty t)
 
 -- the columns of a record of cells, as inputs are; no other type has any
-abbrev pub input_at : Ty-F Ty → Option (List Column)
-input_at (Ty-F.Rec fields) = cells_under [] fields
-input_at _ = None
+abbrev pub columns_at : Ty-F Ty → Option (List Column)
+columns_at (Ty-F.Rec fields) = cells_under [] fields
+columns_at _ = None
 
 abbrev pub input_columns_of : Ty → Option (List Column)
-input_columns_of t = input_at (out-Ty t)
+input_columns_of t = columns_at (out-Ty t)

@@ -10,7 +10,7 @@ use Rattle.forest_steps.specs.of_exec_graph.Calls.{called, emitted}
 use Rattle.forest_steps.specs.of_exec_graph.Forests.{Label, Forest, Bare, Grow}
 use Rattle.forest_steps.specs.of_exec_graph.World.{World}
 use Rattle.task_lists.specs.Runs.{kept_count, step_lists}
-use Rattle.forest_steps.specs.Running.{Given, Run, and_then, below, behind, counted, kept, kept_place, raised_at, run, run_answer, run_each, run_out}
+use Rattle.forest_steps.specs.Running.{Given, Run, and_then, below, next_behind, counted_at, with_values_put, bounded_place, raised_at, run, run_answer, run_each, run_out}
 use Rattle.forest_steps.specs.Places.{outputs_in, sizes_in}
 use Rattle.forest_steps.specs.Fresh.{zeros}
 use Rattle.forest_steps.proofs.Sizing.{sizes_length}
@@ -133,7 +133,7 @@ tallies_then d e (Ok g) f h k = k g h
 tallies_then d e (Err trap) f h k = tt
 
 tallies_kept : (e : List ℕ) (r : Run) (out : Option ℕ) (values : List Value) → Tallies e r
-    → Tallies e (and_then r (λ more. Ok (kept out values more)))
+    → Tallies e (and_then r (λ more. Ok (with_values_put out values more)))
 tallies_kept e (Ok g) out values h = h
 tallies_kept e (Err trap) out values h = tt
 
@@ -213,9 +213,10 @@ module _ (w : World) where
       let n = length vs in
       let now : raised_at at n g.counts ≡ map kept_count (added at (n ∷ []) e) =
       ap (raised_at at n) is ∙ raised_kept at n e in
-      tallies_kept (added at (n ∷ emits kids vs) e) (run_each F vs (counted at n g)) out vs
-      (subst (λ d. Tallies d (run_each F vs (counted at n g))) (added_next at n (emits kids vs) e)
-      (each_tallies (suc at) kids F h vs (counted at n g) (added at (n ∷ []) e) now))
+      tallies_kept (added at (n ∷ emits kids vs) e) (run_each F vs (counted_at at n g)) out vs
+      (subst (λ d. Tallies d (run_each F vs (counted_at at n g)))
+      (added_next at n (emits kids vs) e)
+      (each_tallies (suc at) kids F h vs (counted_at at n g) (added at (n ∷ []) e) now))
 
   answer_tallies : (at : ℕ) (kids : Forest) (F : Value → Given → Run)
       → ((x : Value) (g : Given) (e : List ℕ) → g.counts ≡ map kept_count e
@@ -239,8 +240,8 @@ module _ (w : World) where
         let vs = emitted w l x in
         let here = from_drop at sizes ((sizes_in kids ++ sizes_in rest) ++ more) (suc k) table in
         let low : below at ≡ suc at = omega arith in
-        let next : behind sizes at ≡ at + suc k =
-        ap (λ o. kept_place (at + unwrap_or o 0)) here.0 ∙ (omega arith) in
+        let next : next_behind sizes at ≡ at + suc k =
+        ap (λ o. bounded_place (at + unwrap_or o 0)) here.0 ∙ (omega arith) in
         let on : drop (suc at) sizes ≡ sizes_in kids ++ (sizes_in rest ++ more) =
         here.1 ∙ append_assoc (sizes_in kids) (sizes_in rest) more in
         let past : drop (suc at + length (sizes_in kids)) sizes ≡ sizes_in rest ++ more =
@@ -266,7 +267,7 @@ module _ (w : World) where
         ∙ sym (emits_step l kids rest (x ∷ []))) in
         tallies_then (added at own e) (added at (emits (Grow l kids rest) (x ∷ [])) e)
         (run_answer l.origin l.at (called w l.does x) l.out at (run w sizes (below at) kids) g)
-        (run w sizes (behind sizes at) rest x) first
+        (run w sizes (next_behind sizes at) rest x) first
         (λ now q. subst (λ b. Tallies (added at (emits (Grow l kids rest) (x ∷ [])) e)
         (run w sizes b rest x now)) (sym next)
         (subst (λ d. Tallies d (run w sizes (at + suc k) rest x now)) all

@@ -6,7 +6,7 @@ use Rattle.flume_value.specs.declared.value.Value.{Value}
 use Rattle.flume_collection.specs.declared.trap.Trap.{Trap}
 use Rattle.shards.proofs.Alike.{flat_map-itself, flat_map-nothing}
 use Rattle.forest_steps.specs.of_exec_graph.Calls.{trapped}
-use Rattle.forest_steps.specs.of_exec_graph.Forests.{Forest, after, numbered}
+use Rattle.forest_steps.specs.of_exec_graph.Forests.{Forest, next_after, numbered}
 use Rattle.forest_steps.specs.of_exec_graph.World.{World}
 use Rattle.task_lists.specs.Runs.{visits}
 use Rattle.forest_steps.specs.Fresh.{none_given}
@@ -27,10 +27,10 @@ module _ (w : World) where
 
   pub made_course : (f : Forest) (xs : List Value) (given : Given) → numbered 0 f ≡ f
       → outputs_in f < 2 ^ 64
-      → run_each (run w (sizes_in f) 0 f) xs (none_given (after 0 f) (outputs_in f)) ≡ Ok given
+      → run_each (run w (sizes_in f) 0 f) xs (none_given (next_after 0 f) (outputs_in f)) ≡ Ok given
       → IsCourse w (Some f) xs (Ok given)
   made_course f xs given is few e =
-      let start = none_given (after 0 f) (outputs_in f) in record {
+      let start = none_given (next_after 0 f) (outputs_in f) in record {
         calm = subst (Traps (flat_map (visits w (trapped w) f) xs)) e
             (all_traps w (sizes_in f) 0 f xs start);
         lists = all_poured w (sizes_in f) 0 f xs start given e
@@ -41,7 +41,7 @@ module _ (w : World) where
   -- whichever way the steps on the elements end
   pub either_course : (f : Forest) (xs : List Value) (sizes : List ℕ) (start : Given)
       (end : Run) → numbered 0 f ≡ f → outputs_in f < 2 ^ 64 → sizes ≡ sizes_in f
-      → start ≡ none_given (after 0 f) (outputs_in f)
+      → start ≡ none_given (next_after 0 f) (outputs_in f)
       → run_each (run w sizes 0 f) xs start ≡ end → IsCourse w (Some f) xs end
   either_course f xs sizes start (Ok given) is few sized fresh e =
       made_course f xs given is few

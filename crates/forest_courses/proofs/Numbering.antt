@@ -7,12 +7,12 @@ use Rattle.flume_value.specs.declared.value.Value.{Value}
 use Rattle.flume_collection.specs.Calls.{or_none}
 use Rattle.shards.proofs.Alike.{flat_map-nothing}
 use Rattle.forest_steps.specs.of_exec_graph.Calls.{emitted}
-use Rattle.forest_steps.specs.of_exec_graph.Forests.{Forest, Bare, Grow, after, after_out, new_out, numbered}
+use Rattle.forest_steps.specs.of_exec_graph.Forests.{Forest, Bare, Grow, next_after, after_out, new_out, numbered}
 use Rattle.forest_steps.specs.of_exec_graph.Meaning.{is_out, has_out}
 use Rattle.forest_steps.specs.of_exec_graph.World.{World}
 use Rattle.task_lists.specs.of_exec_plan.Channels.{kept_out, outs_of}
 use Rattle.task_lists.specs.Runs.{out_at}
-use Rattle.forest_steps.specs.Running.{OutputLists, put}
+use Rattle.forest_steps.specs.Running.{OutputLists, put_on_output}
 use Rattle.forest_steps.specs.Fresh.{empties}
 use Rattle.forest_courses.proofs.Pouring.{poured, poured_all}
 
@@ -25,7 +25,7 @@ abbrev IsFrom : ℕ → Forest → Type 0
 IsFrom n Bare = Unit {0}
 IsFrom n (Grow l kids rest) =
     Begins n l.out × IsFrom (after_out n l.out) kids
-    × IsFrom (after (after_out n l.out) kids) rest
+    × IsFrom (next_after (after_out n l.out) kids) rest
 
 begins_at : (n : ℕ) (o : Option ℕ) → new_out n o ≡ o → Begins n o
 begins_at n None e = tt
@@ -49,18 +49,18 @@ from_numbered n Bare e = tt
 from_numbered n (Grow l kids rest) e = (
   begins_at n l.out (ap label_out e),
   from_numbered (after_out n l.out) kids (ap kids_in e),
-  from_numbered (after (after_out n l.out) kids) rest (ap rest_in e),
+  from_numbered (next_after (after_out n l.out) kids) rest (ap rest_in e),
 )
 
 -- ---- numbers rise
-after_rises : (f : Forest) (n : ℕ) → n ≤ after n f
+after_rises : (f : Forest) (n : ℕ) → n ≤ next_after n f
 after_rises Bare n = omega arith
 after_rises (Grow l kids rest) n =
     omega (
       arith,
       after_out_rises n l.out,
       after_rises kids (after_out n l.out),
-      after_rises rest (after (after_out n l.out) kids),
+      after_rises rest (next_after (after_out n l.out) kids),
     ) where
       after_out_rises : (n : ℕ) (o : Option ℕ) → n ≤ after_out n o
       after_out_rises n None = omega arith
@@ -80,12 +80,12 @@ either : (a b : Bool) → (a || b) ≡ true → (a ≡ true) ⊎ (b ≡ true)
 either true b h = inl refl
 either false b h = inr h
 
-has_within : (f : Forest) (n j : ℕ) → IsFrom n f → has_out j f ≡ true → Within n (after n f) j
+has_within : (f : Forest) (n j : ℕ) → IsFrom n f → has_out j f ≡ true → Within n (next_after n f) j
 has_within Bare n j is h = cc
 has_within (Grow l kids rest) n j is h =
-    let m = after_out n l.out in let k = after m kids in
+    let m = after_out n l.out in let k = next_after m kids in
     let up_m : n ≤ m = after_rises (Grow l Bare Bare) n in let up_k : m ≤ k = after_rises kids m in
-    let up : k ≤ after k rest = after_rises rest k in
+    let up : k ≤ next_after k rest = after_rises rest k in
     ⊎_elim (λ here. let w = out_within n j l.out is.0 here in
     record { above = omega (arith, w.0); below = omega (arith, w.0, w.1) })
     (λ below. ⊎_elim
@@ -96,7 +96,8 @@ has_within (Grow l kids rest) n j is h =
     (either (has_out j kids) (has_out j rest) below))
     (either (is_out l.out j) (has_out j kids || has_out j rest) h)
 
-lacks : (f : Forest) (n j : ℕ) → IsFrom n f → (Within n (after n f) j → ⊥) → has_out j f ≡ false
+lacks : (f : Forest) (n j : ℕ) → IsFrom n f → (Within n (next_after n f) j → ⊥)
+    → has_out j f ≡ false
 lacks f n j is h = elim (has_out j f) as (λ b. has_out j f ≡ b → b ≡ false)
     [ true ↦ λ e. absurd (h (has_within f n j is e)) | false ↦ λ e. refl ] refl
 
@@ -147,7 +148,7 @@ part_set (o ∷ os) (suc i) (suc j) v h = part_set os i j v (omega arith)
     ∙ ap (λ b. cond b v (part_at os j)) (same_suc i j)
 
 put_at : (o : Option ℕ) (vs : List Value) (os : OutputLists) (j : ℕ) → HasRoom (length os) o
-    → part_at (put o vs os) j ≡ part_at os j ++ cond (is_out o j) vs []
+    → part_at (put_on_output o vs os) j ≡ part_at os j ++ cond (is_out o j) vs []
 put_at None vs os j h = sym (append-nil (part_at os j))
 put_at (Some i) vs os j h =
     part_set os i j (part_at os i ++ vs) h
@@ -157,7 +158,8 @@ put_at (Some i) vs os j h =
       | false ↦ λ e. sym (append-nil (part_at os j))
     ] refl
 
-put_length : (o : Option ℕ) (vs : List Value) (os : OutputLists) → length (put o vs os) ≡ length os
+put_length : (o : Option ℕ) (vs : List Value) (os : OutputLists)
+    → length (put_on_output o vs os) ≡ length os
 put_length None vs os = refl
 put_length (Some i) vs os = length-set os i (part_at os i ++ vs)
 
@@ -171,7 +173,8 @@ poured_length : (w : World) (f : Forest) (x : Value) (os : OutputLists) → leng
     ≡ length os
 poured_length w Bare x os = refl
 poured_length w (Grow l kids rest) x os =
-    poured_length w rest x (put l.out (emitted w l x) (poured_all w kids (emitted w l x) os))
+    poured_length w rest x (put_on_output l.out (emitted w l x)
+    (poured_all w kids (emitted w l x) os))
     ∙ put_length l.out (emitted w l x) (poured_all w kids (emitted w l x) os)
     ∙ all_length (poured w kids) (poured_length w kids) (emitted w l x) os
 
@@ -208,15 +211,16 @@ one_of_three false false os own kids rest g h k = (λ i. ((os ++ k refl i) ++ []
 
 -- a list gets what its output gives
 poured_at : (w : World) (f : Forest) (n m j : ℕ) (x : Value) (os : OutputLists) → IsFrom n f
-    → after n f ≤ m → length os ≡ m → part_at (poured w f x os) j ≡ part_at os j ++ out_at w f j x
+    → next_after n f ≤ m → length os ≡ m
+    → part_at (poured w f x os) j ≡ part_at os j ++ out_at w f j x
 poured_at w Bare n m j x os is h e = sym (append-nil (part_at os j))
 poured_at w (Grow l kids rest) n m j x os is h e =
-    let a = after_out n l.out in let k = after a kids in
+    let a = after_out n l.out in let k = next_after a kids in
     let up_a : n ≤ a = after_rises (Grow l Bare Bare) n in let up_k : a ≤ k = after_rises kids a in
-    let up : k ≤ after k rest = after_rises rest k in
+    let up : k ≤ next_after k rest = after_rises rest k in
     let vs = emitted w l x in
     let us = poured_all w kids vs os in
-    let ws = put l.out vs us in
+    let ws = put_on_output l.out vs us in
     let us_length : length us ≡ m = poured_all_length w kids vs os ∙ e in
     let own_room : HasRoom m l.out = has_room n m l.out is.0 (omega arith) in
     poured_at w rest k m j x ws is.2 h (put_length l.out vs us ∙ us_length)
@@ -257,14 +261,14 @@ kept_ups : (n : ℕ) (o : Option ℕ) → Begins n o → kept_out o ≡ ups n (a
 kept_ups n None b = let e : 0 ≡ n - n = omega arith in ap (ups n) e
 kept_ups n (Some j) b = ap (λ i. i ∷ []) b ∙ (let e : 1 ≡ n + 1 - n = omega arith in ap (ups n) e)
 
-pub outs_ups : (f : Forest) (n : ℕ) → IsFrom n f → outs_of f ≡ ups n (after n f - n)
+pub outs_ups : (f : Forest) (n : ℕ) → IsFrom n f → outs_of f ≡ ups n (next_after n f - n)
 outs_ups Bare n is = let e : 0 ≡ n - n = omega arith in ap (ups n) e
 outs_ups (Grow l kids rest) n is =
-    let a = after_out n l.out in let k = after a kids in
+    let a = after_out n l.out in let k = next_after a kids in
     (λ i. kept_ups n l.out is.0 i ++ (outs_ups kids a is.1 i ++ outs_ups rest k is.2 i))
     ∙ ap (λ q. ups n (a - n) ++ q)
-    (ups_split a k (after k rest) (after_rises kids a) (after_rises rest k))
-    ∙ ups_split n a (after k rest) (after_rises (Grow l Bare Bare) n)
+    (ups_split a k (next_after k rest) (after_rises kids a) (after_rises rest k))
+    ∙ ups_split n a (next_after k rest) (after_rises (Grow l Bare Bare) n)
     (omega (arith, after_rises kids a, after_rises rest k))
 
 map_ups_shift : (os : OutputLists) (o : List Value) (a k : ℕ)
@@ -287,9 +291,10 @@ empties_at (suc n) zero = refl
 empties_at (suc n) (suc j) = empties_at n j
 
 pub poured_whole : (w : World) (f : Forest) (xs : List Value) → IsFrom 0 f
-    → poured_all w f xs (empties (after 0 f)) ≡ map (λ j. flat_map (out_at w f j) xs) (outs_of f)
+    → poured_all w f xs (empties (next_after 0 f))
+    ≡ map (λ j. flat_map (out_at w f j) xs) (outs_of f)
 poured_whole w f xs is =
-    let n = after 0 f in
+    let n = next_after 0 f in
     let os = poured_all w f xs (empties n) in
     let len : length os ≡ n = poured_all_length w f xs (empties n) ∙ empties_length n in
     let at : (j : ℕ) → part_at os j ≡ flat_map (out_at w f j) xs =

@@ -7,14 +7,14 @@ use Rattle.flume_collection.specs.Calls.{Called, emissions, or_none}
 use Rattle.forest_steps.specs.of_exec_graph.Calls.{called, emitted}
 use Rattle.forest_steps.specs.of_exec_graph.Forests.{Forest, Bare, Grow}
 use Rattle.forest_steps.specs.of_exec_graph.World.{World}
-use Rattle.forest_steps.specs.Running.{Given, OutputLists, Run, and_then, below, behind, counted, kept, put, run, run_answer, run_each}
+use Rattle.forest_steps.specs.Running.{Given, OutputLists, Run, and_then, below, next_behind, counted_at, with_values_put, put_on_output, run, run_answer, run_each}
 
 -- what the steps put behind the lists
 abbrev pub poured : World → Forest → Value → OutputLists → OutputLists
 poured w Bare x lists = lists
 poured w (Grow l kids rest) x lists =
     poured w rest x
-    (put l.out (emitted w l x)
+    (put_on_output l.out (emitted w l x)
     (fold (λ more y. poured w kids y more) lists (emitted w l x)))
 
 abbrev pub poured_all : World → Forest → List Value → OutputLists → OutputLists
@@ -43,15 +43,15 @@ leaves_each P f h (x ∷ xs) more =
 leaves_answer : (P : Value → OutputLists → OutputLists) (f : Value → Given → Run)
     → ((x : Value) (more : Given) → Leaves (P x more.lists) (f x more)) → (origin which : ℕ)
     (answer : Called) (out : Option ℕ) (at : ℕ) (more : Given)
-    → Leaves (put out (emissions which answer)
+    → Leaves (put_on_output out (emissions which answer)
     (fold (λ ls y. P y ls) more.lists (emissions which answer)))
     (run_answer origin which answer out at f more)
 leaves_answer P f h origin which (Ok answers) out at more =
     let values = or_none (slice_get answers which) in
     leaves_then (fold (λ ls y. P y ls) more.lists values)
-    (run_each f values (counted at (length values) more))
-    (λ given. Ok (kept out values given)) (put out values)
-    (leaves_each P f h values (counted at (length values) more)) (λ given. refl)
+    (run_each f values (counted_at at (length values) more))
+    (λ given. Ok (with_values_put out values given)) (put_on_output out values)
+    (leaves_each P f h values (counted_at at (length values) more)) (λ given. refl)
 leaves_answer P f h origin which (Err trap) out at more = tt
 
 module _ (w : World) (sizes : List ℕ) where
@@ -60,13 +60,13 @@ module _ (w : World) (sizes : List ℕ) where
   leaves_run at Bare x more = refl
   leaves_run at (Grow l kids rest) x more =
       leaves_then
-      (put l.out (emitted w l x)
+      (put_on_output l.out (emitted w l x)
       (fold (λ ls y. poured w kids y ls) more.lists (emitted w l x)))
       (run_answer l.origin l.at (called w l.does x) l.out at (run w sizes (below at) kids) more)
-      (run w sizes (behind sizes at) rest x) (poured w rest x)
+      (run w sizes (next_behind sizes at) rest x) (poured w rest x)
       (leaves_answer (poured w kids) (run w sizes (below at) kids) (leaves_run (below at) kids)
       l.origin l.at (called w l.does x) l.out at more)
-      (leaves_run (behind sizes at) rest x)
+      (leaves_run (next_behind sizes at) rest x)
 
   pub all_poured : (at : ℕ) (f : Forest) (xs : List Value) (more left : Given)
       → run_each (run w sizes at f) xs more ≡ Ok left

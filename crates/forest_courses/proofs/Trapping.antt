@@ -9,7 +9,7 @@ use Rattle.forest_steps.specs.of_exec_graph.Calls.{called, emitted, trapped}
 use Rattle.forest_steps.specs.of_exec_graph.Forests.{Forest, Bare, Grow}
 use Rattle.forest_steps.specs.of_exec_graph.World.{World}
 use Rattle.task_lists.specs.Runs.{visits}
-use Rattle.forest_steps.specs.Running.{Given, Run, and_then, below, behind, counted, kept, run, run_answer, run_each}
+use Rattle.forest_steps.specs.Running.{Given, Run, and_then, below, next_behind, counted_at, with_values_put, run, run_answer, run_each}
 
 -- nothing traps where the run ends with lists, and else the first trap ended it
 abbrev pub Traps : List Trap → Run → Type 0
@@ -48,8 +48,8 @@ answer_traps : (V : Value → List Trap) (f : Value → Given → Run)
     (run_answer origin which answer out at f lists)
 answer_traps V f h origin which (Ok answers) out at lists =
     let values = or_none (slice_get answers which) in
-    traps_kept (flat_map V values) (run_each f values (counted at (length values) lists))
-    (kept out values) (traps_each V f h values (counted at (length values) lists))
+    traps_kept (flat_map V values) (run_each f values (counted_at at (length values) lists))
+    (with_values_put out values) (traps_each V f h values (counted_at at (length values) lists))
 answer_traps V f h origin which (Err trap) out at lists = refl
 
 module _ (w : World) (sizes : List ℕ) where
@@ -60,14 +60,14 @@ module _ (w : World) (sizes : List ℕ) where
       let own = trapped w l x in
       let on = flat_map (visits w (trapped w) kids) (emitted w l x) in
       let beside = visits w (trapped w) rest x in
-      let more = run w sizes (behind sizes at) rest x in
+      let more = run w sizes (next_behind sizes at) rest x in
       let r = run_answer l.origin l.at (called w l.does x) l.out at (run w sizes (below at) kids)
       lists in
       subst (λ ts. Traps ts (and_then r more)) (append_assoc own on beside)
       (traps_then (own ++ on) beside r more
       (answer_traps (visits w (trapped w) kids) (run w sizes (below at) kids)
       (run_traps (below at) kids) l.origin l.at (called w l.does x) l.out at lists)
-      (run_traps (behind sizes at) rest x))
+      (run_traps (next_behind sizes at) rest x))
 
   pub all_traps : (at : ℕ) (f : Forest) (xs : List Value) (lists : Given)
       → Traps (flat_map (visits w (trapped w) f) xs) (run_each (run w sizes at f) xs lists)

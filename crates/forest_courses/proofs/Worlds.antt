@@ -9,8 +9,8 @@ use Rattle.forest_steps.specs.of_exec_graph.Meaning.{is_out, has_out}
 use Rattle.forest_steps.specs.of_exec_graph.World.{World}
 use Rattle.forest_steps.specs.of_exec_graph.declared.step.Does.{Does}
 use Rattle.forest_steps.specs.of_exec_graph.declared.step.Does.TheVariants as does
-use Rattle.task_lists.specs.of_exec_plan.Channels.{numbers}
-use Rattle.task_lists.specs.Runs.{all_given, counts_of, gives, out_at, output_at, step_lists, traps_of, visits, visits_of}
+use Rattle.task_lists.specs.of_exec_plan.Channels.{output_numbers_of}
+use Rattle.task_lists.specs.Runs.{all_emissions, counts_of, emissions_at, out_at, output_at, step_lists, traps_in_order, visits, visits_of}
 use Rattle.forest_steps.specs.Safety.{Safe, SafeOf}
 
 module _ (v w : World) (same : v.called ≡ w.called) where
@@ -51,13 +51,16 @@ module _ (v w : World) (same : v.called ≡ w.called) where
   same_traps_at None x = refl
   same_traps_at (Some f) x = same_visits f x
 
-  pub same_gives : (f : Option Forest) (xs : List Value) (j : ℕ) → gives v f xs j ≡ gives w f xs j
+  pub same_gives : (f : Option Forest) (xs : List Value) (j : ℕ)
+      → emissions_at v f xs j ≡ emissions_at w f xs j
   same_gives f xs j = λ i. flat_map (λ x. same_output f j x i) xs
 
-  pub same_given : (f : Option Forest) (xs : List Value) → all_given v f xs ≡ all_given w f xs
-  same_given f xs = λ i. map (λ j. same_gives f xs j i) (numbers f)
+  pub same_given : (f : Option Forest) (xs : List Value)
+      → all_emissions v f xs ≡ all_emissions w f xs
+  same_given f xs = λ i. map (λ j. same_gives f xs j i) (output_numbers_of f)
 
-  pub same_traps : (f : Option Forest) (xs : List Value) → traps_of v f xs ≡ traps_of w f xs
+  pub same_traps : (f : Option Forest) (xs : List Value)
+      → traps_in_order v f xs ≡ traps_in_order w f xs
   same_traps f xs = λ i. flat_map (λ x. same_traps_at f x i) xs
 
   same_lists : (f : Forest) (xs : List Value) → step_lists v f xs ≡ step_lists w f xs

@@ -2,9 +2,9 @@
 ghost use Rattle.std.specs.Prelude.{◌≡◌, ◌<◌, ◌^◌, ◌∷◌, [], ℕ, List, Option, Some, None, Ok, Err};
 ghost use Rattle.flume_value.specs.declared.value.Value.{Value};
 ghost use Rattle.flume_collection.specs.declared.trap.Trap.{Trap};
-ghost use Rattle.forest_steps.specs.of_exec_graph.Forests.{Forest, after, numbered};
+ghost use Rattle.forest_steps.specs.of_exec_graph.Forests.{Forest, next_after, numbered};
 ghost use Rattle.forest_steps.specs.of_exec_graph.World.{World};
-ghost use Rattle.task_lists.specs.Runs.{all_given, counts_of, traps_of};
+ghost use Rattle.task_lists.specs.Runs.{all_emissions, counts_of, traps_in_order};
 ghost use Rattle.forest_steps.specs.Fresh.{none_given};
 ghost use Rattle.forest_steps.specs.Places.{outputs_in, sizes_in};
 ghost use Rattle.forest_steps.specs.Running.{Given, run, run_each};
@@ -14,9 +14,9 @@ ghost use Rattle.forest_courses.specs.Courses.{IsCourse};
 /// count, and what traps.
 pub fn worlds_law()
     ensures given { (v w : World) (f : Option Forest) (xs : List Value) → v.called ≡ w.called →
-        all_given v f xs ≡ all_given w f xs }
+        all_emissions v f xs ≡ all_emissions w f xs }
     ensures traps { (v w : World) (f : Option Forest) (xs : List Value) → v.called ≡ w.called →
-        traps_of v f xs ≡ traps_of w f xs }
+        traps_in_order v f xs ≡ traps_in_order w f xs }
     ensures counts { (v w : World) (f : Option Forest) (xs : List Value) → v.called ≡ w.called →
         counts_of v f xs ≡ counts_of w f xs }
 {}
@@ -27,7 +27,8 @@ pub fn worlds_law()
 pub fn course_law()
     ensures made { (w : World) (f : Forest) (xs : List Value) (given : Given) →
         numbered 0 f ≡ f → outputs_in f < 2 ^ 64 →
-        run_each (run w (sizes_in f) 0 f) xs (none_given (after 0 f) (outputs_in f)) ≡ Ok given →
+        run_each (run w (sizes_in f) 0 f) xs (none_given (next_after 0 f) (outputs_in f)) ≡ Ok given
+        →
         IsCourse w (Some f) xs (Ok given) }
     ensures trapped { (w : World) (sizes : List ℕ) (f : Forest) (xs : List Value) (start : Given)
         (trap : Trap) → run_each (run w sizes 0 f) xs start ≡ Err trap →

@@ -2,7 +2,7 @@
 use Rattle.std.proofs.Common.{◌≡◌, ◌<◌, ◌^◌, ℕ, List, map, Some, sym, ap, ◌∙◌}
 use Rattle.std.specs.Prelude.{IfOk, OnErr, Result, Ok, Err}
 use Rattle.flume_value.specs.declared.value.Value.{Value}
-use Rattle.exec_graph.specs.Forests.{Branch, Forest, after, grown, numbered}
+use Rattle.exec_graph.specs.Forests.{Branch, Forest, next_after, grown, numbered}
 use Rattle.exec_graph.specs.World.{World}
 use Rattle.crew.specs.declared.drill.Entry.{Entry}
 use Rattle.crew.specs.declared.attempts.Attempt.{Attempt}
@@ -21,7 +21,7 @@ use Rattle.forest_run.specs.Asked.{WasAsked}
 -- ---- what a walk comes to by the steps of a forest
 module _ (w : World) (f : Forest) (bs : List Branch) (sizes : List ℕ) (start : Given)
     (grows : grown bs ≡ f) (is : numbered 0 f ≡ f) (few : outputs_in f < 2 ^ 64)
-    (sized : sizes ≡ sizes_in f) (fresh : start ≡ none_given (after 0 f) (outputs_in f)) where
+    (sized : sizes ≡ sizes_in f) (fresh : start ≡ none_given (next_after 0 f) (outputs_in f)) where
   walked_course : (xs : List Value) (end : Run)
       → in_turn (map (run w sizes 0 (grown bs)) xs) start ≡ end → IsCourse w (Some f) xs end
   walked_course xs end e =

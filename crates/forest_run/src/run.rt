@@ -3,7 +3,7 @@ ghost use Rattle.std.specs.Prelude.{◌≡◌, ◌∷◌, [], ◌^◌, ◌<◌, 
 ghost use Rattle.std.specs.List.{AllByRecursion};
 ghost use Rattle.crew.specs.Attempts.{MadeHas};
 ghost use Rattle.crew.specs.Drills.{attempt_at};
-ghost use Rattle.exec_graph.specs.Forests.{after};
+ghost use Rattle.exec_graph.specs.Forests.{next_after};
 ghost use Rattle.exec_graph.specs.World.{World};
 ghost use Rattle.exec_plan.specs.Wellformed.{IsNumbered};
 ghost use Rattle.forest_courses.specs.Courses.{IsCourse};
@@ -60,7 +60,7 @@ pub fn run_owned<F: Functions, H: Host>(
 pub fn begin(alloc: Global, roots: &Roots) -> Result<(Vec<usize>, Outputs), AllocError>
     ensures sizes { IfOk result (λ begun. begun.0.items ≡ sizes_in roots.now) }
     ensures fresh { IfOk result (λ begun.
-        begun.1 ≡ none_given (after 0 roots.now) (outputs_in roots.now)) }
+        begun.1 ≡ none_given (next_after 0 roots.now) (outputs_in roots.now)) }
     ensures few { OnOk result (outputs_in roots.now < 2 ^ 64) }
 {
     let sizes = sizes_of(alloc, roots)?;

@@ -8,7 +8,7 @@ use Rattle.exec_graph.specs.Calls.{called}
 use Rattle.exec_graph.specs.Forests.{Branch, Forest, Bare, Twig, grown, limb, twigs}
 use Rattle.exec_graph.specs.World.{World}
 use Rattle.forest_steps.specs.Safety.{Safe}
-use Rattle.forest_steps.specs.Running.{Given, Run, and_then, below, behind, behind_all, run, run_answer, run_out, run_twigs, SafeTwigs}
+use Rattle.forest_steps.specs.Running.{Given, Run, and_then, below, next_behind, behind_all, run, run_answer, run_out, run_twigs, SafeTwigs}
 use Rattle.forest_steps.specs.declared.fault.StepFault.TheVariants as fault
 
 -- ---- runs one after another
@@ -47,7 +47,7 @@ module _ (w : World) where
         (run w sizes (behind_all sizes at ts) rest x)
     twigs_run at b n [] rest x answers given e = refl
     twigs_run at b n (t ∷ ts) rest x answers given e =
-        let next = behind sizes at in
+        let next = next_behind sizes at in
         let last = run w sizes (behind_all sizes next ts) rest x in
         let out = λ (vs : List Value). run_out t.out at (run w sizes (below at) t.kids) vs given in
         let here : run_answer b.origin n (called w b.does x) t.out at
@@ -79,7 +79,7 @@ module _ (w : World) where
         (run w sizes (behind_all sizes at ts) rest x)
     limb_then at b n [] rest x given = refl
     limb_then at b n (t ∷ ts) rest x given =
-        let next = behind sizes at in
+        let next = next_behind sizes at in
         let last = run w sizes (behind_all sizes next ts) rest x in
         let r = run_answer b.origin n (called w b.does x) t.out at
         (run w sizes (below at) t.kids) given in

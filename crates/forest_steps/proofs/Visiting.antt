@@ -10,7 +10,7 @@ use Rattle.exec_graph.specs.Twigs.{twig}
 use Rattle.exec_graph.specs.World.{World}
 use Rattle.exec_graph.specs.declared.step.Output.{Output}
 use Rattle.forest_steps.specs.Safety.{Safe}
-use Rattle.forest_steps.specs.Running.{Given, Run, and_then, below, behind, behind_all, run, run_each, run_out, run_twigs, IsStepsFault, SafeTwigs}
+use Rattle.forest_steps.specs.Running.{Given, Run, and_then, below, next_behind, behind_all, run, run_each, run_out, run_twigs, IsStepsFault, SafeTwigs}
 use Rattle.forest_steps.specs.Turns.{StepsTurn, in_turn}
 use Rattle.forest_steps.specs.declared.fault.StepFault.{StepFault}
 use Rattle.forest_steps.specs.declared.fault.StepFault.TheVariants as fault
@@ -73,13 +73,13 @@ module _ (w : World) (sizes : List ℕ) where
   pub twigs_begun : (b : Branch) (o : Output) (os items : List Output) (at next : ℕ)
       (answers left : List (List Value)) (vs : List Value) (g more : Given) → b.first ≡ twig o
       → b.more ≡ map twig os → items ≡ os → vs ≡ or_none (slice_get answers 0)
-      → left ≡ drop 1 answers → next ≡ behind sizes at → out_of at o vs g ≡ Ok more
+      → left ≡ drop 1 answers → next ≡ next_behind sizes at → out_of at o vs g ≡ Ok more
       → rest_of next left items more
       ≡ run_twigs w sizes at answers (b.first ∷ b.more) g
   twigs_begun b o os items at next answers left vs g more first rest same given behind_it next_is e
       =
       (λ i. run_twigs w sizes (next_is i) (behind_it i) (map twig (same i)) more)
-      ∙ sym (ap (λ r. and_then r (rest_of (behind sizes at) (drop 1 answers) os))
+      ∙ sym (ap (λ r. and_then r (rest_of (next_behind sizes at) (drop 1 answers) os))
       (ap (λ us. out_of at o us g) (sym given) ∙ e))
       ∙ (λ i. run_twigs w sizes at answers (sym first i ∷ sym rest i) g)
 
@@ -88,22 +88,22 @@ module _ (w : World) (sizes : List ℕ) where
       → vs ≡ or_none (slice_get answers 0)
       → rest_of at answers (drop i items) g ≡ whole
       → and_then (out_of at o vs g)
-      (rest_of (behind sizes at) (drop 1 answers) (drop (i + 1) items)) ≡ whole
+      (rest_of (next_behind sizes at) (drop 1 answers) (drop (i + 1) items)) ≡ whole
   twigs_at items i o at answers vs g whole h is given goes =
       ap (λ us. and_then (out_of at o us g)
-      (rest_of (behind sizes at) (drop 1 answers) (drop (i + 1) items))) given
+      (rest_of (next_behind sizes at) (drop 1 answers) (drop (i + 1) items))) given
       ∙ sym (ap (λ l. rest_of at answers l g) (drop_at items i o h is)) ∙ goes
 
   pub twigs_on : (items : List Output) (i : ℕ) (o : Output) (at next : ℕ)
       (answers left : List (List Value)) (vs : List Value) (g more : Given) (whole : Run)
       → i < length items → o ≡ get_or items i o → vs ≡ or_none (slice_get answers 0)
-      → left ≡ drop 1 answers → next ≡ behind sizes at
+      → left ≡ drop 1 answers → next ≡ next_behind sizes at
       → rest_of at answers (drop i items) g ≡ whole → out_of at o vs g ≡ Ok more
       → rest_of next left (drop (i + 1) items) more ≡ whole
   twigs_on items i o at next answers left vs g more whole h is given behind_it next_is goes e =
       (λ k. run_twigs w sizes (next_is k) (behind_it k) (map twig (drop (i + 1) items)) more)
       ∙ goes_on (out_of at o vs g) whole
-      (rest_of (behind sizes at) (drop 1 answers) (drop (i + 1) items)) more
+      (rest_of (next_behind sizes at) (drop 1 answers) (drop (i + 1) items)) more
       (twigs_at items i o at answers vs g whole h is given goes) e
 
   pub twigs_end : (items : List Output) (i : ℕ) (o : Output) (at : ℕ)
@@ -113,11 +113,11 @@ module _ (w : World) (sizes : List ℕ) where
       → IsStepsFault whole t
   twigs_end items i o at answers vs g whole t h is given goes e =
       ends_by (out_of at o vs g) whole
-      (rest_of (behind sizes at) (drop 1 answers) (drop (i + 1) items)) t
+      (rest_of (next_behind sizes at) (drop 1 answers) (drop (i + 1) items)) t
       (twigs_at items i o at answers vs g whole h is given goes) e
 
   pub place_on : (items : List Output) (i : ℕ) (o : Output) (at next whole : ℕ)
-      → i < length items → o ≡ get_or items i o → next ≡ behind sizes at
+      → i < length items → o ≡ get_or items i o → next ≡ next_behind sizes at
       → behind_all sizes at (map twig (drop i items)) ≡ whole
       → behind_all sizes next (map twig (drop (i + 1) items)) ≡ whole
   place_on items i o at next whole h is next_is goes =
@@ -125,7 +125,7 @@ module _ (w : World) (sizes : List ℕ) where
       ∙ sym (ap (λ l. behind_all sizes at (map twig l)) (drop_at items i o h is)) ∙ goes
 
   pub place_begun : (b : Branch) (o : Output) (os items : List Output) (at next : ℕ)
-      → b.first ≡ twig o → b.more ≡ map twig os → items ≡ os → next ≡ behind sizes at
+      → b.first ≡ twig o → b.more ≡ map twig os → items ≡ os → next ≡ next_behind sizes at
       → behind_all sizes next (map twig items) ≡ behind_all sizes at (b.first ∷ b.more)
   place_begun b o os items at next first rest same next_is =
       (λ i. behind_all sizes (next_is i) (map twig (same i)))

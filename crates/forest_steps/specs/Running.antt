@@ -31,38 +31,39 @@ given_code =
     (λ _. refl)
 
 -- values go behind the list of an output that is kept
-abbrev pub put : Option ℕ → List Value → OutputLists → OutputLists
-put None values lists = lists
-put (Some j) values lists = slice_set lists j (or_none (slice_get lists j) ++ values)
+abbrev pub put_on_output : Option ℕ → List Value → OutputLists → OutputLists
+put_on_output None values lists = lists
+put_on_output (Some j) values lists = slice_set lists j (or_none (slice_get lists j) ++ values)
 
-abbrev pub kept : Option ℕ → List Value → Given → Given
-kept out values g = record { lists = put out values g.lists; counts = g.counts }
+abbrev pub with_values_put : Option ℕ → List Value → Given → Given
+with_values_put out values g =
+    record { lists = put_on_output out values g.lists; counts = g.counts }
 
 -- the count at a place is n more
 abbrev pub raised_at : ℕ → ℕ → List ℕ → List ℕ
 raised_at at n counts =
     slice_set counts at (min (unwrap_or (slice_get counts at) 0 + n) (2 ^ 64 - 1))
 
-abbrev pub counted : ℕ → ℕ → Given → Given
-counted at n g = record { lists = g.lists; counts = raised_at at n g.counts }
+abbrev pub counted_at : ℕ → ℕ → Given → Given
+counted_at at n g = record { lists = g.lists; counts = raised_at at n g.counts }
 
 -- ---- places of outputs in preorder, where the table says at the place of an output how many there
 -- are of it and of all on it
 
-abbrev pub kept_place : ℕ → ℕ
-kept_place n = min n (2 ^ 64 - 1)
+abbrev pub bounded_place : ℕ → ℕ
+bounded_place n = min n (2 ^ 64 - 1)
 
 -- the first on an output
 abbrev pub below : ℕ → ℕ
-below at = kept_place (at + 1)
+below at = bounded_place (at + 1)
 
 -- the first behind an output
-abbrev pub behind : List ℕ → ℕ → ℕ
-behind sizes at = kept_place (at + unwrap_or (slice_get sizes at) 0)
+abbrev pub next_behind : List ℕ → ℕ → ℕ
+next_behind sizes at = bounded_place (at + unwrap_or (slice_get sizes at) 0)
 
 abbrev pub behind_all : List ℕ → ℕ → List Twig → ℕ
 behind_all sizes at [] = at
-behind_all sizes at (t ∷ ts) = behind_all sizes (behind sizes at) ts
+behind_all sizes at (t ∷ ts) = behind_all sizes (next_behind sizes at) ts
 
 -- ---- steps
 
@@ -83,8 +84,8 @@ run_each f (x ∷ xs) g = and_then (f x g) (run_each f xs)
 -- all go behind the output's list
 abbrev pub run_out : Option ℕ → ℕ → (Value → Given → Run) → List Value → Given → Run
 run_out out at kids values g =
-    and_then (run_each kids values (counted at (length values) g))
-    (λ more. Ok (kept out values more))
+    and_then (run_each kids values (counted_at at (length values) g))
+    (λ more. Ok (with_values_put out values more))
 
 -- what a step of a script node answers, to its output `which`
 abbrev pub run_answer : ℕ → ℕ → Called → Option ℕ → ℕ → (Value → Given → Run) → Given → Run
@@ -99,7 +100,7 @@ module _ (w : World) (sizes : List ℕ) where
   run at (Grow l kids rest) x g =
       and_then
       (run_answer l.origin l.at (called w l.does x) l.out at (run (below at) kids) g)
-      (run (behind sizes at) rest x)
+      (run (next_behind sizes at) rest x)
 
   -- what a step answered, to its outputs in order
   abbrev pub run_twigs : ℕ → List (List Value) → List Twig → Given → Run
@@ -107,7 +108,7 @@ module _ (w : World) (sizes : List ℕ) where
   run_twigs at answers (t ∷ ts) g =
       and_then
       (run_out t.out at (run (below at) t.kids) (or_none (slice_get answers 0)) g)
-      (run_twigs (behind sizes at) (drop 1 answers) ts)
+      (run_twigs (next_behind sizes at) (drop 1 answers) ts)
 
 -- the steps on the outputs of a step may be called on what it answered
 abbrev pub SafeTwigs : World → (ℕ → Value → Type 0) → List (List Value) → List Twig → Type 0

@@ -1,6 +1,6 @@
 // What the outputs of steps are given.
 ghost use Rattle.std.specs.Prelude.{◌≡◌, ◌∷◌, [], IfOk, OnOk};
-ghost use Rattle.forest_steps.specs.Running.{counted, kept};
+ghost use Rattle.forest_steps.specs.Running.{counted_at, with_values_put};
 ghost use Rattle.forest_steps.specs.Fresh.{empties, zeros};
 
 use crate::emitted::Emitted;
@@ -59,7 +59,7 @@ impl Outputs {
     /// Counts so many elements more at a place.
     #[inline(always)]
     pub(crate) fn count(&mut self, at: usize, more: usize)
-        ensures { self.new ≡ counted at more self.old }
+        ensures { self.new ≡ counted_at at more self.old }
     {
         if at < self.counts.len() {
             self.counts[at] = self.counts[at].saturating_add(more as u64);
@@ -73,7 +73,7 @@ impl Outputs {
         number: Option<u32>,
         emitted: Items,
     ) -> Result<(), AllocError>
-        ensures { OnOk result (self.new ≡ kept number emitted self.old) }
+        ensures { OnOk result (self.new ≡ with_values_put number emitted self.old) }
     {
         if let Some(number) = number {
             let at = number as usize;
@@ -91,7 +91,7 @@ impl Outputs {
         number: Option<u32>,
         value: Value,
     ) -> Result<(), AllocError>
-        ensures { OnOk result (self.new ≡ kept number (value ∷ []) self.old) }
+        ensures { OnOk result (self.new ≡ with_values_put number (value ∷ []) self.old) }
     {
         match number {
             Some(number) if (number as usize) < self.lists.len() => {
@@ -109,7 +109,7 @@ impl Outputs {
         number: Option<u32>,
         couple: Couple,
     ) -> Result<(), AllocError>
-        ensures { OnOk result (self.new ≡ kept number (couple ∷ []) self.old) }
+        ensures { OnOk result (self.new ≡ with_values_put number (couple ∷ []) self.old) }
     {
         match number {
             Some(number) if (number as usize) < self.lists.len() => {

@@ -5,7 +5,7 @@ ghost use Rattle.flume_collection.specs.Calls.{or_none};
 ghost use Rattle.exec_graph.specs.Forests.{Bare, grown, limb};
 ghost use Rattle.forest_steps.specs.Functions.{world_of};
 ghost use Rattle.forest_steps.specs.Safety.{Safe};
-ghost use Rattle.forest_steps.specs.Running.{run, run_each, run_out, run_twigs, below, behind, behind_all, IsRun, SafeTwigs};
+ghost use Rattle.forest_steps.specs.Running.{run, run_each, run_out, run_twigs, below, next_behind, behind_all, IsRun, SafeTwigs};
 ghost use Rattle.forest_steps.specs.Answers.{lists_of};
 
 use crate::answer::{answer, answer_moved};
@@ -366,7 +366,7 @@ fn below(at: usize) -> usize
 
 /// The place of the first output behind the one at this place and all on it.
 fn behind(sizes: &[usize], at: usize) -> usize
-    ensures { result ≡ behind sizes.now at }
+    ensures { result ≡ next_behind sizes.now at }
 {
     match sizes.get(at) {
         Some(size) => at.saturating_add(*size),

@@ -19,13 +19,13 @@ use Rattle.plan_rules.specs.of_exec_plan.Channels.{kept_out, outs_of}
 use Rattle.plan_laws.specs.declared.operations.Key.{Key}
 use Rattle.plan_laws.specs.declared.operations.Key.TheVariants.{Mapper, Whole}
 use Rattle.plan_laws.specs.declared.operations.Grouped.{Grouped}
-use Rattle.plan_laws.specs.Operations.{has_key, inputs_at}
+use Rattle.plan_laws.specs.Operations.{is_read_under, inputs_at}
 use Rattle.plan_laws.proofs.Carrying.{outs_has}
 use Rattle.plan_rules.specs.Fitting.{IsUsed, same_key, takes_key}
 use Rattle.plan_roles.specs.Levels.{level}
-use Rattle.plan_roles.specs.Mappers.{key_of, outputs_of, passes}
-use Rattle.form_laws.specs.Classes.{IsGbk, IsGbkAt, keys_of}
-use Rattle.form_laws.specs.Operations.{class_keys, first_uses, grouped, key_passes, passes_at}
+use Rattle.plan_roles.specs.Mappers.{read_key, places_given, passes}
+use Rattle.form_laws.specs.Classes.{IsGbk, IsGbkAt, keys_taken}
+use Rattle.form_laws.specs.Operations.{class_keys, first_uses, gbk_with_reducer, key_passes, passes_at}
 use Rattle.form_laws.proofs.Basics.{all_filtered, negated, all_kept as each_kept}
 use Rattle.form_laws.proofs.Counting.{all_true}
 use Rattle.form_laws.proofs.Standing.{at_passes, inputs_from, key_has, keys_are, passes_there}
@@ -80,28 +80,30 @@ all_any f (c ∷ cs) h = (
 )
 
 node_used : (b : Blocked) (n : ℕ)
-    → Each (λ k. takes_key b.graph.nodes k (grouped b n) ≡ true) (keys_of b n)
+    → Each (λ k. takes_key b.graph.nodes k (gbk_with_reducer b n) ≡ true) (keys_taken b n)
 node_used b n =
     let es : List Entry = b.graph.nodes in
     let l : ℕ = level es n in
     let ins : List Place = inputs_from es (node_at es n) in
-    subst (Each (λ k. takes_key es k (grouped b n) ≡ true)) (sym (keys_are b n))
-    (Each-map (λ k. takes_key es k (grouped b n) ≡ true) (key_of b l) ins
-    (all_any (λ c d. has_key (key_of b l c) d) ins (key_has b l)))
+    subst (Each (λ k. takes_key es k (gbk_with_reducer b n) ≡ true)) (sym (keys_are b n))
+    (Each-map (λ k. takes_key es k (gbk_with_reducer b n) ≡ true) (read_key b l) ins
+    (all_any (λ c d. is_read_under (read_key b l c) d) ins (key_has b l)))
 
 pub class_used : (b : Blocked) (ns : List ℕ)
-    → Each (IsUsed b.graph.nodes (map (grouped b) ns)) (flat_map (keys_of b) ns)
+    → Each (IsUsed b.graph.nodes (map (gbk_with_reducer b) ns)) (flat_map (keys_taken b) ns)
 class_used b [] = tt
 class_used b (n ∷ ns) =
     let es : List Entry = b.graph.nodes in
-    let all : List Grouped = map (grouped b) ns in
-    Each-append (IsUsed es (grouped b n ∷ all)) (keys_of b n) (flat_map (keys_of b) ns)
-    (Each-weaker (λ k. takes_key es k (grouped b n) ≡ true) (IsUsed es (grouped b n ∷ all))
-    (λ k h. or_left (takes_key es k (grouped b n)) (list_any (takes_key es k) all) h)
-    (keys_of b n) (node_used b n))
-    (Each-weaker (IsUsed es all) (IsUsed es (grouped b n ∷ all))
-    (λ k h. or_right (takes_key es k (grouped b n)) (list_any (takes_key es k) all) h)
-    (flat_map (keys_of b) ns) (class_used b ns))
+    let all : List Grouped = map (gbk_with_reducer b) ns in
+    Each-append (IsUsed es (gbk_with_reducer b n ∷ all)) (keys_taken b n)
+    (flat_map (keys_taken b) ns)
+    (Each-weaker (λ k. takes_key es k (gbk_with_reducer b n) ≡ true)
+    (IsUsed es (gbk_with_reducer b n ∷ all))
+    (λ k h. or_left (takes_key es k (gbk_with_reducer b n)) (list_any (takes_key es k) all) h)
+    (keys_taken b n) (node_used b n))
+    (Each-weaker (IsUsed es all) (IsUsed es (gbk_with_reducer b n ∷ all))
+    (λ k h. or_right (takes_key es k (gbk_with_reducer b n)) (list_any (takes_key es k) all) h)
+    (flat_map (keys_taken b) ns) (class_used b ns))
 
 inputs_some : (b : Blocked) (c : Place) (o : Option Node) → IsGraphOk b.graph
     → node_at b.graph.nodes c.node ≡ o → 0 < length (inputs_at c o)
@@ -128,11 +130,11 @@ from_some b (Some (Gbk c o l k)) ok g =
     inputs_some b c (node_at b.graph.nodes c.node) ok refl
 from_some b (Some (Barrier ins o l a)) ok g = absurd g
 
-keys_some : (b : Blocked) (n : ℕ) → IsGraphOk b.graph → IsGbk b n → 0 < length (keys_of b n)
+keys_some : (b : Blocked) (n : ℕ) → IsGraphOk b.graph → IsGbk b n → 0 < length (keys_taken b n)
 keys_some b n ok g =
     let es : List Entry = b.graph.nodes in
     subst (λ (ks : List Key). 0 < length ks) (sym (keys_are b n))
-    (map_some (key_of b (level es n)) (inputs_from es (node_at es n))
+    (map_some (read_key b (level es n)) (inputs_from es (node_at es n))
     (from_some b (node_at es n) ok g))
 
 append_some : (xs ys : List Key) → 0 < length xs → 0 < length (xs ++ ys)
@@ -147,8 +149,8 @@ pub class_some : (b : Blocked) (ns : List ℕ) → IsGraphOk b.graph → Each (I
     → 0 < length (class_keys b ns)
 class_some b [] ok a h = absurd (omega arith)
 class_some b (n ∷ ns) ok a h =
-    uses_some (keys_of b n ++ flat_map (keys_of b) ns)
-    (append_some (keys_of b n) (flat_map (keys_of b) ns) (keys_some b n ok a.0))
+    uses_some (keys_taken b n ++ flat_map (keys_taken b) ns)
+    (append_some (keys_taken b n) (flat_map (keys_taken b) ns) (keys_some b n ok a.0))
 
 -- ---- what passes through
 apart_outs : (f g : ℕ → Bool) (xs ys : List ℕ) → Each (λ j. f j ≡ true) xs
@@ -202,7 +204,7 @@ places_distinct n (j ∷ js) d = (
 )
 
 pub outputs_distinct : (b : Blocked) (n : ℕ) (d : Place) (f : Forest) → IsSound b.graph
-    → node_at b.graph.nodes n ≡ Some (Pdo d f) → Apart same_place (outputs_of n f)
+    → node_at b.graph.nodes n ≡ Some (Pdo d f) → Apart same_place (places_given n f)
 outputs_distinct b n d f ok h =
     places_distinct n (outs_of f) (outs_distinct f
     (all_found (λ e. HasOuts e.node) b.graph.nodes n (Pdo d f) h ok.outs))
@@ -211,7 +213,7 @@ passes_distinct : (b : Blocked) (n : ℕ) (o : Option Node) → IsSound b.graph
     → node_at b.graph.nodes n ≡ o → Apart same_place (passes_at b n o)
 passes_distinct b n o ok h =
     at_passes (Apart same_place) b n o tt
-    (λ d f i. distinct_kept same_place (passes b) (outputs_of n f)
+    (λ d f i. distinct_kept same_place (passes b) (places_given n f)
     (outputs_distinct b n d f ok (h ∙ i)))
 
 others_apart : (b : Blocked) (n : ℕ) (ks : List Key)

@@ -3,8 +3,8 @@ use Rattle.std.proofs.Common.{◌≡◌, ℕ, ◌+◌, ◌<◌, ◌≤◌, ◌�
 use Rattle.std.proofs.lemmas.Bool.{eqb-true, eq-eqb, false≢true}
 use Rattle.std.specs.List.{AllByRecursion as Each, filter}
 use Rattle.flume_value.proofs.EachLemmas.{Each-filter, Each-filter_passes, Each-weaker}
-use Rattle.plan_laws.specs.Operations.{times}
-use Rattle.form_laws.specs.Classes.{IsShared, Rises, members}
+use Rattle.plan_laws.specs.Operations.{times_named}
+use Rattle.form_laws.specs.Classes.{IsShared, Rises, class_members}
 use Rattle.form_laws.proofs.Basics.{all_at, counted, counts_head, none_counted, times_append}
 
 abbrev like : (ℕ → ℕ) → ℕ → ℕ → Bool
@@ -21,15 +21,15 @@ by_label l (suc turns) (n ∷ ns) =
     (n ∷ filter (like l n) ns) ∷ by_label l turns (filter (unlike l n) ns)
 
 parts_by : (f : ℕ → Bool) (x n : ℕ) (ns : List ℕ) (t : Bool)
-    → times x (filter f ns) + times x (filter (λ k. not (f k)) ns) ≡ times x ns
-    → times x (cond t (n ∷ filter f ns) (filter f ns))
-    + times x (cond (not t) (n ∷ filter (λ k. not (f k)) ns) (filter (λ k. not (f k)) ns))
-    ≡ times x (n ∷ ns)
+    → times_named x (filter f ns) + times_named x (filter (λ k. not (f k)) ns) ≡ times_named x ns
+    → times_named x (cond t (n ∷ filter f ns) (filter f ns))
+    + times_named x (cond (not t) (n ∷ filter (λ k. not (f k)) ns) (filter (λ k. not (f k)) ns))
+    ≡ times_named x (n ∷ ns)
 parts_by f x n ns true h = omega arith
 parts_by f x n ns false h = omega arith
 
 parts_times : (f : ℕ → Bool) (x : ℕ) (ns : List ℕ)
-    → times x (filter f ns) + times x (filter (λ k. not (f k)) ns) ≡ times x ns
+    → times_named x (filter f ns) + times_named x (filter (λ k. not (f k)) ns) ≡ times_named x ns
 parts_times f x [] = refl
 parts_times f x (n ∷ ns) = parts_by f x n ns (f n) (parts_times f x ns)
 
@@ -43,7 +43,7 @@ fewer f [] = omega arith
 fewer f (n ∷ ns) = fewer_by n ns (filter f ns) (f n) (fewer f ns)
 
 pub label_times : (l : ℕ → ℕ) (turns : ℕ) (ns : List ℕ) → length ns ≤ turns → (x : ℕ)
-    → times x (members (by_label l turns ns)) ≡ times x ns
+    → times_named x (class_members (by_label l turns ns)) ≡ times_named x ns
 label_times l zero [] h x = refl
 label_times l zero (n ∷ ns) h x = absurd (omega arith)
 label_times l (suc turns) [] h x = refl
@@ -51,7 +51,7 @@ label_times l (suc turns) (n ∷ ns) h x =
     let rest : List ℕ = filter (unlike l n) ns in
     let few = fewer (unlike l n) ns in
     let i = label_times l turns rest (omega arith) x in
-    let a = times_append x (n ∷ filter (like l n) ns) (members (by_label l turns rest)) in
+    let a = times_append x (n ∷ filter (like l n) ns) (class_members (by_label l turns rest)) in
     let p = parts_times (like l n) x ns in
     omega arith
 
@@ -111,22 +111,22 @@ shared_label l (suc turns) (x ∷ xs) n k (inr h) =
     shared_label l turns (filter (unlike l x) xs) n k h
 
 kept_by : (n x : ℕ) (f : ℕ → Bool) (ms : List ℕ) (t : Bool) → f x ≡ t → f n ≡ true
-    → (x ≡ n) ⊎ (0 < times n ms) → 0 < times n (cond t (x ∷ ms) ms)
+    → (x ≡ n) ⊎ (0 < times_named n ms) → 0 < times_named n (cond t (x ∷ ms) ms)
 kept_by n x f ms true e p (inl i) = counts_head n x ms i
 kept_by n x f ms true e p (inr h) = omega arith
 kept_by n x f ms false e p (inl i) = absurd (false≢true (sym e ∙ ap f i ∙ p))
 kept_by n x f ms false e p (inr h) = h
 
-kept_in : (f : ℕ → Bool) (n : ℕ) (ns : List ℕ) → f n ≡ true → 0 < times n ns
-    → 0 < times n (filter f ns)
+kept_in : (f : ℕ → Bool) (n : ℕ) (ns : List ℕ) → f n ≡ true → 0 < times_named n ns
+    → 0 < times_named n (filter f ns)
 kept_in f n [] p h = absurd (none_counted n h)
 kept_in f n (x ∷ xs) p h =
     kept_by n x f (filter f xs) (f x) refl p
     (elim (counted n x xs h) [ inl e ↦ inl e | inr i ↦ inr (kept_in f n xs p i) ])
 
 -- what has the label of x is in its class, and what has not is in the others
-in_class : (l : ℕ → ℕ) (x n : ℕ) (xs : List ℕ) → eqb (l x) (l n) ≡ true → 0 < times n (x ∷ xs)
-    → 0 < times n (x ∷ filter (like l x) xs)
+in_class : (l : ℕ → ℕ) (x n : ℕ) (xs : List ℕ) → eqb (l x) (l n) ≡ true → 0 < times_named n (x ∷ xs)
+    → 0 < times_named n (x ∷ filter (like l x) xs)
 in_class l x n xs e h =
     elim (counted n x xs h) [
       | inl i ↦ counts_head n x (filter (like l x) xs) i
@@ -134,7 +134,7 @@ in_class l x n xs e h =
     ]
 
 in_others : (l : ℕ → ℕ) (x n : ℕ) (xs : List ℕ) → eqb (l x) (l n) ≡ false
-    → 0 < times n (x ∷ xs) → 0 < times n (filter (unlike l x) xs)
+    → 0 < times_named n (x ∷ xs) → 0 < times_named n (filter (unlike l x) xs)
 in_others l x n xs e h =
     elim (counted n x xs h) [
       | inl i ↦ absurd (false≢true (sym e ∙ eq-eqb (l x) (l n) (ap l i)))
@@ -142,17 +142,18 @@ in_others l x n xs e h =
     ]
 
 pub label_shared : (l : ℕ → ℕ) (turns : ℕ) (ns : List ℕ) (n k : ℕ) → length ns ≤ turns
-    → 0 < times n ns → 0 < times k ns → l n ≡ l k → IsShared n k (by_label l turns ns)
+    → 0 < times_named n ns → 0 < times_named k ns → l n ≡ l k → IsShared n k (by_label l turns ns)
 label_shared l turns [] n k h p q e = absurd (none_counted n p)
 label_shared l zero (x ∷ xs) n k h p q e = absurd (omega arith)
 label_shared l (suc turns) (x ∷ xs) n k h p q e =
     by (λ i j. label_shared l turns (filter (unlike l x) xs) n k
     (let few = fewer (unlike l x) xs in omega arith) i j e) (eqb (l x) (l n)) refl
   where
-    by : (0 < times n (filter (unlike l x) xs) → 0 < times k (filter (unlike l x) xs)
+    by : (0 < times_named n (filter (unlike l x) xs) → 0 < times_named k (filter (unlike l x) xs)
         → IsShared n k (by_label l turns (filter (unlike l x) xs)))
         → (t : Bool) → eqb (l x) (l n) ≡ t
-        → ((0 < times n (x ∷ filter (like l x) xs)) × (0 < times k (x ∷ filter (like l x) xs)))
+        → ((0 < times_named n (x ∷ filter (like l x) xs)) ×
+        (0 < times_named k (x ∷ filter (like l x) xs)))
         ⊎ IsShared n k (by_label l turns (filter (unlike l x) xs))
     by f true i =
         inl (

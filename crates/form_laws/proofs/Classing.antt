@@ -13,11 +13,11 @@ use Rattle.exec_graph.proofs.Bools.{or_cases, not_true}
 use Rattle.plan_rules.proofs.of_graph_laws.ReadPlaces.{same_self}
 use Rattle.plan_laws.specs.declared.operations.Key.{Key}
 use Rattle.plan_laws.specs.declared.operations.Key.TheVariants.{Mapper, Whole}
-use Rattle.plan_laws.specs.Operations.{times}
+use Rattle.plan_laws.specs.Operations.{times_named}
 use Rattle.plan_laws.proofs.Running.{place_same}
 use Rattle.plan_roles.specs.Levels.{level}
 use Rattle.plan_rules.specs.Fitting.{same_key}
-use Rattle.form_laws.specs.Classes.{AreClasses, AreLinked, IsGbk, IsGbkAt, IsLinked, IsShared, has_same, keys_at, keys_of, members, related}
+use Rattle.form_laws.specs.Classes.{AreClasses, AreLinked, IsGbk, IsGbkAt, IsLinked, IsShared, has_same, keys_at, keys_taken, class_members, related}
 use Rattle.form_laws.proofs.Basics.{all_at, counts_head, in_either, times_append}
 use Rattle.form_laws.proofs.Reading.{is_gbk}
 
@@ -51,14 +51,14 @@ any_there f (x ∷ ys) zs y h =
 
 -- two Gbks of one level that share a key are related, either way
 pub share_related : (b : Blocked) (n k : ℕ) (x : Key)
-    → level b.graph.nodes n ≡ level b.graph.nodes k → has_same (keys_of b n) x ≡ true
-    → has_same (keys_of b k) x ≡ true → related b n k ≡ true
+    → level b.graph.nodes n ≡ level b.graph.nodes k → has_same (keys_taken b n) x ≡ true
+    → has_same (keys_taken b k) x ≡ true → related b n k ≡ true
 share_related b n k x e h i =
-    let r = any_split (λ j. same_key j x) (keys_of b k) i in
+    let r = any_split (λ j. same_key j x) (keys_taken b k) i in
     let y : r.2 ≡ x = key_same r.2 x r.4 in
-    let t : list_any (has_same (keys_of b n)) (keys_of b k) ≡ true =
-    ap (list_any (has_same (keys_of b n))) r.3
-    ∙ any_there (has_same (keys_of b n)) r.0 r.1 r.2 (ap (has_same (keys_of b n)) y ∙ h) in
+    let t : list_any (has_same (keys_taken b n)) (keys_taken b k) ≡ true =
+    ap (list_any (has_same (keys_taken b n))) r.3
+    ∙ any_there (has_same (keys_taken b n)) r.0 r.1 r.2 (ap (has_same (keys_taken b n)) y ∙ h) in
     rw (eq-eqb (level b.graph.nodes n) (level b.graph.nodes k) e) t
 
 related_level : (b : Blocked) (n k : ℕ) → related b n k ≡ true
@@ -66,14 +66,14 @@ related_level : (b : Blocked) (n k : ℕ) → related b n k ≡ true
 related_level b n k h =
     eqb-true (level b.graph.nodes n) (level b.graph.nodes k)
     (both_true (eqb (level b.graph.nodes n) (level b.graph.nodes k))
-    (list_any (has_same (keys_of b n)) (keys_of b k)) h).0
+    (list_any (has_same (keys_taken b n)) (keys_taken b k)) h).0
 
 pub related_sym : (b : Blocked) (n k : ℕ) → related b n k ≡ true → related b k n ≡ true
 related_sym b n k h =
     let p = both_true (eqb (level b.graph.nodes n) (level b.graph.nodes k))
-    (list_any (has_same (keys_of b n)) (keys_of b k)) h in
-    let r = any_split (has_same (keys_of b n)) (keys_of b k) p.1 in
-    let here : has_same (keys_of b k) r.2 ≡ true =
+    (list_any (has_same (keys_taken b n)) (keys_taken b k)) h in
+    let r = any_split (has_same (keys_taken b n)) (keys_taken b k) p.1 in
+    let here : has_same (keys_taken b k) r.2 ≡ true =
     ap (λ ks. has_same ks r.2) r.3
     ∙ any_there (λ j. same_key j r.2) r.0 r.1 r.2 (key_self r.2) in
     share_related b k n r.2 (sym (related_level b n k h)) here r.4
@@ -116,12 +116,13 @@ any_gbk b n f (Some (Barrier ins o l a)) h = absurd (false≢true h)
 
 pub related_gbk : (b : Blocked) (n k : ℕ) → related b n k ≡ true → IsGbk b k
 related_gbk b n k h =
-    any_gbk b k (has_same (keys_of b n)) (node_at b.graph.nodes k)
+    any_gbk b k (has_same (keys_taken b n)) (node_at b.graph.nodes k)
     (both_true (eqb (level b.graph.nodes n) (level b.graph.nodes k))
-    (list_any (has_same (keys_of b n)) (keys_of b k)) h).1
+    (list_any (has_same (keys_taken b n)) (keys_taken b k)) h).1
 
 -- ---- members
-pub each_counted : (P : ℕ → Type 0) (ns : List ℕ) → ((n : ℕ) → 0 < times n ns → P n) → Each P ns
+pub each_counted : (P : ℕ → Type 0) (ns : List ℕ) → ((n : ℕ) → 0 < times_named n ns → P n)
+    → Each P ns
 each_counted P [] f = tt
 each_counted P (n ∷ ns) f = (
   f n (counts_head n n ns refl),
@@ -130,34 +131,34 @@ each_counted P (n ∷ ns) f = (
 
 -- what holds of each class that stands among those of cs
 pub each_class : (P : List ℕ → Type 0) (cs : List (List ℕ))
-    → ((c : List ℕ) → ((n : ℕ) → 0 < times n c → 0 < times n (members cs))
-    → ((n k : ℕ) → 0 < times n c → 0 < times k c → IsShared n k cs) → P c) → Each P cs
+    → ((c : List ℕ) → ((n : ℕ) → 0 < times_named n c → 0 < times_named n (class_members cs))
+    → ((n k : ℕ) → 0 < times_named n c → 0 < times_named k c → IsShared n k cs) → P c) → Each P cs
 each_class P [] f = tt
 each_class P (c ∷ cs) f = (
-  f c (λ n h. let t = times_append n c (members cs) in omega arith) (λ n k h i. inl (h, i)),
+  f c (λ n h. let t = times_append n c (class_members cs) in omega arith) (λ n k h i. inl (h, i)),
   each_class P cs (λ d g s. f d
-      (λ n h. let t = times_append n c (members cs) in let u = g n h in omega arith)
+      (λ n h. let t = times_append n c (class_members cs) in let u = g n h in omega arith)
       (λ n k h i. inr (s n k h i))),
 )
 
 pub member_gbk : (b : Blocked) (cs : List (List ℕ)) → Each (Each (IsGbk b)) cs → (n : ℕ)
-    → 0 < times n (members cs) → IsGbk b n
+    → 0 < times_named n (class_members cs) → IsGbk b n
 member_gbk b [] a n h = absurd (omega arith)
 member_gbk b (c ∷ cs) a n h =
-    elim (in_either n c (members cs) h)
+    elim (in_either n c (class_members cs) h)
     [ inl i ↦ all_at (IsGbk b) n c a.0 i | inr i ↦ member_gbk b cs a.1 n i ]
 
 shared_in : (n k : ℕ) (cs : List (List ℕ)) → IsShared n k cs
-    → (0 < times n (members cs)) × (0 < times k (members cs))
+    → (0 < times_named n (class_members cs)) × (0 < times_named k (class_members cs))
 shared_in n k [] h = absurd h
 shared_in n k (c ∷ cs) (inl h) =
-    let a = times_append n c (members cs) in
-    let d = times_append k c (members cs) in
+    let a = times_append n c (class_members cs) in
+    let d = times_append k c (class_members cs) in
     (omega arith, omega arith)
 shared_in n k (c ∷ cs) (inr h) =
     let i = shared_in n k cs h in
-    let a = times_append n c (members cs) in
-    let d = times_append k c (members cs) in
+    let a = times_append n c (class_members cs) in
+    let d = times_append k c (class_members cs) in
     (omega arith, omega arith)
 
 -- ---- the parts
@@ -174,16 +175,17 @@ AreApart b [] = Unit {0}
 AreApart b (c ∷ cs) = Each (Unrelated b c) cs × AreApart b cs
 
 apart : (b : Blocked) (cs : List (List ℕ))
-    → ((n : ℕ) → 0 < times n (members cs) → times n (members cs) ≤ 1)
-    → ((n k : ℕ) → 0 < times n (members cs) → 0 < times k (members cs) → related b n k ≡ true
+    → ((n : ℕ) → 0 < times_named n (class_members cs) → times_named n (class_members cs) ≤ 1)
+    → ((n k : ℕ) → 0 < times_named n (class_members cs) → 0 < times_named k (class_members cs) →
+    related b n k ≡ true
     → IsShared n k cs) → AreApart b cs
 apart b [] few shares = tt
 apart b (c ∷ cs) few shares = (
   each_class (Unrelated b c) cs (λ d g s. each_counted (λ n. Each (λ k. related b n k ≡ false) d) c
       (λ n i. each_counted (λ k. related b n k ≡ false) d (λ k j.
       not_true (related b n k) (λ r.
-      let tn = times_append n c (members cs) in
-      let tk = times_append k c (members cs) in
+      let tn = times_append n c (class_members cs) in
+      let tk = times_append k c (class_members cs) in
       let gk = g k j in
       let fn = few n (omega arith) in
       let fk = few k (omega arith) in
@@ -192,10 +194,11 @@ apart b (c ∷ cs) few shares = (
         | inr h ↦ let x = (shared_in n k cs h).0 in omega arith
       ])))),
   apart b cs
-      (λ n h. let t = times_append n c (members cs) in let f = few n (omega arith) in omega arith)
+      (λ n h. let t = times_append n c (class_members cs) in let f = few n (omega arith) in omega
+      arith)
       (λ n k h i r.
-      let tn = times_append n c (members cs) in
-      let tk = times_append k c (members cs) in
+      let tn = times_append n c (class_members cs) in
+      let tk = times_append k c (class_members cs) in
       let fn = few n (omega arith) in
       elim (shares n k (omega arith) (omega arith) r) [
         | inl s ↦ let x = s.0 in absurd (omega arith)
@@ -204,7 +207,7 @@ apart b (c ∷ cs) few shares = (
 )
 
 level_by : (b : Blocked) (c : List ℕ)
-    → ((n k : ℕ) → 0 < times n c → 0 < times k c
+    → ((n k : ℕ) → 0 < times_named n c → 0 < times_named k c
     → level b.graph.nodes n ≡ level b.graph.nodes k) → HasLevel b c
 level_by b [] f = (0, tt)
 level_by b (m ∷ ms) f = (
@@ -215,7 +218,7 @@ level_by b (m ∷ ms) f = (
 
 pub record AreParts (b : Blocked) (cs : List (List ℕ)) : Type 0 where
   pub gbks : Each (Each (IsGbk b)) cs
-  pub once : (n : ℕ) → IsGbk b n → times n (members cs) ≡ 1
+  pub once : (n : ℕ) → IsGbk b n → times_named n (class_members cs) ≡ 1
   pub level : Each (HasLevel b) cs
   pub apart : AreApart b cs
   -- what each node is made of is of the right kinds
@@ -224,7 +227,7 @@ pub record AreParts (b : Blocked) (cs : List (List ℕ)) : Type 0 where
 pub classes_part : (b : Blocked) (cs : List (List ℕ)) → HaveObjects b.graph.nodes
     → AreClasses b cs → AreParts b cs
 classes_part b cs objects a =
-    let gbk : (n : ℕ) → 0 < times n (members cs) → IsGbk b n = member_gbk b cs a.gbks in
+    let gbk : (n : ℕ) → 0 < times_named n (class_members cs) → IsGbk b n = member_gbk b cs a.gbks in
     record {
       gbks = a.gbks;
       once = a.once;

@@ -19,14 +19,14 @@ use Rattle.plan_laws.specs.declared.operations.Key.TheVariants.{Mapper, Whole}
 use Rattle.plan_laws.specs.declared.operations.Operation.{Operation}
 use Rattle.plan_laws.specs.declared.operations.Operation.TheVariants.{Flat, Class}
 use Rattle.plan_laws.specs.declared.operations.Key.{Key}
-use Rattle.plan_laws.specs.Operations.{IsFlat, IsHonest, runs, times, works_at}
+use Rattle.plan_laws.specs.Operations.{IsFlat, IsHonest, runs, times_named, works_at}
 use Rattle.plan_rules.specs.Fitting.{AreFit, FitsEntries, IsUsed, flat_runs, same_key}
-use Rattle.plan_roles.specs.Mappers.{is_mapper, is_reducer, is_stage, maps_at, outputs_of, passes, reducer_of}
+use Rattle.plan_roles.specs.Mappers.{is_mapper, is_reducer, is_stage, maps_at, places_given, passes, reducer_of}
 use Rattle.plan_roles.specs.Roles.{passes_of}
 use Rattle.form_laws.specs.declared.ranked.Ranked.{Ranked}
-use Rattle.form_laws.specs.Classes.{IsGbk, IsGbkAt, keys_of, members}
-use Rattle.form_laws.specs.Formed.{AreFormed, in_order}
-use Rattle.form_laws.specs.Operations.{all_alone, alone, alone_of, class_keys, class_operation, class_ranked, grouped, key_passes, barrier_does, operations, passes_at, trivial}
+use Rattle.form_laws.specs.Classes.{IsGbk, IsGbkAt, keys_taken, class_members}
+use Rattle.form_laws.specs.Formed.{AreFormed, ordered_operations}
+use Rattle.form_laws.specs.Operations.{all_alone, ranked_alone, alone_of, class_keys, class_operation, class_ranked, gbk_with_reducer, key_passes, barrier_does, operations, passes_at, trivial}
 use Rattle.form_laws.proofs.Basics.{absent, times_append}
 use Rattle.form_laws.proofs.Classing.{AreParts, classes_part, member_gbk}
 use Rattle.form_laws.proofs.Counting.{all_runs, all_true, no_mapper_keys, one_time, reads_it, reducers_none, runs_once}
@@ -70,12 +70,13 @@ class_fit : (b : Blocked) (ns : List ℕ) → IsBlockedOk b → Each (IsGbk b) n
     → FitsEntries b.graph.nodes (class_operation b ns)
 class_fit b ns ok a h = record {
   some = class_some b ns ok.ok a h;
-  differ = to_distinct same_key (class_keys b ns) (uses_distinct (flat_map (keys_of b) ns));
-  used = inr (uses_ok (IsUsed b.graph.nodes (map (grouped b) ns)) (flat_map (keys_of b) ns)
+  differ = to_distinct same_key (class_keys b ns) (uses_distinct (flat_map (keys_taken b) ns));
+  used =
+      inr (uses_ok (IsUsed b.graph.nodes (map (gbk_with_reducer b) ns)) (flat_map (keys_taken b) ns)
       (class_used b ns));
   passed = to_distinct same_place (flat_map (key_passes b) (class_keys b ns))
       (keys_distinct b (class_keys b ns) (IsSound-ok b.graph ok.ok)
-      (uses_distinct (flat_map (keys_of b) ns)));
+      (uses_distinct (flat_map (keys_taken b) ns)));
   collections = passes_no b (class_keys b ns);
   reduced = all_reduced b ns ok;
 }
@@ -86,8 +87,8 @@ trivial_fit b n d f ok h = record {
   some = omega arith;
   differ = to_distinct same_key (Mapper n ∷ []) (tt, tt);
   used = inl tt;
-  passed = to_distinct same_place (outputs_of n f) (outputs_distinct b n d f ok h);
-  collections = pdo_outs b n d f (outputs_of n f) h (outs_there b.graph.nodes n d f h);
+  passed = to_distinct same_place (places_given n f) (outputs_distinct b n d f ok h);
+  collections = pdo_outs b n d f (places_given n f) h (outs_there b.graph.nodes n d f h);
   reduced = tt;
 }
 
@@ -108,13 +109,14 @@ barrier_fit b n ins o l (Singleton k) h = tt
 abbrev Fits : Blocked → Ranked → Type 0
 Fits b y = FitsEntries b.graph.nodes y.does
 
-flat_fits : (b : Blocked) (n : ℕ) (s : Bool) → Each (Fits b) (cond s (alone b n (Flat n) ∷ []) [])
+flat_fits : (b : Blocked) (n : ℕ) (s : Bool)
+    → Each (Fits b) (cond s (ranked_alone b n (Flat n) ∷ []) [])
 flat_fits b n true = (tt, tt)
 flat_fits b n false = tt
 
 pdo_fits : (b : Blocked) (n : ℕ) (d : Place) (f : Forest) (s : Bool) → IsSound b.graph
     → node_at b.graph.nodes n ≡ Some (Pdo d f)
-    → Each (Fits b) (cond s [] (alone b n (trivial n f) ∷ []))
+    → Each (Fits b) (cond s [] (ranked_alone b n (trivial n f) ∷ []))
 pdo_fits b n d f true ok h = tt
 pdo_fits b n d f false ok h = (trivial_fit b n d f ok h, tt)
 
@@ -141,12 +143,12 @@ all_fit b cs ok a h =
     (λ e g. node_fits b e.number e.node sound g) es (each_found es sound.differ)))
 
 -- ---- no Flatten is carried out twice
-fewer : (n : ℕ) (o : Operation) → times n (flat_runs o) ≤ times n (runs o)
+fewer : (n : ℕ) (o : Operation) → times_named n (flat_runs o) ≤ times_named n (runs o)
 fewer n (Flat m) = omega arith
 fewer n (Class keys groups passes) = omega arith
 
 fewer_all : (n : ℕ) (os : List Operation)
-    → times n (flat_map flat_runs os) ≤ times n (flat_map runs os)
+    → times_named n (flat_map flat_runs os) ≤ times_named n (flat_map runs os)
 fewer_all n [] = omega arith
 fewer_all n (o ∷ os) =
     let a = times_append n (flat_runs o) (flat_map flat_runs os) in
@@ -156,21 +158,21 @@ fewer_all n (o ∷ os) =
     omega arith
 
 flat_few : (b : Blocked) (n : ℕ) (s : Bool)
-    → times n (runs_of (cond s (alone b n (Flat n) ∷ []) [])) ≤ 1
+    → times_named n (runs_of (cond s (ranked_alone b n (Flat n) ∷ []) [])) ≤ 1
 flat_few b n true = let o = one_time n in omega arith
 flat_few b n false = omega arith
 
 runs_few : (b : Blocked) (cs : List (List ℕ)) → AreParts b cs → (n : ℕ) (ins : List Place)
     → AllDiffer b.graph.nodes → node_at b.graph.nodes n ≡ Some (Flatten ins)
-    → times n (runs_of (operations b cs)) ≤ 1
+    → times_named n (runs_of (operations b cs)) ≤ 1
 runs_few b cs p n ins d h =
     let all = all_runs b cs n (Flatten ins) d h in
     let ks = no_mapper_keys b n cs (ap (maps_at b n) h) in
-    let gs : times n (members cs) ≡ 0 =
-    none (times n (members cs)) (λ t. subst IsGbkAt h (member_gbk b cs p.gbks n t)) in
-    let rs : times n (reducers b (members cs)) ≡ 0 =
-    reducers_none b n (members cs) (all_true (λ g. reducer_of b g ≡ Some n → ⊥)
-    (λ g e. reads_it b n g (Flatten ins) d h e) (members cs)) in
+    let gs : times_named n (class_members cs) ≡ 0 =
+    none (times_named n (class_members cs)) (λ t. subst IsGbkAt h (member_gbk b cs p.gbks n t)) in
+    let rs : times_named n (reducers b (class_members cs)) ≡ 0 =
+    reducers_none b n (class_members cs) (all_true (λ g. reducer_of b g ≡ Some n → ⊥)
+    (λ g e. reads_it b n g (Flatten ins) d h e) (class_members cs)) in
     let fs = flat_few b n (is_stage b n) in
     omega arith
   where
@@ -186,36 +188,40 @@ flats_each es (Class keys groups passes ∷ os) a = flats_each es os a.1
 
 flats_by : (b : Blocked) (cs : List (List ℕ)) → AreParts b cs → (n : ℕ) (o : Option Node)
     → IsSound b.graph → node_at b.graph.nodes n ≡ o
-    → times n (flat_map flat_runs (in_order b cs)) ≤ 1
+    → times_named n (flat_map flat_runs (ordered_operations b cs)) ≤ 1
 flats_by b cs p n (Some (Flatten ins)) ok h =
     let r = runs_few b cs p n ins ok.differ h in
     let e = (formed_ordered b cs p ok).runs n in
-    let f = fewer_all n (in_order b cs) in
+    let f = fewer_all n (ordered_operations b cs) in
     omega arith
 flats_by b cs p n None ok h =
-    let z = absent (λ m. IsFlat (node_at b.graph.nodes m)) n (flat_map flat_runs (in_order b cs))
-    (flats_each b.graph.nodes (in_order b cs) (parts_do_all b cs p ok).sound)
+    let z =
+    absent (λ m. IsFlat (node_at b.graph.nodes m)) n (flat_map flat_runs (ordered_operations b cs))
+    (flats_each b.graph.nodes (ordered_operations b cs) (parts_do_all b cs p ok).sound)
     (λ i. subst IsFlat h i) in
     omega arith
 flats_by b cs p n (Some (Source r)) ok h =
-    let z = absent (λ m. IsFlat (node_at b.graph.nodes m)) n (flat_map flat_runs (in_order b cs))
-    (flats_each b.graph.nodes (in_order b cs) (parts_do_all b cs p ok).sound)
+    let z =
+    absent (λ m. IsFlat (node_at b.graph.nodes m)) n (flat_map flat_runs (ordered_operations b cs))
+    (flats_each b.graph.nodes (ordered_operations b cs) (parts_do_all b cs p ok).sound)
     (λ i. subst IsFlat h i) in
     omega arith
 flats_by b cs p n (Some (Pdo c f)) ok h =
-    let z = absent (λ m. IsFlat (node_at b.graph.nodes m)) n (flat_map flat_runs (in_order b cs))
-    (flats_each b.graph.nodes (in_order b cs) (parts_do_all b cs p ok).sound)
+    let z =
+    absent (λ m. IsFlat (node_at b.graph.nodes m)) n (flat_map flat_runs (ordered_operations b cs))
+    (flats_each b.graph.nodes (ordered_operations b cs) (parts_do_all b cs p ok).sound)
     (λ i. subst IsFlat h i) in
     omega arith
 flats_by b cs p n (Some (Gbk c o l k)) ok h =
-    let z = absent (λ m. IsFlat (node_at b.graph.nodes m)) n (flat_map flat_runs (in_order b cs))
-    (flats_each b.graph.nodes (in_order b cs) (parts_do_all b cs p ok).sound)
+    let z =
+    absent (λ m. IsFlat (node_at b.graph.nodes m)) n (flat_map flat_runs (ordered_operations b cs))
+    (flats_each b.graph.nodes (ordered_operations b cs) (parts_do_all b cs p ok).sound)
     (λ i. subst IsFlat h i) in
     omega arith
 flats_by b cs p n (Some (Barrier ins o l a)) ok h =
     let r = runs_once b cs p ok.differ n (ap works_at h) in
     let e = (formed_ordered b cs p ok).runs n in
-    let f = fewer_all n (in_order b cs) in
+    let f = fewer_all n (ordered_operations b cs) in
     omega arith
 
 -- ---- the law

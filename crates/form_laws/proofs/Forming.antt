@@ -18,9 +18,9 @@ use Rattle.plan_laws.specs.Operations.{DoAll, IsFlat, IsHonest, IsIn, gives_of, 
 use Rattle.plan_roles.specs.Mappers.{is_mapper, is_reducer, is_stage}
 use Rattle.form_laws.specs.declared.ranked.Ranked.{Ranked}
 use Rattle.form_laws.specs.Classes.{IsGbk}
-use Rattle.form_laws.specs.Formed.{AreFormed, in_order}
-use Rattle.form_laws.specs.Operations.{all_alone, alone, alone_of, class_operation, class_ranked, operations, trivial}
-use Rattle.form_laws.specs.Order.{Picked, ordered, ordered_by, pick}
+use Rattle.form_laws.specs.Formed.{AreFormed, ordered_operations}
+use Rattle.form_laws.specs.Operations.{all_alone, ranked_alone, alone_of, class_operation, class_ranked, operations, trivial}
+use Rattle.form_laws.specs.Order.{Picked, ordered, ordered_by, picked_least}
 use Rattle.form_laws.proofs.Classing.{AreParts, classes_part}
 use Rattle.form_laws.proofs.Counting.{runs_once}
 use Rattle.form_laws.proofs.Ordering.{pick_ok}
@@ -30,7 +30,7 @@ use Rattle.form_laws.proofs.Standing.{class_honest, barrier_honest, trivial_hone
 
 -- ---- what holds of all operations holds of all in order
 keep_by : (P : Operation → Type 0) (es : List Entry) (k : ℕ) (made : List Place)
-    (xs : List Ranked) (o : Option Picked) → pick es made xs ≡ o
+    (xs : List Ranked) (o : Option Picked) → picked_least es made xs ≡ o
     → ((y : Ranked) → IsIn y xs → P y.does)
     → ((made : List Place) (ys : List Ranked) → ((y : Ranked) → IsIn y ys → P y.does)
     → Each P (ordered es k made ys))
@@ -47,7 +47,7 @@ pub ordered_keep : (P : Operation → Type 0) (es : List Entry) (k : ℕ) (made 
 unfolding ordered
 ordered_keep P es zero made xs h = tt
 ordered_keep P es (suc k) made xs h =
-    keep_by P es k made xs (pick es made xs) refl h
+    keep_by P es k made xs (picked_least es made xs) refl h
     (λ made' ys i. ordered_keep P es k made' ys i)
 
 -- ---- each stands for nodes
@@ -56,13 +56,13 @@ Honest b y = IsHonest b.graph.nodes y.does
 
 flat_honest : (b : Blocked) (n : ℕ) (ins : List Place) (s : Bool)
     → node_at b.graph.nodes n ≡ Some (Flatten ins)
-    → Each (Honest b) (cond s (alone b n (Flat n) ∷ []) [])
+    → Each (Honest b) (cond s (ranked_alone b n (Flat n) ∷ []) [])
 flat_honest b n ins true h = (subst IsFlat (sym h) tt, tt)
 flat_honest b n ins false h = tt
 
 pdo_honest : (b : Blocked) (n : ℕ) (d : Place) (f : Forest) (s : Bool)
     → node_at b.graph.nodes n ≡ Some (Pdo d f)
-    → Each (Honest b) (cond s [] (alone b n (trivial n f) ∷ []))
+    → Each (Honest b) (cond s [] (ranked_alone b n (trivial n f) ∷ []))
 pdo_honest b n d f true h = tt
 pdo_honest b n d f false h = (trivial_honest b.graph.nodes n d f h, tt)
 
@@ -91,7 +91,7 @@ all_honest b cs p ok =
 
 -- ---- the law
 pub parts_do_all : (b : Blocked) (cs : List (List ℕ)) → AreParts b cs → IsSound b.graph
-    → DoAll b.graph (in_order b cs)
+    → DoAll b.graph (ordered_operations b cs)
 parts_do_all b cs p ok =
     let es : List Entry = b.graph.nodes in
     let ops : List Ranked = operations b cs in

@@ -21,11 +21,11 @@ use Rattle.plan_laws.specs.declared.operations.Key.TheVariants.{Mapper, Whole}
 use Rattle.plan_laws.specs.declared.operations.Operation.TheVariants.{Flat}
 use Rattle.plan_laws.specs.Operations.{IsIn, channel_of, gives_of, inputs_at, read_through, pdo_channel, reading_reads, reads_of, source_places}
 use Rattle.plan_laws.proofs.Running.{place_same}
-use Rattle.plan_roles.specs.Levels.{greatest, level, one_gbk}
+use Rattle.plan_roles.specs.Levels.{greatest_number, level, one_gbk}
 use Rattle.plan_roles.specs.Reading.{goes_on}
 use Rattle.plan_roles.specs.Mappers.{is_mapper, is_reducer, is_stage, maps_at}
 use Rattle.form_laws.specs.declared.ranked.Ranked.{Ranked}
-use Rattle.form_laws.specs.Operations.{alone, barrier_rank, barrier_ranked, operations}
+use Rattle.form_laws.specs.Operations.{ranked_alone, barrier_rank, barrier_ranked, operations}
 use Rattle.form_laws.proofs.Basics.{one_among}
 use Rattle.form_laws.proofs.Classing.{AreParts}
 use Rattle.form_laws.proofs.Leveling.{levels_at}
@@ -117,7 +117,7 @@ pdo_given b cs p w r y n d f ok wide rk h free bound =
 
 -- ---- a Flatten
 under_greatest : (l : ℕ → ℕ) (ins : List Place) (c : Place) → among c ins ≡ true
-    → l c.node ≤ greatest (map (λ (d : Place). l d.node) ins)
+    → l c.node ≤ greatest_number (map (λ (d : Place). l d.node) ins)
 under_greatest l [] c h = absurd (false≢true h)
 under_greatest l (d ∷ ds) c h =
     elim (or_cases (same_place c d) (among c ds) h) [
@@ -131,14 +131,14 @@ pub flat_given : (b : Blocked) (cs : List (List ℕ)) → AreParts b cs → (w :
     (ins : List Place) (c : Place) → IsSound b.graph → ((k : ℕ) → suc (r k) < w)
     → r c.node < r n → node_at b.graph.nodes n ≡ Some (Flatten ins) → is_stage b n ≡ true
     → among c ins ≡ true → IsThere b.graph.nodes c
-    → GivenBelow b cs w r (alone b n (Flat n)) c
+    → GivenBelow b cs w r (ranked_alone b n (Flat n)) c
 flat_given b cs p w r n ins c ok wide rk h st i there =
     let es : List Entry = b.graph.nodes in
-    let y : Ranked = alone b n (Flat n) in
+    let y : Ranked = ranked_alone b n (Flat n) in
     let x = there_found es c there in
-    let lev : level es n ≡ greatest (map (λ (d : Place). level es d.node) ins) =
+    let lev : level es n ≡ greatest_number (map (λ (d : Place). level es d.node) ins) =
     levels_at b.graph n (Flatten ins) ok h in
-    let top : level es c.node ≤ greatest (map (λ (d : Place). level es d.node) ins) =
+    let top : level es c.node ≤ greatest_number (map (λ (d : Place). level es d.node) ins) =
     under_greatest (level es) ins c i in
     given_below b cs w r y c
     (provide b cs p c x.0 ok x.1 x.2 (flat_met b n ins c x.0 h st i x.2)) (λ s. (
@@ -174,7 +174,7 @@ barrier_given b cs p w r n ins o l a c ok wide rk h i there =
     let es : List Entry = b.graph.nodes in
     let y : Ranked = barrier_ranked b n a in
     let x = there_found es c there in
-    let most : ℕ = greatest (map (λ (d : Place). level es d.node) ins) in
+    let most : ℕ = greatest_number (map (λ (d : Place). level es d.node) ins) in
     let over : suc (2 * most) ≤ barrier_rank (level es n) a =
     rank_over (level es n) most ins o l a c i (levels_at b.graph n (Barrier ins o l a) ok h) in
     let top : level es c.node ≤ most = under_greatest (level es) ins c i in
@@ -207,7 +207,7 @@ input_level b d c o ok e h =
           let k : level es d.node ≡ level es c.node = ap (λ (x : Place). level es x.node) s.0 in
           omega arith
       | inr s ↦
-          let k : level es d.node ≡ greatest (map (λ (x : Place). level es x.node) s.0) =
+          let k : level es d.node ≡ greatest_number (map (λ (x : Place). level es x.node) s.0) =
           levels_at b.graph d.node (Flatten s.0) ok s.1 in
           let t = under_greatest (level es) s.0 c s.2 in
           omega arith

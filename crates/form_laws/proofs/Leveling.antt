@@ -5,17 +5,17 @@ use Rattle.exec_graph.specs.declared.graph.Place.{Place}
 use Rattle.exec_graph.specs.declared.graph.Node.{Node}
 use Rattle.exec_graph.specs.declared.graph.Node.TheVariants.{Source, Flatten, Pdo, Gbk, Barrier}
 use Rattle.exec_graph.specs.declared.graph.Graph.{Graph}
-use Rattle.plan_roles.specs.Levels.{greatest, level_by, one_gbk, level}
+use Rattle.plan_roles.specs.Levels.{greatest_number, level_by, one_gbk, level}
 use Rattle.plan_roles.proofs.Leveling.{level_found}
 
 -- the level by the nodes that it reads, for each kind of node
 abbrev pub level_of : (ℕ → ℕ) → Node → ℕ
 level_of l (Source r) = 0
-level_of l (Flatten ins) = greatest (map (λ (c : Place). l c.node) ins)
+level_of l (Flatten ins) = greatest_number (map (λ (c : Place). l c.node) ins)
 level_of l (Pdo c f) = l c.node
 level_of l (Gbk c o last k) = suc (l c.node)
 level_of l (Barrier ins x y d) =
-    one_gbk (Barrier ins x y d) + greatest (map (λ (c : Place). l c.node) ins)
+    one_gbk (Barrier ins x y d) + greatest_number (map (λ (c : Place). l c.node) ins)
 
 by_is : (l : ℕ → ℕ) (x : Node) → level_by l x ≡ level_of l x
 by_is l (Source r) = refl

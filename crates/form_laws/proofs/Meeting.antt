@@ -14,11 +14,11 @@ use Rattle.exec_graph.specs.declared.graph.Node.TheVariants.{Source, Flatten, Pd
 use Rattle.exec_graph.specs.declared.graph.Entry.{Entry}
 use Rattle.exec_graph.specs.declared.graph.Blocked.{Blocked}
 use Rattle.exec_graph.proofs.Bools.{or_left, or_right, not_true}
-use Rattle.plan_roles.specs.of_fusion_blocks.Feeding.{flattens}
+use Rattle.plan_roles.specs.of_fusion_blocks.Feeding.{is_flatten_of}
 use Rattle.plan_laws.specs.Operations.{inputs_at, read_through}
 use Rattle.plan_roles.specs.Levels.{level}
 use Rattle.plan_roles.specs.Reading.{feeds_other, goes_on, takes}
-use Rattle.plan_roles.specs.Mappers.{is_mapper, is_number, is_reducer, is_stage, is_staged, passes, reducer_of, reduces}
+use Rattle.plan_roles.specs.Mappers.{is_mapper, is_just_number, is_reducer, is_stage, is_staged, passes, reducer_of, reduces}
 use Rattle.form_laws.proofs.Basics.{among_one, any_found, one_among}
 use Rattle.form_laws.proofs.Reading.{is_flatten, is_gbk, reducer_only, stage_read, told_alone}
 
@@ -49,11 +49,11 @@ zero_gbk (Pdo d f) c i g = absurd (false≢true i)
 zero_gbk (Gbk d o l k) c i g = ap (λ (j : ℕ). place c.node j) (sym (eqb-true c.out 0 g))
 zero_gbk (Barrier ins o l a) c i g = absurd (false≢true i)
 
-pub some_is : (o : Option ℕ) (n : ℕ) → o ≡ Some n → is_number o n ≡ true
+pub some_is : (o : Option ℕ) (n : ℕ) → o ≡ Some n → is_just_number o n ≡ true
 some_is None n h = let bad : ⊥ = cc in absurd bad
 some_is (Some k) n h = let e : k ≡ n = cc in eq-eqb k n e
 
-pub is_some_of : (o : Option ℕ) (n : ℕ) → is_number o n ≡ true → o ≡ Some n
+pub is_some_of : (o : Option ℕ) (n : ℕ) → is_just_number o n ≡ true → o ≡ Some n
 is_some_of None n h = absurd (false≢true h)
 is_some_of (Some k) n h = ap (λ (i : ℕ). Some i) (eqb-true k n h)
 
@@ -108,7 +108,7 @@ flat_met b n ins c x h s r g =
           (ap (λ (d : Place). among d ins) (zero_gbk x c i g) ∙ r)).pdo);
       mapper = λ i. or_right (among c b.graph.outputs) (is_staged b c || feeds_other es c)
           (or_left (is_staged b c) (feeds_other es c)
-          (any_found (λ e. flattens c e.node && is_stage b e.number) es n (Flatten ins) h
+          (any_found (λ e. is_flatten_of c e.node && is_stage b e.number) es n (Flatten ins) h
           (and_both (among c ins) (is_stage b n) r s)));
     }
 

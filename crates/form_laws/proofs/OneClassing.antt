@@ -10,12 +10,12 @@ use Rattle.exec_graph.specs.declared.graph.Entry.{Entry}
 use Rattle.exec_graph.specs.declared.graph.Blocked.{Blocked}
 use Rattle.exec_graph.proofs.Solving.{each_found}
 use Rattle.plan_laws.specs.declared.operations.Operation.TheVariants.{Flat}
-use Rattle.plan_laws.specs.Operations.{IsIn, times}
+use Rattle.plan_laws.specs.Operations.{IsIn, times_named}
 use Rattle.plan_laws.proofs.Running.{in_append}
 use Rattle.plan_roles.specs.Mappers.{is_mapper, is_reducer, is_stage}
 use Rattle.form_laws.specs.declared.ranked.Ranked.{Ranked}
-use Rattle.form_laws.specs.Classes.{AreClasses, IsGbk, IsGbkAt, IsShared, Rises, members}
-use Rattle.form_laws.specs.Operations.{all_alone, alone, alone_of, class_ranked, least_of, operations, trivial}
+use Rattle.form_laws.specs.Classes.{AreClasses, IsGbk, IsGbkAt, IsShared, Rises, class_members}
+use Rattle.form_laws.specs.Operations.{all_alone, ranked_alone, alone_of, class_ranked, number_of_first, operations, trivial}
 use Rattle.plan_rules.proofs.Members.{in_left, in_right}
 use Rattle.form_laws.proofs.Basics.{all_at, counted, counts_head, in_either, none_counted, times_append}
 use Rattle.form_laws.proofs.Classing.{each_class, member_gbk}
@@ -25,7 +25,7 @@ use Rattle.form_laws.proofs.Turns.{Apart, AreSame, Other}
 -- ---- rising lists with the same members
 
 heads : (x y : ℕ) (c d : List ℕ) → Each (λ k. x < k) c → Each (λ k. y < k) d
-    → 0 < times x (y ∷ d) → 0 < times y (x ∷ c) → x ≡ y
+    → 0 < times_named x (y ∷ d) → 0 < times_named y (x ∷ c) → x ≡ y
 heads x y c d a e h i =
     elim (counted x y d h) [
       | inl p ↦ sym p
@@ -38,8 +38,9 @@ heads x y c d a e h i =
     ]
 
 tail_in : (x : ℕ) (c d : List ℕ) → Each (λ k. x < k) c
-    → ((k : ℕ) → 0 < times k (x ∷ c) → 0 < times k (x ∷ d)) → (k : ℕ) → 0 < times k c
-    → 0 < times k d
+    → ((k : ℕ) → 0 < times_named k (x ∷ c) → 0 < times_named k (x ∷ d)) → (k : ℕ)
+    → 0 < times_named k c
+    → 0 < times_named k d
 tail_in x c d a f k h =
     elim (counted k x d (f k (omega arith))) [
       | inl e ↦ let l : x < k = all_at (λ m. x < m) k c a h in absurd (omega arith)
@@ -50,8 +51,8 @@ two_parts : (x y : ℕ) (c d : List ℕ) → x ≡ y → c ≡ d → x ∷ c ≡
 two_parts x y c d e f = cc
 
 rising_same : (c d : List ℕ) → Rises c → Rises d
-    → ((k : ℕ) → 0 < times k c → 0 < times k d)
-    → ((k : ℕ) → 0 < times k d → 0 < times k c) → c ≡ d
+    → ((k : ℕ) → 0 < times_named k c → 0 < times_named k d)
+    → ((k : ℕ) → 0 < times_named k d → 0 < times_named k c) → c ≡ d
 rising_same [] [] a e f g = refl
 rising_same [] (y ∷ d) a e f g = absurd (none_counted y (g y (counts_head y y d refl)))
 rising_same (x ∷ c) [] a e f g = absurd (none_counted x (f x (counts_head x x c refl)))
@@ -60,8 +61,8 @@ rising_same (x ∷ c) (y ∷ d) a e f g =
     heads x y c d a.0 e.0 (f x (counts_head x x c refl)) (g y (counts_head y y d refl)) in
     let low : Each (λ k. x < k) d = subst (λ (z : ℕ). Each (λ k. z < k) d) (sym s) e.0 in
     two_parts x y c d s (rising_same c d a.1 e.1
-    (tail_in x c d a.0 (λ k h. subst (λ (z : ℕ). 0 < times k (z ∷ d)) (sym s) (f k h)))
-    (tail_in x d c low (λ k h. g k (subst (λ (z : ℕ). 0 < times k (z ∷ d)) s h))))
+    (tail_in x c d a.0 (λ k h. subst (λ (z : ℕ). 0 < times_named k (z ∷ d)) (sym s) (f k h)))
+    (tail_in x d c low (λ k h. g k (subst (λ (z : ℕ). 0 < times_named k (z ∷ d)) s h))))
 
 -- ---- a class among others
 
@@ -75,39 +76,39 @@ each_has P c [] a h = absurd h
 each_has P c (d ∷ ds) a (inl e) = subst P e a.0
 each_has P c (d ∷ ds) a (inr h) = each_has P c ds a.1 h
 
-has_members : (n : ℕ) (c : List ℕ) (cs : List (List ℕ)) → HasClass c cs → 0 < times n c
-    → 0 < times n (members cs)
+has_members : (n : ℕ) (c : List ℕ) (cs : List (List ℕ)) → HasClass c cs → 0 < times_named n c
+    → 0 < times_named n (class_members cs)
 has_members n c [] h i = absurd h
 has_members n c (d ∷ ds) (inl e) i =
-    let t = times_append n d (members ds) in
-    let j : 0 < times n d = subst (λ (l : List ℕ). 0 < times n l) (sym e) i in
+    let t = times_append n d (class_members ds) in
+    let j : 0 < times_named n d = subst (λ (l : List ℕ). 0 < times_named n l) (sym e) i in
     omega arith
 has_members n c (d ∷ ds) (inr h) i =
-    let t = times_append n d (members ds) in
+    let t = times_append n d (class_members ds) in
     let j = has_members n c ds h i in
     omega arith
 
 record Holding (n : ℕ) (cs : List (List ℕ)) : Type 0 where
   pub list : List ℕ
   pub has : HasClass list cs
-  pub in_list : 0 < times n list
+  pub in_list : 0 < times_named n list
 
-held : (n : ℕ) (cs : List (List ℕ)) → 0 < times n (members cs) → Holding n cs
+held : (n : ℕ) (cs : List (List ℕ)) → 0 < times_named n (class_members cs) → Holding n cs
 held n [] h = absurd (none_counted n h)
 held n (c ∷ cs) h =
-    elim (in_either n c (members cs) h) [
+    elim (in_either n c (class_members cs) h) [
       | inl i ↦ record { list = c; has = inl refl; in_list = i }
       | inr i ↦ (let r = held n cs i in
           record { list = r.list; has = inr r.has; in_list = r.in_list })
     ]
 
-shared_of : (n k : ℕ) (c : List ℕ) (cs : List (List ℕ)) → HasClass c cs → 0 < times n c
-    → 0 < times k c → IsShared n k cs
+shared_of : (n k : ℕ) (c : List ℕ) (cs : List (List ℕ)) → HasClass c cs → 0 < times_named n c
+    → 0 < times_named k c → IsShared n k cs
 shared_of n k c [] h i j = absurd h
 shared_of n k c (d ∷ ds) (inl e) i j =
     inl (
-      subst (λ (l : List ℕ). 0 < times n l) (sym e) i,
-      subst (λ (l : List ℕ). 0 < times k l) (sym e) j,
+      subst (λ (l : List ℕ). 0 < times_named n l) (sym e) i,
+      subst (λ (l : List ℕ). 0 < times_named k l) (sym e) j,
     )
 shared_of n k c (d ∷ ds) (inr h) i j = inr (shared_of n k c ds h i j)
 
@@ -115,8 +116,8 @@ shared_of n k c (d ∷ ds) (inr h) i j = inr (shared_of n k c ds h i j)
 record Both (n k : ℕ) (cs : List (List ℕ)) : Type 0 where
   pub list : List ℕ
   pub has : HasClass list cs
-  pub first : 0 < times n list
-  pub second : 0 < times k list
+  pub first : 0 < times_named n list
+  pub second : 0 < times_named k list
 
 both_in : (n k : ℕ) (cs : List (List ℕ)) → IsShared n k cs → Both n k cs
 both_in n k [] h = absurd h
@@ -127,33 +128,33 @@ both_in n k (c ∷ cs) (inr h) =
     record { list = r.list; has = inr r.has; first = r.first; second = r.second }
 
 -- of a number that stands once there is one class
-one_class : (n : ℕ) (c d : List ℕ) (cs : List (List ℕ)) → times n (members cs) ≤ 1
-    → HasClass c cs → HasClass d cs → 0 < times n c → 0 < times n d → c ≡ d
+one_class : (n : ℕ) (c d : List ℕ) (cs : List (List ℕ)) → times_named n (class_members cs) ≤ 1
+    → HasClass c cs → HasClass d cs → 0 < times_named n c → 0 < times_named n d → c ≡ d
 one_class n c d [] l h k i j = absurd h
 one_class n c d (x ∷ xs) l (inl e) (inl f) i j = sym e ∙ f
 one_class n c d (x ∷ xs) l (inl e) (inr k) i j =
-    let t = times_append n x (members xs) in
-    let a : 0 < times n x = subst (λ (m : List ℕ). 0 < times n m) (sym e) i in
+    let t = times_append n x (class_members xs) in
+    let a : 0 < times_named n x = subst (λ (m : List ℕ). 0 < times_named n m) (sym e) i in
     let b = has_members n d xs k j in
     absurd (omega arith)
 one_class n c d (x ∷ xs) l (inr h) (inl f) i j =
-    let t = times_append n x (members xs) in
-    let a : 0 < times n x = subst (λ (m : List ℕ). 0 < times n m) (sym f) j in
+    let t = times_append n x (class_members xs) in
+    let a : 0 < times_named n x = subst (λ (m : List ℕ). 0 < times_named n m) (sym f) j in
     let b = has_members n c xs h i in
     absurd (omega arith)
 one_class n c d (x ∷ xs) l (inr h) (inr k) i j =
-    let t = times_append n x (members xs) in
+    let t = times_append n x (class_members xs) in
     one_class n c d xs (omega arith) h k i j
 
 -- ---- two sets of classes
 
 member_of : (b : Blocked) (cs : List (List ℕ)) → AreClasses b cs → (c : List ℕ) → HasClass c cs
-    → (n : ℕ) → 0 < times n c → IsGbk b n
+    → (n : ℕ) → 0 < times_named n c → IsGbk b n
 member_of b cs a c h n i = member_gbk b cs a.gbks n (has_members n c cs h i)
 
 class_within : (b : Blocked) (cs ds : List (List ℕ)) → AreClasses b cs → AreClasses b ds
-    → (c d : List ℕ) → HasClass c cs → HasClass d ds → (n : ℕ) → 0 < times n c
-    → 0 < times n d → (k : ℕ) → 0 < times k c → 0 < times k d
+    → (c d : List ℕ) → HasClass c cs → HasClass d ds → (n : ℕ) → 0 < times_named n c
+    → 0 < times_named n d → (k : ℕ) → 0 < times_named k c → 0 < times_named k d
 class_within b cs ds a e c d h i n p q k r =
     let gn : IsGbk b n = member_of b cs a c h n p in
     let gk : IsGbk b k = member_of b cs a c h k r in
@@ -161,10 +162,10 @@ class_within b cs ds a e c d h i n p q k r =
     (e.linked n k gn gk).1 ((a.linked n k gn gk).0 (shared_of n k c cs h p r)) in
     let t = both_in n k ds s in
     let once = e.once n gn in
-    subst (λ (l : List ℕ). 0 < times k l)
+    subst (λ (l : List ℕ). 0 < times_named k l)
     (one_class n t.list d ds (omega arith) t.has i t.first q) t.second
 
-least_in : (c : List ℕ) → 0 < length c → 0 < times (least_of c) c
+least_in : (c : List ℕ) → 0 < length c → 0 < times_named (number_of_first c) c
 least_in [] h = absurd (omega arith)
 least_in (n ∷ ns) h = counts_head n n ns refl
 
@@ -172,8 +173,8 @@ least_in (n ∷ ns) h = counts_head n n ns refl
 class_too : (b : Blocked) (cs ds : List (List ℕ)) → AreClasses b cs → AreClasses b ds
     → (c : List ℕ) → HasClass c cs → HasClass c ds
 class_too b cs ds a e c h =
-    let n : ℕ = least_of c in
-    let p : 0 < times n c = least_in c (each_has (λ c. 0 < length c) c cs a.some h) in
+    let n : ℕ = number_of_first c in
+    let p : 0 < times_named n c = least_in c (each_has (λ c. 0 < length c) c cs a.some h) in
     let gn : IsGbk b n = member_of b cs a c h n p in
     let once = e.once n gn in
     let r = held n ds (omega arith) in
@@ -231,30 +232,31 @@ apart_append (x ∷ xs) ys a e h =
     (Each-append (Other x) xs ys a.0 h.0, apart_append xs ys a.1 e h.1)
 
 others_differ : (c : List ℕ) (cs : List (List ℕ)) → 0 < length c
-    → ((n : ℕ) → 0 < times n (members (c ∷ cs)) → times n (members (c ∷ cs)) ≤ 1)
-    → Each (λ d. 0 < length d → least_of c ≡ least_of d → ⊥) cs
+    → ((n : ℕ) → 0 < times_named n (class_members (c ∷ cs)) → times_named n (class_members (c ∷ cs))
+    ≤ 1)
+    → Each (λ d. 0 < length d → number_of_first c ≡ number_of_first d → ⊥) cs
 others_differ c cs l few =
-    each_class (λ d. 0 < length d → least_of c ≡ least_of d → ⊥) cs (λ d g s m e.
-    let n : ℕ = least_of c in
-    let p : 0 < times n c = least_in c l in
-    let q : 0 < times n d =
-    subst (λ (k : ℕ). 0 < times k d) (sym e) (least_in d m) in
-    let r : 0 < times n (members cs) = g n q in
-    let t = times_append n c (members cs) in
+    each_class (λ d. 0 < length d → number_of_first c ≡ number_of_first d → ⊥) cs (λ d g s m e.
+    let n : ℕ = number_of_first c in
+    let p : 0 < times_named n c = least_in c l in
+    let q : 0 < times_named n d =
+    subst (λ (k : ℕ). 0 < times_named k d) (sym e) (least_in d m) in
+    let r : 0 < times_named n (class_members cs) = g n q in
+    let t = times_append n c (class_members cs) in
     let f = few n (omega arith) in
     omega arith)
 
 classes_apart : (b : Blocked) (cs : List (List ℕ)) → Each (λ c. 0 < length c) cs
-    → ((n : ℕ) → 0 < times n (members cs) → times n (members cs) ≤ 1)
+    → ((n : ℕ) → 0 < times_named n (class_members cs) → times_named n (class_members cs) ≤ 1)
     → Apart (map (class_ranked b) cs)
 classes_apart b [] some few = tt
 classes_apart b (c ∷ cs) some few = (
   Each-map (Other (class_ranked b c)) (class_ranked b) cs
-      (Each-both (λ d. 0 < length d) (λ d. 0 < length d → least_of c ≡ least_of d → ⊥)
+      (Each-both (λ d. 0 < length d) (λ d. 0 < length d → number_of_first c ≡ number_of_first d → ⊥)
       (λ d. Other (class_ranked b c) (class_ranked b d)) (λ d l f. f l) cs some.1
       (others_differ c cs some.0 few)),
   classes_apart b cs some.1 (λ n h.
-      let t = times_append n c (members cs) in let f = few n (omega arith) in omega arith),
+      let t = times_append n c (class_members cs) in let f = few n (omega arith) in omega arith),
 )
 
 -- an operation alone has its node's number, and its node is no Gbk
@@ -262,12 +264,12 @@ abbrev Alone : Blocked → ℕ → Ranked → Type 0
 Alone b n y = (y.number ≡ n) × (IsGbk b n → ⊥)
 
 flat_alone : (b : Blocked) (n : ℕ) (s : Bool) → (IsGbk b n → ⊥)
-    → Each (Alone b n) (cond s (alone b n (Flat n) ∷ []) [])
+    → Each (Alone b n) (cond s (ranked_alone b n (Flat n) ∷ []) [])
 flat_alone b n true h = ((refl, h), tt)
 flat_alone b n false h = tt
 
 pdo_alone : (b : Blocked) (n : ℕ) (f : Forest) (s : Bool) → (IsGbk b n → ⊥)
-    → Each (Alone b n) (cond s [] (alone b n (trivial n f) ∷ []))
+    → Each (Alone b n) (cond s [] (ranked_alone b n (trivial n f) ∷ []))
 pdo_alone b n f true h = tt
 pdo_alone b n f false h = ((refl, h), tt)
 
@@ -279,12 +281,12 @@ node_alone b n (Pdo c f) h = pdo_alone b n f (is_mapper b n || is_reducer b n) (
 node_alone b n (Gbk c o l k) h = tt
 node_alone b n (Barrier ins o l a) h = ((refl, subst IsGbkAt h), tt)
 
-flat_one : (b : Blocked) (n : ℕ) (s : Bool) → Apart (cond s (alone b n (Flat n) ∷ []) [])
+flat_one : (b : Blocked) (n : ℕ) (s : Bool) → Apart (cond s (ranked_alone b n (Flat n) ∷ []) [])
 flat_one b n true = (tt, tt)
 flat_one b n false = tt
 
 pdo_one : (b : Blocked) (n : ℕ) (f : Forest) (s : Bool)
-    → Apart (cond s [] (alone b n (trivial n f) ∷ []))
+    → Apart (cond s [] (ranked_alone b n (trivial n f) ∷ []))
 pdo_one b n f true = tt
 pdo_one b n f false = (tt, tt)
 
@@ -334,5 +336,5 @@ operations_apart b cs d a =
     (Each-both (λ c. 0 < length c) (Each (IsGbk b))
     (λ c. Each (Other (class_ranked b c)) (all_alone b es))
     (λ c l g. Each-weaker (λ y. IsGbk b y.number → ⊥) (Other (class_ranked b c))
-    (λ y f p. f (subst (IsGbk b) p (all_at (IsGbk b) (least_of c) c g (least_in c l))))
+    (λ y f p. f (subst (IsGbk b) p (all_at (IsGbk b) (number_of_first c) c g (least_in c l))))
     (all_alone b es) alone_there) cs a.some a.gbks))

@@ -22,10 +22,10 @@ use Rattle.plan_laws.specs.declared.operations.Operation.TheVariants.{Flat}
 use Rattle.plan_laws.specs.declared.operations.Key.{Key}
 use Rattle.plan_laws.specs.Operations.{channel_of, flat_inputs, read_through, pdo_channel, reading_reads, reads_of}
 use Rattle.plan_roles.specs.Levels.{level}
-use Rattle.plan_roles.specs.Mappers.{is_mapper, is_reducer, is_stage, key_of}
+use Rattle.plan_roles.specs.Mappers.{is_mapper, is_reducer, is_stage, read_key}
 use Rattle.form_laws.specs.declared.ranked.Ranked.{Ranked}
-use Rattle.form_laws.specs.Classes.{IsGbk, IsGbkAt, keys_at, keys_of}
-use Rattle.form_laws.specs.Operations.{all_alone, alone, alone_of, class_keys, class_level, class_ranked, barrier_does, barrier_ranked, operations, trivial}
+use Rattle.form_laws.specs.Classes.{IsGbk, IsGbkAt, keys_at, keys_taken}
+use Rattle.form_laws.specs.Operations.{all_alone, ranked_alone, alone_of, class_keys, class_level, class_ranked, barrier_does, barrier_ranked, operations, trivial}
 use Rattle.form_laws.proofs.Classing.{AreParts, HasLevel}
 use Rattle.form_laws.proofs.Standing.{inputs_there, uses_ok}
 use Rattle.form_laws.proofs.Giving.{AllGiven, GivenBelow, KeyGiven, flat_given, key_given_by, barrier_given, pdo_given}
@@ -43,9 +43,9 @@ gbk_keys b cs p w r y n (Some (Gbk d o last k)) ok ra wide h g rank =
     let es : List Entry = b.graph.nodes in
     let t : IsThere es d =
     (all_found (λ e. Each (IsThere es) (reads e.node)) es n (Gbk d o last k) h ok.there).0 in
-    Each-map (KeyGiven b cs w r y) (key_of b (level es n)) (read_through es d)
+    Each-map (KeyGiven b cs w r y) (read_key b (level es n)) (read_through es d)
     (Each-both (λ c. among c (read_through es d) ≡ true) (IsThere es)
-    (λ c. KeyGiven b cs w r y (key_of b (level es n) c))
+    (λ c. KeyGiven b cs w r y (read_key b (level es n) c))
     (λ c i u. key_given_by b cs p w r y n d o last k c (is_mapper b c.node)
     (eqb (suc (level es c.node)) (level es n)) ok ra wide h i u rank refl refl) (read_through es d)
     (all_among (λ c. among c (read_through es d) ≡ true) (read_through es d) (λ c i. i))
@@ -56,10 +56,10 @@ members_keys : (b : Blocked) (cs : List (List ℕ)) → AreParts b cs → (w : �
     (y : Ranked) (ns : List ℕ) → IsSound b.graph → IsRankedBy r b.graph.nodes
     → ((k : ℕ) → suc (r k) < w)
     → Each (λ n. IsGbk b n × (y.rank ≡ 2 * level b.graph.nodes n)) ns
-    → Each (KeyGiven b cs w r y) (flat_map (keys_of b) ns)
+    → Each (KeyGiven b cs w r y) (flat_map (keys_taken b) ns)
 members_keys b cs p w r y [] ok ra wide a = tt
 members_keys b cs p w r y (n ∷ ns) ok ra wide a =
-    Each-append (KeyGiven b cs w r y) (keys_of b n) (flat_map (keys_of b) ns)
+    Each-append (KeyGiven b cs w r y) (keys_taken b n) (flat_map (keys_taken b) ns)
     (gbk_keys b cs p w r y n (node_at b.graph.nodes n) ok ra wide refl a.0.0 a.0.1)
     (members_keys b cs p w r y ns ok ra wide a.1)
 
@@ -86,7 +86,7 @@ class_given b cs p w r ns ok ra wide a h =
     let es : List Entry = b.graph.nodes in
     let y : Ranked = class_ranked b ns in
     all_reads (GivenBelow b cs w r y) es (class_keys b ns)
-    (uses_ok (KeyGiven b cs w r y) (flat_map (keys_of b) ns)
+    (uses_ok (KeyGiven b cs w r y) (flat_map (keys_taken b) ns)
     (members_keys b cs p w r y ns ok ra wide
     (Each-both (IsGbk b) (λ n. class_level b ns ≡ level es n)
     (λ n. IsGbk b n × (y.rank ≡ 2 * level es n)) (λ n g q. (g, ap (λ (k : ℕ). 2 * k) q)) ns a
@@ -96,11 +96,11 @@ class_given b cs p w r ns ok ra wide a h =
 flat_all : (b : Blocked) (cs : List (List ℕ)) → AreParts b cs → (w : ℕ) (r : ℕ → ℕ) (n : ℕ)
     (ins : List Place) → IsSound b.graph → IsRankedBy r b.graph.nodes
     → ((k : ℕ) → suc (r k) < w) → node_at b.graph.nodes n ≡ Some (Flatten ins)
-    → is_stage b n ≡ true → Each (GivenBelow b cs w r (alone b n (Flat n))) ins
+    → is_stage b n ≡ true → Each (GivenBelow b cs w r (ranked_alone b n (Flat n))) ins
 flat_all b cs p w r n ins ok ra wide h t =
     let es : List Entry = b.graph.nodes in
     Each-both (λ c. (among c ins ≡ true) × (r c.node < r n)) (IsThere es)
-    (GivenBelow b cs w r (alone b n (Flat n)))
+    (GivenBelow b cs w r (ranked_alone b n (Flat n)))
     (λ c i u. flat_given b cs p w r n ins c ok wide i.1 h t i.0 u) ins
     (Each-both (λ c. among c ins ≡ true) (λ (c : Place). r c.node < r n)
     (λ c. (among c ins ≡ true) × (r c.node < r n)) (λ c s q. (s, q)) ins
@@ -110,10 +110,11 @@ flat_all b cs p w r n ins ok ra wide h t =
 flat_alone : (b : Blocked) (cs : List (List ℕ)) → AreParts b cs → (w : ℕ) (r : ℕ → ℕ) (n : ℕ)
     (ins : List Place) (s : Bool) → IsSound b.graph → IsRankedBy r b.graph.nodes
     → ((k : ℕ) → suc (r k) < w) → node_at b.graph.nodes n ≡ Some (Flatten ins)
-    → is_stage b n ≡ s → Each (AllGiven b cs w r) (cond s (alone b n (Flat n) ∷ []) [])
+    → is_stage b n ≡ s → Each (AllGiven b cs w r) (cond s (ranked_alone b n (Flat n) ∷ []) [])
 flat_alone b cs p w r n ins false ok ra wide h t = tt
 flat_alone b cs p w r n ins true ok ra wide h t = (
-  subst (λ (o : Option Node). Each (GivenBelow b cs w r (alone b n (Flat n))) (flat_inputs o))
+  subst (λ (o : Option Node). Each (GivenBelow b cs w r (ranked_alone b n (Flat n)))
+      (flat_inputs o))
       (sym h) (flat_all b cs p w r n ins ok ra wide h t),
   tt,
 )
@@ -122,10 +123,10 @@ pdo_alone : (b : Blocked) (cs : List (List ℕ)) → AreParts b cs → (w : ℕ)
     (d : Place) (f : Forest) (s : Bool) → IsSound b.graph → IsRankedBy r b.graph.nodes
     → ((k : ℕ) → suc (r k) < w) → node_at b.graph.nodes n ≡ Some (Pdo d f)
     → (is_mapper b n || is_reducer b n) ≡ s
-    → Each (AllGiven b cs w r) (cond s [] (alone b n (trivial n f) ∷ []))
+    → Each (AllGiven b cs w r) (cond s [] (ranked_alone b n (trivial n f) ∷ []))
 pdo_alone b cs p w r n d f true ok ra wide h t = tt
 pdo_alone b cs p w r n d f false ok ra wide h t =
-    let y : Ranked = alone b n (trivial n f) in
+    let y : Ranked = ranked_alone b n (trivial n f) in
     let q = or_false (is_mapper b n) (is_reducer b n) t in (
       (
           subst (λ (o : Option Node).

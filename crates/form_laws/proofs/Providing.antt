@@ -16,15 +16,15 @@ use Rattle.exec_graph.proofs.Bools.{or_cases}
 use Rattle.plan_rules.specs.of_exec_plan.Channels.{outs_of}
 use Rattle.plan_laws.specs.declared.operations.Key.{Key}
 use Rattle.plan_laws.specs.declared.operations.Key.TheVariants.{Mapper}
-use Rattle.plan_laws.specs.Operations.{IsIn, gives_of, group_gives, inputs_at, read_through, reduced, times}
+use Rattle.plan_laws.specs.Operations.{IsIn, gives_of, group_gives, inputs_at, read_through, reduced, times_named}
 use Rattle.plan_laws.proofs.Running.{place_same}
 use Rattle.plan_roles.specs.Levels.{level}
 use Rattle.plan_roles.specs.Reading.{feeds_next, takes}
-use Rattle.plan_roles.specs.Mappers.{feeds_unmarked, is_mapper, key_of, maps_at, outputs_of, reducer_of}
+use Rattle.plan_roles.specs.Mappers.{feeds_unmarked, is_mapper, read_key, maps_at, places_given, reducer_of}
 use Rattle.form_laws.specs.declared.ranked.Ranked.{Ranked}
 use Rattle.plan_rules.specs.Fitting.{same_key}
-use Rattle.form_laws.specs.Classes.{IsGbkAt, keys_of, members}
-use Rattle.form_laws.specs.Operations.{all_alone, alone_of, class_keys, class_level, class_operation, class_ranked, first_uses, grouped, key_passes, passes_at}
+use Rattle.form_laws.specs.Classes.{IsGbkAt, keys_taken, class_members}
+use Rattle.form_laws.specs.Operations.{all_alone, alone_of, class_keys, class_level, class_operation, class_ranked, first_uses, gbk_with_reducer, key_passes, passes_at}
 use Rattle.plan_rules.proofs.Members.{in_left, in_right}
 use Rattle.form_laws.proofs.Basics.{any_at, counted, in_either, none_counted}
 use Rattle.form_laws.proofs.Classing.{AreParts, HasLevel, key_same, node_gbk}
@@ -54,29 +54,29 @@ alone_in b (e ∷ es) n x y h a =
 pub record ClassOf (b : Blocked) (cs : List (List ℕ)) (n : ℕ) : Type 0 where
   pub gbks : List ℕ
   pub among : IsIn (class_ranked b gbks) (map (class_ranked b) cs)
-  pub has_it : 0 < times n gbks
+  pub has_it : 0 < times_named n gbks
   pub level : class_level b gbks ≡ level b.graph.nodes n
 
-member_level : (l : ℕ → ℕ) (x n : ℕ) (ns : List ℕ) → Each (λ k. l k ≡ x) ns → 0 < times n ns
+member_level : (l : ℕ → ℕ) (x n : ℕ) (ns : List ℕ) → Each (λ k. l k ≡ x) ns → 0 < times_named n ns
     → l n ≡ x
 member_level l x n [] a h = absurd (none_counted n h)
 member_level l x n (k ∷ ks) a h =
     elim (counted n k ks h)
     [ inl e ↦ ap l (sym e) ∙ a.0 | inr i ↦ member_level l x n ks a.1 i ]
 
-first_level : (b : Blocked) (n : ℕ) (ns : List ℕ) → HasLevel b ns → 0 < times n ns
+first_level : (b : Blocked) (n : ℕ) (ns : List ℕ) → HasLevel b ns → 0 < times_named n ns
     → class_level b ns ≡ level b.graph.nodes n
 first_level b n [] a h = absurd (none_counted n h)
 first_level b n (k ∷ ks) a h =
     a.1.0 ∙ sym (member_level (level b.graph.nodes) a.0 n (k ∷ ks) a.1 h)
 
 find_class : (b : Blocked) (n : ℕ) (cs : List (List ℕ)) → Each (HasLevel b) cs
-    → 0 < times n (members cs)
-    → (c : List ℕ) × IsIn (class_ranked b c) (map (class_ranked b) cs) × (0 < times n c)
+    → 0 < times_named n (class_members cs)
+    → (c : List ℕ) × IsIn (class_ranked b c) (map (class_ranked b) cs) × (0 < times_named n c)
     × (class_level b c ≡ level b.graph.nodes n)
 find_class b n [] a h = absurd (none_counted n h)
 find_class b n (c ∷ cs) a h =
-    elim (in_either n c (members cs) h) [
+    elim (in_either n c (class_members cs) h) [
       | inl i ↦ (c, inl refl, i, first_level b n c a.0 i)
       | inr i ↦ let r = find_class b n cs a.1 i in (r.0, inr r.1, r.2, r.3)
     ]
@@ -89,25 +89,25 @@ class_of b cs p n x h g =
     record { gbks = r.0; among = r.1; has_it = r.2; level = r.3 }
 
 -- what its group gives is among what the class gives
-group_in : (b : Blocked) (n : ℕ) (ns : List ℕ) (c : Place) → 0 < times n ns
+group_in : (b : Blocked) (n : ℕ) (ns : List ℕ) (c : Place) → 0 < times_named n ns
     → IsIn c (reduced b.graph.nodes n (reducer_of b n))
-    → IsIn c (flat_map (group_gives b.graph.nodes) (map (grouped b) ns))
+    → IsIn c (flat_map (group_gives b.graph.nodes) (map (gbk_with_reducer b) ns))
 group_in b n [] c h i = absurd (none_counted n h)
 group_in b n (k ∷ ks) c h i =
     let es : List Entry = b.graph.nodes in
     elim (counted n k ks h) [
-      | inl e ↦ in_left c (group_gives es (grouped b k))
-          (flat_map (group_gives es) (map (grouped b) ks))
+      | inl e ↦ in_left c (group_gives es (gbk_with_reducer b k))
+          (flat_map (group_gives es) (map (gbk_with_reducer b) ks))
           (subst (λ (j : ℕ). IsIn c (reduced es j (reducer_of b j))) (sym e) i)
-      | inr j ↦ in_right c (group_gives es (grouped b k))
-          (flat_map (group_gives es) (map (grouped b) ks)) (group_in b n ks c j i)
+      | inr j ↦ in_right c (group_gives es (gbk_with_reducer b k))
+          (flat_map (group_gives es) (map (gbk_with_reducer b) ks)) (group_in b n ks c j i)
     ]
 
 pub class_gives : (b : Blocked) (cs : List (List ℕ)) (n : ℕ) (k : ClassOf b cs n) (c : Place)
     → IsIn c (reduced b.graph.nodes n (reducer_of b n))
     → IsIn c (gives_of b.graph.nodes (class_operation b k.gbks))
 class_gives b cs n k c i =
-    in_left c (flat_map (group_gives b.graph.nodes) (map (grouped b) k.gbks))
+    in_left c (flat_map (group_gives b.graph.nodes) (map (gbk_with_reducer b) k.gbks))
     (flat_map (key_passes b) (class_keys b k.gbks)) (group_in b n k.gbks c k.has_it i)
 
 -- ---- a mapper is a key of a class
@@ -146,22 +146,22 @@ key_uses k [] h = absurd h
 key_uses k (j ∷ js) (inl h) = inl h
 key_uses k (j ∷ js) (inr h) = key_dropped k j (first_uses js) (key_uses k js h)
 
-key_class : (b : Blocked) (n : ℕ) (k : Key) (ns : List ℕ) → 0 < times n ns
-    → KeyIn k (keys_of b n) → KeyIn k (flat_map (keys_of b) ns)
+key_class : (b : Blocked) (n : ℕ) (k : Key) (ns : List ℕ) → 0 < times_named n ns
+    → KeyIn k (keys_taken b n) → KeyIn k (flat_map (keys_taken b) ns)
 key_class b n k [] h i = absurd (none_counted n h)
 key_class b n k (m ∷ ms) h i =
     elim (counted n m ms h) [
-      | inl e ↦ key_left k (keys_of b m) (flat_map (keys_of b) ms)
-          (subst (λ (j : ℕ). KeyIn k (keys_of b j)) (sym e) i)
-      | inr j ↦ key_right k (keys_of b m) (flat_map (keys_of b) ms) (key_class b n k ms j i)
+      | inl e ↦ key_left k (keys_taken b m) (flat_map (keys_taken b) ms)
+          (subst (λ (j : ℕ). KeyIn k (keys_taken b j)) (sym e) i)
+      | inr j ↦ key_right k (keys_taken b m) (flat_map (keys_taken b) ms) (key_class b n k ms j i)
     ]
 
 key_mapped : (b : Blocked) (n : ℕ) (c : Place) (cs : List Place) → among c cs ≡ true
-    → KeyIn (key_of b n c) (map (key_of b n) cs)
+    → KeyIn (read_key b n c) (map (read_key b n) cs)
 key_mapped b n c [] h = absurd (false≢true h)
 key_mapped b n c (d ∷ ds) h =
     elim (or_cases (same_place c d) (among c ds) h) [
-      | inl e ↦ inl (ap (key_of b n) (sym (place_same c d e)))
+      | inl e ↦ inl (ap (read_key b n) (sym (place_same c d e)))
       | inr i ↦ inr (key_mapped b n c ds i)
     ]
 
@@ -194,7 +194,7 @@ fed_input es (Gbk x o last k) c d f h e =
 fed_input es (Barrier ins o l a) c d f h e = absurd (false≢true h)
 
 mapper_key : (b : Blocked) (n k : ℕ) (c : Place) → c.node ≡ n → is_mapper b n ≡ true
-    → suc (level b.graph.nodes n) ≡ k → key_of b k c ≡ Mapper n
+    → suc (level b.graph.nodes n) ≡ k → read_key b k c ≡ Mapper n
 mapper_key b n k c e m h =
     let a : is_mapper b c.node ≡ true = ap (is_mapper b) e ∙ m in
     let s : eqb (suc (level b.graph.nodes c.node)) k ≡ true =
@@ -215,7 +215,7 @@ pub maps_in : (b : Blocked) (cs : List (List ℕ)) → AreParts b cs → (n : �
 maps_in b cs p n d f differ h m =
     let es : List Entry = b.graph.nodes in
     let fed = (maps_so b n d f (ap (maps_at b n) (sym h) ∙ m)).fed in
-    let c = any_at (λ (c : Place). c.node ≡ n) (feeds_unmarked b) (outputs_of n f)
+    let c = any_at (λ (c : Place). c.node ≡ n) (feeds_unmarked b) (places_given n f)
     (all_mapped (place n) (λ (c : Place). c.node ≡ n) (λ j. refl) (outs_of f)) fed in
     let q = (both_true (not (among c.0 b.marks)) (feeds_next es c.0) c.2).1 in
     let e = any_at (λ (e : Entry). node_at es e.number ≡ Some e.node)
@@ -231,17 +231,17 @@ maps_in b cs p n d f differ h m =
     ∙ ap (λ (j : ℕ). suc (level es j)) c.1 in
     let inputs : among c.0 (inputs_from es (node_at es e.0.number)) ≡ true =
     ap (λ (o : Option Node). among c.0 (inputs_from es o)) e.1 ∙ i.1 in
-    let key : KeyIn (Mapper n) (keys_of b e.0.number) =
+    let key : KeyIn (Mapper n) (keys_taken b e.0.number) =
     subst (KeyIn (Mapper n)) (sym (keys_are b e.0.number))
     (subst
     (λ (x : Key). KeyIn x
-    (map (key_of b (level es e.0.number)) (inputs_from es (node_at es e.0.number))))
+    (map (read_key b (level es e.0.number)) (inputs_from es (node_at es e.0.number))))
     (mapper_key b n (level es e.0.number) c.0 c.1 m (sym lev))
     (key_mapped b (level es e.0.number) c.0 (inputs_from es (node_at es e.0.number)) inputs)) in
     record {
       gbk = e.0.number;
       class = k;
       level = lev;
-      key = key_uses (Mapper n) (flat_map (keys_of b) k.gbks)
+      key = key_uses (Mapper n) (flat_map (keys_taken b) k.gbks)
           (key_class b e.0.number (Mapper n) k.gbks k.has_it key);
     }

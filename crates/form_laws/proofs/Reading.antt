@@ -17,13 +17,13 @@ use Rattle.exec_graph.proofs.Entries.{entry}
 use Rattle.exec_graph.proofs.Solving.{each_found}
 use Rattle.exec_graph.proofs.Bools.{or_left, or_right, or_cases, or_false}
 use Rattle.plan_rules.specs.of_exec_plan.Channels.{kept_out, outs_of}
-use Rattle.plan_roles.specs.of_fusion_blocks.Feeding.{flattens}
+use Rattle.plan_roles.specs.of_fusion_blocks.Feeding.{is_flatten_of}
 use Rattle.plan_rules.proofs.of_graph_laws.ReadPlaces.{same_self}
 use Rattle.plan_rules.proofs.of_graph_laws.Reading.{those_has}
 use Rattle.plan_laws.proofs.Running.{place_same}
 use Rattle.plan_laws.specs.Operations.{IsIn, IsPdo, IsReducer, IsPdoOn}
-use Rattle.plan_roles.specs.Reading.{carries_on, goes_on, goes_past, one_of, only_reader, works_on}
-use Rattle.plan_roles.specs.Mappers.{feeds_unmarked, is_mapper, is_stage, maps, maps_at, outputs_of, reducer_of, unless_mapper}
+use Rattle.plan_roles.specs.Reading.{carries_on, goes_on, goes_past, sole_number, only_reader, works_on}
+use Rattle.plan_roles.specs.Mappers.{feeds_unmarked, is_mapper, is_stage, maps, maps_at, places_given, reducer_of, unless_mapper}
 use Rattle.form_laws.proofs.Basics.{any_found, none_found, negated}
 
 -- ---- kinds of nodes
@@ -42,7 +42,7 @@ is_flatten _ = false
 -- ---- stages
 -- a reader that is no Gbk works on it or is a Flatten
 goes : (x : Node) (c : Place) → is_gbk x ≡ false → among c (reads x) ≡ true
-    → (works_on c x || flattens c x) ≡ true
+    → (works_on c x || is_flatten_of c x) ≡ true
 goes (Source r) c g h = absurd (false≢true h)
 goes (Flatten ins) c g h = h
 goes (Pdo d f) c g h = h
@@ -52,7 +52,7 @@ goes (Barrier ins o l a) c g h = or_left (among c ins) false h
 pub read_on : (es : List Entry) (c : Place) (k : ℕ) (x : Node) → node_at es k ≡ Some x
     → among c (reads x) ≡ true → is_gbk x ≡ false → goes_on es c ≡ true
 read_on es c k x e r g =
-    any_found (λ e. works_on c e.node || flattens c e.node) es k x e (goes x c g r)
+    any_found (λ e. works_on c e.node || is_flatten_of c e.node) es k x e (goes x c g r)
 
 -- a Flatten that another node than a Gbk reads is a stage
 pub stage_read : (b : Blocked) (n k : ℕ) (x : Node) → node_at b.graph.nodes k ≡ Some x
@@ -81,7 +81,7 @@ unless_is b (Some q) r h =
     let same : q ≡ r = (let e : Some q ≡ Some r = p.1 in cc) in
     (p.1, ap (is_mapper b) (sym same) ∙ p.0)
 
-one_is : (ns : List ℕ) (r : ℕ) → one_of ns ≡ Some r → ns ≡ r ∷ []
+one_is : (ns : List ℕ) (r : ℕ) → sole_number ns ≡ Some r → ns ≡ r ∷ []
 one_is [] r h = let bad : ⊥ = cc in absurd bad
 one_is (n ∷ []) r h = let same : n ≡ r = cc in ap (λ (k : ℕ). k ∷ []) same
 one_is (n ∷ m ∷ ns) r h = let bad : ⊥ = cc in absurd bad
@@ -91,7 +91,7 @@ reduces_so b n r h =
     let c : Place = place n 0 in
     let p = cond_none (among c b.marks) (unless_mapper b (only_reader b.graph c)) r h in
     let q = unless_is b (only_reader b.graph c) r p.1 in
-    let o = cond_none (is_held b.graph c) (one_of (readers b.graph.nodes c)) r q.0 in
+    let o = cond_none (is_held b.graph c) (sole_number (readers b.graph.nodes c)) r q.0 in
     record { unmapped = q.1; unheld = o.0; alone = one_is (readers b.graph.nodes c) r o.1 }
 
 -- the reducer is the only reader
@@ -186,14 +186,14 @@ mapper_pdo b n (Some (Barrier ins o l a)) h = absurd (false≢true h)
 mapper_pdo b n (Some (Pdo c f)) h = tt
 
 pub record Maps (b : Blocked) (n : ℕ) (f : Forest) : Type 0 where
-  pub fed : list_any (feeds_unmarked b) (outputs_of n f) ≡ true
-  pub near : list_any (goes_past b.graph.nodes) (outputs_of n f) ≡ false
+  pub fed : list_any (feeds_unmarked b) (places_given n f) ≡ true
+  pub near : list_any (goes_past b.graph.nodes) (places_given n f) ≡ false
 
 pub maps_so : (b : Blocked) (n : ℕ) (d : Place) (f : Forest) → maps b n (Pdo d f) ≡ true
     → Maps b n f
 maps_so b n d f h =
-    let fed : Bool = list_any (feeds_unmarked b) (outputs_of n f) in
-    let past : Bool = list_any (goes_past b.graph.nodes) (outputs_of n f) in
+    let fed : Bool = list_any (feeds_unmarked b) (places_given n f) in
+    let past : Bool = list_any (goes_past b.graph.nodes) (places_given n f) in
     let p = both_true (not (is_lifted (node_at b.graph.nodes d.node))) (fed && not past) h in
     let q = both_true fed (not past) p.1 in
     record { fed = q.0; near = negated past q.1 }
@@ -218,7 +218,7 @@ kept_in n j None h = absurd (false≢true h)
 kept_in n j (Some k) h = inl (ap (place n) (eqb-true k j h))
 
 -- an output that is kept is among the outputs
-pub out_in : (n j : ℕ) (f : Forest) → has_out j f ≡ true → IsIn (place n j) (outputs_of n f)
+pub out_in : (n j : ℕ) (f : Forest) → has_out j f ≡ true → IsIn (place n j) (places_given n f)
 out_in n j Bare h = absurd (false≢true h)
 out_in n j (Grow t kids rest) h =
     map_append_in n (kept_out t.out) (outs_of kids ++ outs_of rest) (place n j)
@@ -238,7 +238,7 @@ near_by b c (Some (Flatten ins)) e g m = absurd (false≢true m)
 near_by b c (Some (Gbk d o last k)) e g m = absurd (false≢true m)
 near_by b c (Some (Barrier ins o l a)) e g m = absurd (false≢true m)
 near_by b c (Some (Pdo d f)) e g m =
-    none_in (goes_past b.graph.nodes) c (outputs_of c.node f) (maps_so b c.node d f m).near
+    none_in (goes_past b.graph.nodes) c (places_given c.node f) (maps_so b c.node d f m).near
     (out_in c.node c.out f g)
 
 mapper_near : (b : Blocked) (c : Place) → IsThere b.graph.nodes c → is_mapper b c.node ≡ true

@@ -18,9 +18,9 @@ use Rattle.exec_graph.proofs.Bools.{not_true, or_cases}
 use Rattle.plan_laws.specs.Operations.{IsPdoOn}
 use Rattle.plan_laws.proofs.Running.{place_same}
 use Rattle.plan_rules.specs.Fitting.{HasReducer, IsReduced}
-use Rattle.plan_roles.specs.Reading.{one_of, only_reader}
+use Rattle.plan_roles.specs.Reading.{sole_number, only_reader}
 use Rattle.plan_roles.specs.Mappers.{is_mapper, maps_at, reducer_of, unless_mapper}
-use Rattle.form_laws.specs.Operations.{grouped}
+use Rattle.form_laws.specs.Operations.{gbk_with_reducer}
 use Rattle.form_laws.proofs.Reading.{IsThat, calls_reads, those_all}
 use Rattle.form_laws.proofs.Apartness.{false_and}
 
@@ -67,7 +67,8 @@ lifted_reducer b n c o l k ok h =
     let unmapped : is_mapper b lift.reader ≡ false =
     unmapped_by b lift.reader at (node_at es lift.reader) reads_it yes in
     let only : only_reader b.graph at ≡ Some lift.reader =
-    ap (λ (x : Bool). cond x None (one_of (readers es at))) unheld ∙ ap one_of lift.alone in (
+    ap (λ (x : Bool). cond x None (sole_number (readers es at))) unheld
+    ∙ ap sole_number lift.alone in (
       lift.reader,
       ap (λ (x : Bool). cond x None (unless_mapper b (only_reader b.graph at))) unmarked
           ∙ ap (unless_mapper b) only
@@ -89,7 +90,7 @@ reduced_by b n (Some (Gbk c o l (Some k))) ok h =
 reduced_by b n (Some (Barrier ins o l a)) ok h = tt
 
 pub all_reduced : (b : Blocked) (ns : List ℕ) → IsBlockedOk b
-    → Each (IsReduced b.graph.nodes) (map (grouped b) ns)
+    → Each (IsReduced b.graph.nodes) (map (gbk_with_reducer b) ns)
 all_reduced b [] ok = tt
 all_reduced b (n ∷ ns) ok =
     (reduced_by b n (node_at b.graph.nodes n) ok refl, all_reduced b ns ok)

@@ -19,12 +19,12 @@ use Rattle.plan_laws.specs.declared.operations.Operation.{Operation}
 use Rattle.plan_laws.specs.declared.operations.Operation.TheVariants.{Class}
 use Rattle.plan_laws.specs.Operations.{read_through, plan_of, source_places}
 use Rattle.plan_roles.specs.Levels.{level}
-use Rattle.plan_roles.specs.Mappers.{feeds_unmarked, is_mapper, is_reducer, keys_in, maps, maps_at, outputs_of, reduces, reducer_of, unless_mapper, is_number}
+use Rattle.plan_roles.specs.Mappers.{feeds_unmarked, is_mapper, is_reducer, keys_in, maps, maps_at, places_given, reduces, reducer_of, unless_mapper, is_just_number}
 use Rattle.plan_roles.specs.Reading.{feeds_next, goes_past, only_reader}
 use Rattle.form_laws.specs.declared.ranked.Ranked.{Ranked}
-use Rattle.form_laws.specs.Classes.{AreClasses, AreLinked, IsLinked, has_same, keys_at, keys_of, related}
-use Rattle.form_laws.specs.Formed.{AreFormed, IsFormed, in_order}
-use Rattle.form_laws.specs.Operations.{all_alone, alone, alone_of, class_keys, class_level, class_operation, class_ranked, first_uses, key_passes, least_of, operations, passes_at, trivial}
+use Rattle.form_laws.specs.Classes.{AreClasses, AreLinked, IsLinked, has_same, keys_at, keys_taken, related}
+use Rattle.form_laws.specs.Formed.{AreFormed, IsFormed, ordered_operations}
+use Rattle.form_laws.specs.Operations.{all_alone, ranked_alone, alone_of, class_keys, class_level, class_operation, class_ranked, first_uses, key_passes, number_of_first, operations, passes_at, trivial}
 use Rattle.form_laws.specs.Order.{InTurn, ordered}
 use Rattle.form_laws.proofs.OneClassing.{operations_apart, same_operations}
 use Rattle.form_laws.proofs.SomeClasses.{some_classes}
@@ -48,7 +48,7 @@ module _ (g : Graph) (m n : List Place) (same : (c : Place) → among c m ≡ am
   maps_alike k (Flatten ins) = refl
   maps_alike k (Pdo c f) =
       ap (λ (t : Place → Bool). not (is_lifted (node_at g.nodes c.node))
-      && (list_any t (outputs_of k f) && not (list_any (goes_past g.nodes) (outputs_of k f))))
+      && (list_any t (places_given k f) && not (list_any (goes_past g.nodes) (places_given k f))))
       feeds_alike
   maps_alike k (Gbk c o l h) = refl
   maps_alike k (Barrier ins o l h) = refl
@@ -77,7 +77,7 @@ module _ (g : Graph) (m n : List Place) (same : (c : Place) → among c m ≡ am
   reduces_alike k r (Source s) = refl
   reduces_alike k r (Flatten ins) = refl
   reduces_alike k r (Pdo c f) = refl
-  reduces_alike k r (Gbk c o l h) = ap (λ (t : ℕ → Option ℕ). is_number (t k) r) reducer_alike
+  reduces_alike k r (Gbk c o l h) = ap (λ (t : ℕ → Option ℕ). is_just_number (t k) r) reducer_alike
   reduces_alike k r (Barrier ins o l h) = refl
 
   reducers_alike : is_reducer left ≡ is_reducer right
@@ -100,7 +100,7 @@ module _ (g : Graph) (m n : List Place) (same : (c : Place) → among c m ≡ am
   keys_at_alike k (Some (Gbk c o l h)) = keys_in_alike k c
   keys_at_alike k (Some (Barrier ins o l h)) = refl
 
-  keys_alike : keys_of left ≡ keys_of right
+  keys_alike : keys_taken left ≡ keys_taken right
   keys_alike = λ i. λ k. keys_at_alike k (node_at g.nodes k) i
 
   related_alike : (k r : ℕ) → related left k r ≡ related right k r
@@ -169,7 +169,7 @@ module _ (g : Graph) (m n : List Place) (same : (c : Place) → among c m ≡ am
       (map (grouped_by (reducer_of right)) ns) t) key_passes_alike
 
   abbrev ranked_by : List ℕ → Operation → Ranked
-  ranked_by ns o = record { rank = 2 * class_level right ns; number = least_of ns; does = o }
+  ranked_by ns o = record { rank = 2 * class_level right ns; number = number_of_first ns; does = o }
 
   ranked_alike : class_ranked left ≡ class_ranked right
   ranked_alike = λ i. λ ns. ranked_by ns (class_alike ns i)
@@ -178,9 +178,11 @@ module _ (g : Graph) (m n : List Place) (same : (c : Place) → among c m ≡ am
   alone_alike k (Source r) = refl
   alone_alike k (Flatten ins) = refl
   alone_alike k (Pdo c f) =
-      ap (λ (t : ℕ → Bool). cond (t k || is_reducer left k) [] (alone right k (trivial k f) ∷ []))
+      ap (λ (t : ℕ → Bool). cond (t k || is_reducer left k) []
+      (ranked_alone right k (trivial k f) ∷ []))
       mapper_alike
-      ∙ ap (λ (t : ℕ → Bool). cond (is_mapper right k || t k) [] (alone right k (trivial k f) ∷ []))
+      ∙ ap (λ (t : ℕ → Bool). cond (is_mapper right k || t k) []
+      (ranked_alone right k (trivial k f) ∷ []))
       reducers_alike
   alone_alike k (Gbk c o l h) = refl
   alone_alike k (Barrier ins o l h) = refl
@@ -206,7 +208,7 @@ module _ (g : Graph) (m n : List Place) (same : (c : Place) → among c m ≡ am
 -- ---- one result
 
 formed_in_turn : (b : Blocked) (cs : List (List ℕ))
-    → InTurn b.graph.nodes (source_places b.graph.nodes) (operations b cs) (in_order b cs)
+    → InTurn b.graph.nodes (source_places b.graph.nodes) (operations b cs) (ordered_operations b cs)
 formed_in_turn b cs =
     let ops : List Ranked = operations b cs in
     ordered_in_turn b.graph.nodes (length ops) (source_places b.graph.nodes) ops (omega arith)
@@ -216,7 +218,7 @@ one_formed : (b : Blocked) (os ps : List Operation) → AllDiffer b.graph.nodes
 one_formed b os ps d h k =
     h.ordered
     ∙ one_order b.graph.nodes (source_places b.graph.nodes) (operations b h.classes)
-    (operations b k.classes) (in_order b h.classes) (in_order b k.classes)
+    (operations b k.classes) (ordered_operations b h.classes) (ordered_operations b k.classes)
     (operations_apart b h.classes d h.classed) (operations_apart b k.classes d k.classed)
     (same_operations b h.classes k.classes h.classed k.classed)
     (formed_in_turn b h.classes) (formed_in_turn b k.classes)
@@ -247,7 +249,7 @@ pub some_plan : (sources : ℕ) (b : Blocked) → Ascends b.graph.nodes
     → (p : Plan) × IsFormed sources b p
 some_plan sources b asc =
     let c = some_classes b asc in
-    let os : List Operation = in_order b c.0 in (
+    let os : List Operation = ordered_operations b c.0 in (
       plan_of sources b.graph.nodes b.graph.outputs os,
       record {
         operations = os;

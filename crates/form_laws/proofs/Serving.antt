@@ -20,9 +20,9 @@ use Rattle.plan_laws.specs.declared.operations.Operation.TheVariants.{Flat, Clas
 use Rattle.plan_laws.specs.Operations.{IsIn, IsReducer, IsPdoOn, gives_of, group_gives, outs_at, reduced, source_place, source_places}
 use Rattle.plan_roles.specs.Levels.{level}
 use Rattle.plan_roles.specs.Reading.{goes_on}
-use Rattle.plan_roles.specs.Mappers.{is_mapper, is_reducer, is_stage, outputs_of, passes, reducer_of, reduces}
+use Rattle.plan_roles.specs.Mappers.{is_mapper, is_reducer, is_stage, places_given, passes, reducer_of, reduces}
 use Rattle.form_laws.specs.declared.ranked.Ranked.{Ranked}
-use Rattle.form_laws.specs.Operations.{all_alone, alone, class_keys, class_level, class_operation, class_ranked, grouped, key_passes, barrier_ranked, operations, passes_at, trivial}
+use Rattle.form_laws.specs.Operations.{all_alone, ranked_alone, class_keys, class_level, class_operation, class_ranked, gbk_with_reducer, key_passes, barrier_ranked, operations, passes_at, trivial}
 use Rattle.plan_rules.proofs.Members.{in_left, in_right}
 use Rattle.form_laws.proofs.Basics.{any_at, in_filter}
 use Rattle.form_laws.proofs.Classing.{AreParts}
@@ -91,7 +91,7 @@ serve_flat : (b : Blocked) (cs : List (List ℕ)) (c : Place) (ins : List Place)
     → node_at b.graph.nodes c.node ≡ Some (Flatten ins) → c.out ≡ 0 → is_stage b c.node ≡ true
     → Served b cs c
 serve_flat b cs c ins h z s =
-    let y : Ranked = alone b c.node (Flat c.node) in
+    let y : Ranked = ranked_alone b c.node (Flat c.node) in
     record {
       by = y;
       among = in_right y (map (class_ranked b) cs) (all_alone b b.graph.nodes)
@@ -174,9 +174,9 @@ serve_mapper b cs p c d f differ h g m t =
     let k = maps_in b cs p c.node d f differ h m in
     let passed : IsIn c (passes_at b c.node (node_at b.graph.nodes c.node)) =
     subst (λ (o : Option Node). IsIn c (passes_at b c.node o)) (sym h)
-    (in_filter (passes b) c (outputs_of c.node f) (out_in c.node c.out f g) t) in
+    (in_filter (passes b) c (places_given c.node f) (out_in c.node c.out f g) t) in
     serve_class b cs k.gbk k.class c
-    (in_right c (flat_map (group_gives b.graph.nodes) (map (grouped b) k.class.gbks))
+    (in_right c (flat_map (group_gives b.graph.nodes) (map (gbk_with_reducer b) k.class.gbks))
     (flat_map (key_passes b) (class_keys b k.class.gbks))
     (passes_in b c.node c (class_keys b k.class.gbks) k.key passed)) (inl (m, k.level))
 
@@ -225,7 +225,7 @@ serve_trivial : (b : Blocked) (cs : List (List ℕ)) (c d : Place) (f : Forest)
     → node_at b.graph.nodes c.node ≡ Some (Pdo d f) → has_out c.out f ≡ true
     → (is_mapper b c.node || is_reducer b c.node) ≡ false → Served b cs c
 serve_trivial b cs c d f h g s =
-    let y : Ranked = alone b c.node (trivial c.node f) in
+    let y : Ranked = ranked_alone b c.node (trivial c.node f) in
     record {
       by = y;
       among = in_right y (map (class_ranked b) cs) (all_alone b b.graph.nodes)

@@ -11,7 +11,7 @@ use Rattle.exec_graph.specs.declared.graph.Entry.{Entry}
 use Rattle.exec_graph.specs.declared.graph.Blocked.{Blocked}
 use Rattle.exec_graph.proofs.Solving.{each_found}
 use Rattle.exec_graph.proofs.Soundness.{differ_ascends}
-use Rattle.plan_laws.specs.Operations.{times}
+use Rattle.plan_laws.specs.Operations.{times_named}
 use Rattle.form_laws.specs.Classes.{AreClasses, AreLinked, IsGbk, IsGbkAt, IsLinked, Rises, related}
 use Rattle.form_laws.proofs.Basics.{absent, counted, counts_head, none_counted}
 use Rattle.form_laws.proofs.ByLabel.{by_label, label_each, label_rise, label_shared, label_some, label_times, rises_by, shared_label}
@@ -135,7 +135,7 @@ module _ (P : ℕ → ℕ → Type 0) (b : Blocked) where
   rest_at n k ps false a = a
 
   with_at : (n k : ℕ) (ks : List ℕ) → Each (λ p. P p.0 p.1) (pairs_with b n ks)
-      → 0 < times k ks → related b n k ≡ true → P n k
+      → 0 < times_named k ks → related b n k ≡ true → P n k
   with_at n k [] a h r = absurd (none_counted k h)
   with_at n k (j ∷ js) a h r =
       elim (counted k j js h) [
@@ -146,7 +146,7 @@ module _ (P : ℕ → ℕ → Type 0) (b : Blocked) where
       ]
 
   pair_at : (n k : ℕ) (ns ks : List ℕ) → Each (λ p. P p.0 p.1) (pairs b ns ks)
-      → 0 < times n ns → 0 < times k ks → related b n k ≡ true → P n k
+      → 0 < times_named n ns → 0 < times_named k ks → related b n k ≡ true → P n k
   pair_at n k [] ks a h i r = absurd (none_counted n h)
   pair_at n k (m ∷ ms) ks a h i r =
       elim (counted n m ms h) [
@@ -185,8 +185,8 @@ gbks_rise (e ∷ es) a =
 
 found_by : (n : ℕ) (e : Entry) (es : List Entry) (x : Node) (s t : Bool) → eqb e.number n ≡ s
     → is_gbk e.node ≡ t → cond s (Some e.node) (node_at es n) ≡ Some x → is_gbk x ≡ true
-    → (node_at es n ≡ Some x → 0 < times n (those is_gbk es))
-    → 0 < times n (cond t (e.number ∷ those is_gbk es) (those is_gbk es))
+    → (node_at es n ≡ Some x → 0 < times_named n (those is_gbk es))
+    → 0 < times_named n (cond t (e.number ∷ those is_gbk es) (those is_gbk es))
 found_by n e es x true true i j h g f =
     counts_head n e.number (those is_gbk es) (eqb-true e.number n i)
 found_by n e es x true false i j h g f =
@@ -195,27 +195,27 @@ found_by n e es x false true i j h g f = let k = f h in omega arith
 found_by n e es x false false i j h g f = f h
 
 gbk_found : (n : ℕ) (es : List Entry) (x : Node) → node_at es n ≡ Some x → is_gbk x ≡ true
-    → 0 < times n (those is_gbk es)
+    → 0 < times_named n (those is_gbk es)
 gbk_found n [] x h g = let bad : ⊥ = cc in absurd bad
 gbk_found n (e ∷ es) x h g =
     found_by n e es x (eqb e.number n) (is_gbk e.node) refl refl h g
     (λ i. gbk_found n es x i g)
 
-rises_once : (n : ℕ) (ns : List ℕ) → Rises ns → times n ns ≤ 1
+rises_once : (n : ℕ) (ns : List ℕ) → Rises ns → times_named n ns ≤ 1
 rises_once n [] h = omega arith
 rises_once n (k ∷ ks) h = by (rises_once n ks h.1) (eqb k n) refl
   where
-    by : times n ks ≤ 1 → (t : Bool) → eqb k n ≡ t → cond t 1 0 + times n ks ≤ 1
+    by : times_named n ks ≤ 1 → (t : Bool) → eqb k n ≡ t → cond t 1 0 + times_named n ks ≤ 1
     by r true e =
         let same : k ≡ n = eqb-true k n e in
-        let none : times n ks ≡ 0 =
+        let none : times_named n ks ≡ 0 =
         absent (λ m. k < m) n ks h.0 (λ l. omega arith) in
         omega arith
     by r false e = omega arith
 
 -- ---- the classes
 
-gbk_in : (b : Blocked) (n : ℕ) → IsGbk b n → 0 < times n (those is_gbk b.graph.nodes)
+gbk_in : (b : Blocked) (n : ℕ) → IsGbk b n → 0 < times_named n (those is_gbk b.graph.nodes)
 gbk_in b n g =
     let x = gbk_node (node_at b.graph.nodes n) g in gbk_found n b.graph.nodes x.0 x.1 x.2
 

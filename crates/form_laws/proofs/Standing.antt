@@ -18,15 +18,15 @@ use Rattle.plan_rules.specs.of_exec_plan.Channels.{outs_of}
 use Rattle.plan_rules.proofs.of_graph_laws.ReadPlaces.{same_self}
 use Rattle.plan_laws.specs.declared.operations.Key.{Key}
 use Rattle.plan_laws.specs.declared.operations.Key.TheVariants.{Mapper, Whole}
-use Rattle.plan_laws.specs.Operations.{HasKey, IsFlat, IsGroupedOk, IsHonest, IsKeyOk, IsPdo, IsTakenPlace, TakesInputs, has_key, inputs_at, read_through}
+use Rattle.plan_laws.specs.Operations.{HasKey, IsFlat, IsGroupedOk, IsHonest, IsKeyOk, IsPdo, IsTakenPlace, TakesInputs, is_read_under, inputs_at, read_through}
 use Rattle.plan_laws.proofs.Carrying.{outs_has}
 use Rattle.plan_roles.specs.Levels.{level}
-use Rattle.plan_roles.specs.Mappers.{is_mapper, key_of, outputs_of, passes}
+use Rattle.plan_roles.specs.Mappers.{is_mapper, read_key, places_given, passes}
 use Rattle.plan_roles.specs.Roles.{passes_of}
 use Rattle.plan_rules.specs.Fitting.{same_key}
 pub use Rattle.plan_rules.specs.Fitting.{gbk_inputs as inputs_from}
-use Rattle.form_laws.specs.Classes.{IsGbk, IsGbkAt, keys_at, keys_of}
-use Rattle.form_laws.specs.Operations.{class_keys, class_operation, first_uses, grouped, key_passes, barrier_does, passes_at, trivial}
+use Rattle.form_laws.specs.Classes.{IsGbk, IsGbkAt, keys_at, keys_taken}
+use Rattle.form_laws.specs.Operations.{class_keys, class_operation, first_uses, gbk_with_reducer, key_passes, barrier_does, passes_at, trivial}
 use Rattle.form_laws.proofs.Basics.{all_kept}
 use Rattle.form_laws.proofs.Classing.{key_same}
 use Rattle.form_laws.proofs.Reading.{mapper_pdo, reducer_ok}
@@ -44,13 +44,13 @@ all_flat f P h (x ∷ xs) = Each-append P (f x) (flat_map f xs) (h x) (all_flat 
 -- ---- keys
 
 keys_map : (b : Blocked) (n : ℕ) (o : Option Node) → keys_at b n o
-    ≡ map (key_of b (level b.graph.nodes n)) (inputs_from b.graph.nodes o)
+    ≡ map (read_key b (level b.graph.nodes n)) (inputs_from b.graph.nodes o)
 keys_map b n (Some (Gbk c o l k)) = refl
 keys_map b n _ = refl
 
 -- the keys of the node n, one for each input
-pub keys_are : (b : Blocked) (n : ℕ) → keys_of b n
-    ≡ map (key_of b (level b.graph.nodes n))
+pub keys_are : (b : Blocked) (n : ℕ) → keys_taken b n
+    ≡ map (read_key b (level b.graph.nodes n))
     (inputs_from b.graph.nodes (node_at b.graph.nodes n))
 keys_are b n = keys_map b n (node_at b.graph.nodes n)
 
@@ -60,26 +60,26 @@ key_ok_by b c true true h = mapper_pdo b c.node (node_at b.graph.nodes c.node) h
 key_ok_by b c true false h = tt
 key_ok_by b c false y h = tt
 
-key_ok : (b : Blocked) (n : ℕ) (c : Place) → IsKeyOk b.graph.nodes (key_of b n c)
+key_ok : (b : Blocked) (n : ℕ) (c : Place) → IsKeyOk b.graph.nodes (read_key b n c)
 key_ok b n c =
     key_ok_by b c (is_mapper b c.node) (eqb (suc (level b.graph.nodes c.node)) n) refl
 
-key_has_by : (c : Place) (x : Bool) → has_key (cond x (Mapper c.node) (Whole c)) c ≡ true
+key_has_by : (c : Place) (x : Bool) → is_read_under (cond x (Mapper c.node) (Whole c)) c ≡ true
 key_has_by c true = eq-eqb c.node c.node refl
 key_has_by c false = same_self c
 
-pub key_has : (b : Blocked) (n : ℕ) (c : Place) → has_key (key_of b n c) c ≡ true
+pub key_has : (b : Blocked) (n : ℕ) (c : Place) → is_read_under (read_key b n c) c ≡ true
 key_has b n c =
     key_has_by c (is_mapper b c.node && eqb (suc (level b.graph.nodes c.node)) n)
 
-node_keys_ok : (b : Blocked) (n : ℕ) → Each (IsKeyOk b.graph.nodes) (keys_of b n)
+node_keys_ok : (b : Blocked) (n : ℕ) → Each (IsKeyOk b.graph.nodes) (keys_taken b n)
 node_keys_ok b n =
     subst (Each (IsKeyOk b.graph.nodes)) (sym (keys_are b n))
-    (all_mapped (key_of b (level b.graph.nodes n)) (IsKeyOk b.graph.nodes)
+    (all_mapped (read_key b (level b.graph.nodes n)) (IsKeyOk b.graph.nodes)
     (key_ok b (level b.graph.nodes n)) (inputs_from b.graph.nodes (node_at b.graph.nodes n)))
 
-keys_ok : (b : Blocked) (ns : List ℕ) → Each (IsKeyOk b.graph.nodes) (flat_map (keys_of b) ns)
-keys_ok b ns = all_flat (keys_of b) (IsKeyOk b.graph.nodes) (node_keys_ok b) ns
+keys_ok : (b : Blocked) (ns : List ℕ) → Each (IsKeyOk b.graph.nodes) (flat_map (keys_taken b) ns)
+keys_ok b ns = all_flat (keys_taken b) (IsKeyOk b.graph.nodes) (node_keys_ok b) ns
 
 pub uses_ok : (P : Key → Type 0) (ks : List Key) → Each P ks → Each P (first_uses ks)
 uses_ok P [] a = tt
@@ -97,19 +97,19 @@ has_right (x ∷ xs) ys c h = inr (has_right xs ys c h)
 
 -- what is dropped is the key that stays
 not_dropped_by : (k j : Key) (js : List Key) (c : Place) (b : Bool) → same_key k j ≡ b
-    → has_key j c ≡ true → (has_key k c ≡ true) ⊎ HasKey (cond (not b) (j ∷ js) js) c
-not_dropped_by k j js c true e h = inl (ap (λ (i : Key). has_key i c) (key_same k j e) ∙ h)
+    → is_read_under j c ≡ true → (is_read_under k c ≡ true) ⊎ HasKey (cond (not b) (j ∷ js) js) c
+not_dropped_by k j js c true e h = inl (ap (λ (i : Key). is_read_under i c) (key_same k j e) ∙ h)
 not_dropped_by k j js c false e h = inr (inl h)
 
 still_by : (k j : Key) (js : List Key) (c : Place) (b : Bool)
-    → (has_key k c ≡ true) ⊎ HasKey js c
-    → (has_key k c ≡ true) ⊎ HasKey (cond (not b) (j ∷ js) js) c
+    → (is_read_under k c ≡ true) ⊎ HasKey js c
+    → (is_read_under k c ≡ true) ⊎ HasKey (cond (not b) (j ∷ js) js) c
 still_by k j js c b (inl h) = inl h
 still_by k j js c true (inr h) = inr h
 still_by k j js c false (inr h) = inr (inr h)
 
 not_dropped : (k : Key) (js : List Key) (c : Place) → HasKey js c
-    → (has_key k c ≡ true) ⊎ HasKey (filter (λ j. not (same_key k j)) js) c
+    → (is_read_under k c ≡ true) ⊎ HasKey (filter (λ j. not (same_key k j)) js) c
 not_dropped k [] c h = absurd h
 not_dropped k (j ∷ js) c (inl h) =
     not_dropped_by k j (filter (λ j. not (same_key k j)) js) c (same_key k j) refl h
@@ -121,15 +121,15 @@ uses_has [] c h = absurd h
 uses_has (k ∷ ks) c (inl h) = inl h
 uses_has (k ∷ ks) c (inr h) = not_dropped k (first_uses ks) c (uses_has ks c h)
 
-inputs_have : (b : Blocked) (n : ℕ) (cs : List Place) → Each (HasKey (map (key_of b n) cs)) cs
+inputs_have : (b : Blocked) (n : ℕ) (cs : List Place) → Each (HasKey (map (read_key b n) cs)) cs
 inputs_have b n [] = tt
 inputs_have b n (c ∷ cs) = (
   inl (key_has b n c),
-  Each-weaker (HasKey (map (key_of b n) cs)) (HasKey (key_of b n c ∷ map (key_of b n) cs))
+  Each-weaker (HasKey (map (read_key b n) cs)) (HasKey (read_key b n c ∷ map (read_key b n) cs))
       (λ d h. inr h) cs (inputs_have b n cs),
 )
 
-node_has : (b : Blocked) (n : ℕ) → Each (HasKey (keys_of b n))
+node_has : (b : Blocked) (n : ℕ) → Each (HasKey (keys_taken b n))
     (inputs_from b.graph.nodes (node_at b.graph.nodes n))
 node_has b n =
     let ins : List Place = inputs_from b.graph.nodes (node_at b.graph.nodes n) in
@@ -138,18 +138,18 @@ node_has b n =
 
 -- each input of each Gbk of the class has its key
 class_has : (b : Blocked) (ns : List ℕ)
-    → Each (λ n. Each (HasKey (flat_map (keys_of b) ns))
+    → Each (λ n. Each (HasKey (flat_map (keys_taken b) ns))
     (inputs_from b.graph.nodes (node_at b.graph.nodes n))) ns
 class_has b [] = tt
 class_has b (n ∷ ns) =
     let es : List Entry = b.graph.nodes in
-    let all : List Key = flat_map (keys_of b) ns in (
-      Each-weaker (HasKey (keys_of b n)) (HasKey (keys_of b n ++ all))
-          (λ c h. has_left (keys_of b n) all c h) (inputs_from es (node_at es n)) (node_has b n),
+    let all : List Key = flat_map (keys_taken b) ns in (
+      Each-weaker (HasKey (keys_taken b n)) (HasKey (keys_taken b n ++ all))
+          (λ c h. has_left (keys_taken b n) all c h) (inputs_from es (node_at es n)) (node_has b n),
       Each-weaker (λ k. Each (HasKey all) (inputs_from es (node_at es k)))
-          (λ k. Each (HasKey (keys_of b n ++ all)) (inputs_from es (node_at es k)))
-          (λ k h. Each-weaker (HasKey all) (HasKey (keys_of b n ++ all))
-          (λ c i. has_right (keys_of b n) all c i) (inputs_from es (node_at es k)) h) ns
+          (λ k. Each (HasKey (keys_taken b n ++ all)) (inputs_from es (node_at es k)))
+          (λ k h. Each-weaker (HasKey all) (HasKey (keys_taken b n ++ all))
+          (λ c i. has_right (keys_taken b n) all c i) (inputs_from es (node_at es k)) h) ns
           (class_has b ns),
     )
 
@@ -189,7 +189,7 @@ outs_at_there es n d f (j ∷ js) h a =
     ((refl, ap (λ (o : Option Node). gives_at o j) h ∙ a.0), outs_at_there es n d f js h a.1)
 
 pub outs_there : (es : List Entry) (n : ℕ) (d : Place) (f : Forest)
-    → node_at es n ≡ Some (Pdo d f) → Each (λ c. (c.node ≡ n) × IsThere es c) (outputs_of n f)
+    → node_at es n ≡ Some (Pdo d f) → Each (λ c. (c.node ≡ n) × IsThere es c) (places_given n f)
 outs_there es n d f h = outs_at_there es n d f (outs_of f) h (outs_has f)
 
 -- what passes through of a Pdo, or nothing
@@ -202,7 +202,7 @@ pub passes_there : (b : Blocked) (n : ℕ) (o : Option Node) → node_at b.graph
     → Each (λ c. (c.node ≡ n) × IsThere b.graph.nodes c) (passes_at b n o)
 passes_there b n o h =
     at_passes (Each (λ c. (c.node ≡ n) × IsThere b.graph.nodes c)) b n o tt
-    (λ d f i. all_kept (λ c. (c.node ≡ n) × IsThere b.graph.nodes c) (passes b) (outputs_of n f)
+    (λ d f i. all_kept (λ c. (c.node ≡ n) × IsThere b.graph.nodes c) (passes b) (places_given n f)
     (outs_there b.graph.nodes n d f (h ∙ i)))
 
 passes_ok : (b : Blocked) (all ks : List Key) → ((c : Place) → HasKey ks c → HasKey all c)
@@ -221,7 +221,7 @@ passes_ok b all (Mapper n ∷ ks) h =
 -- ---- operations
 groups_ok : (b : Blocked) (keys : List Key) (ns : List ℕ) → IsSound b.graph → Each (IsGbk b) ns
     → Each (λ n. Each (HasKey keys) (inputs_from b.graph.nodes (node_at b.graph.nodes n))) ns
-    → Each (IsGroupedOk b.graph.nodes keys) (map (grouped b) ns)
+    → Each (IsGroupedOk b.graph.nodes keys) (map (gbk_with_reducer b) ns)
 groups_ok b keys [] ok g h = tt
 groups_ok b keys (n ∷ ns) ok g h = (
   (
@@ -237,7 +237,7 @@ pub class_honest : (b : Blocked) (ns : List ℕ) → IsSound b.graph → Each (I
 class_honest b ns ok g =
     let es : List Entry = b.graph.nodes in
     let keys : List Key = class_keys b ns in
-    let all : List Key = flat_map (keys_of b) ns in (
+    let all : List Key = flat_map (keys_taken b) ns in (
       uses_ok (IsKeyOk es) all (keys_ok b ns),
       groups_ok b keys ns ok g
           (Each-weaker (λ n. Each (HasKey all) (inputs_from es (node_at es n)))
@@ -254,7 +254,7 @@ trivial_honest es n d f h = (
   (subst IsPdo (sym h) tt, tt),
   tt,
   Each-weaker (λ c. (c.node ≡ n) × IsThere es c) (IsTakenPlace es (Mapper n ∷ []))
-      (λ c i. (inl (eq-eqb n c.node (sym i.0)), i.1)) (outputs_of n f) (outs_there es n d f h),
+      (λ c i. (inl (eq-eqb n c.node (sym i.0)), i.1)) (places_given n f) (outs_there es n d f h),
 )
 
 -- and so does what takes collections whole

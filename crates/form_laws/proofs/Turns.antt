@@ -9,7 +9,7 @@ use Rattle.plan_rules.proofs.of_graph_laws.Lexicographic.{Le, le_both, le_not, l
 use Rattle.plan_laws.specs.declared.operations.Operation.{Operation}
 use Rattle.plan_laws.specs.Operations.{IsIn, gives_of}
 use Rattle.form_laws.specs.declared.ranked.Ranked.{Ranked}
-use Rattle.form_laws.specs.Order.{AreOthers, InTurn, IsNext, IsTurn, Picked, before, is_ready, ordered, ordered_by, pick, pick_by, picked}
+use Rattle.form_laws.specs.Order.{AreOthers, InTurn, IsNext, IsTurn, Picked, is_ranked_before, is_ready, ordered, ordered_by, picked_least, pick_by, picked}
 use Rattle.form_laws.proofs.Ordering.{pick_ok, some_picked, stuck}
 use Rattle.form_laws.proofs.Settling.{among_all}
 
@@ -19,20 +19,20 @@ use Rattle.form_laws.proofs.Settling.{among_all}
 abbrev Behind : Ranked → Ranked → Type 0
 Behind y z = Le y.rank y.number z.rank z.number
 
-not_before : (z y : Ranked) → before z y ≡ false → Behind y z
+not_before : (z y : Ranked) → is_ranked_before z y ≡ false → Behind y z
 not_before z y h = not_less y.rank y.number z.rank z.number h
 
-before_not : (z y : Ranked) → Behind y z → before z y ≡ false
+before_not : (z y : Ranked) → Behind y z → is_ranked_before z y ≡ false
 before_not z y h = le_not y.rank y.number z.rank z.number h
 
-self_not : (x : Ranked) → before x x ≡ false
+self_not : (x : Ranked) → is_ranked_before x x ≡ false
 self_not x = before_not x x (le_self x.rank x.number)
 
 -- ---- what is picked is next
 
 abbrev Least : List Entry → List Place → List Ranked → Ranked → Type 0
 Least es made xs y = (z : Ranked) → IsIn z xs → is_ready es made z.does ≡ true
-    → before z y ≡ false
+    → is_ranked_before z y ≡ false
 
 -- what is picked, where none that is ready is before it, with the others
 record Picks (es : List Entry) (made : List Place) (xs : List Ranked) (p : Picked) : Type 0 where
@@ -54,7 +54,7 @@ behind x y xs rest h = record {
 least_this : (es : List Entry) (made : List Place) (x y : Ranked) (xs : List Ranked) → Behind x y
     → Least es made xs y → Least es made (x ∷ xs) x
 least_this es made x y xs l h z (inl e) r =
-    subst (λ (u : Ranked). before u x ≡ false) e (self_not x)
+    subst (λ (u : Ranked). is_ranked_before u x ≡ false) e (self_not x)
 least_this es made x y xs l h z (inr i) r =
     before_not z x (le_trans x.rank x.number y.rank y.number z.rank z.number l
     (not_before z y (h z i r)))
@@ -63,18 +63,18 @@ least_later : (es : List Entry) (made : List Place) (x y : Ranked) (xs : List Ra
     → (is_ready es made x.does ≡ true → Behind y x) → Least es made xs y
     → Least es made (x ∷ xs) y
 least_later es made x y xs l h z (inl e) r =
-    subst (λ (u : Ranked). before u y ≡ false) e
+    subst (λ (u : Ranked). is_ranked_before u y ≡ false) e
     (before_not x y (l (ap (λ (u : Ranked). is_ready es made u.does) e ∙ r)))
 least_later es made x y xs l h z (inr i) r = h z i r
 
 only_this : (es : List Entry) (made : List Place) (x : Ranked) (xs : List Ranked)
-    → pick es made xs ≡ None → Least es made (x ∷ xs) x
+    → picked_least es made xs ≡ None → Least es made (x ∷ xs) x
 only_this es made x xs n z (inl e) r =
-    subst (λ (u : Ranked). before u x ≡ false) e (self_not x)
+    subst (λ (u : Ranked). is_ranked_before u x ≡ false) e (self_not x)
 only_this es made x xs n z (inr i) r = absurd (false≢true (sym (stuck es made xs n z i) ∙ r))
 
 picks_none : (es : List Entry) (made : List Place) (x : Ranked) (xs : List Ranked) (r : Bool)
-    (p : Picked) → pick es made xs ≡ None → cond r (Some (picked x xs)) None ≡ Some p
+    (p : Picked) → picked_least es made xs ≡ None → cond r (Some (picked x xs)) None ≡ Some p
     → Picks es made (x ∷ xs) p
 picks_none es made x xs true p n e =
     subst (Picks es made (x ∷ xs)) (some_picked (picked x xs) p e)
@@ -82,7 +82,7 @@ picks_none es made x xs true p n e =
 picks_none es made x xs false p n e = let bad : ⊥ = cc in absurd bad
 
 picks_some : (es : List Entry) (made : List Place) (x : Ranked) (xs : List Ranked) (r s : Bool)
-    (q p : Picked) → is_ready es made x.does ≡ r → before q.op x ≡ s → Picks es made xs q
+    (q p : Picked) → is_ready es made x.does ≡ r → is_ranked_before q.op x ≡ s → Picks es made xs q
     → cond (r && not s) (Some (picked x xs)) (Some (picked q.op (x ∷ q.rest))) ≡ Some p
     → Picks es made (x ∷ xs) p
 picks_some es made x xs true false q p i j h e =
@@ -103,21 +103,22 @@ picks_some es made x xs false s q p i j h e =
     })
 
 picks_by : (es : List Entry) (made : List Place) (x : Ranked) (xs : List Ranked)
-    (o : Option Picked) (p : Picked) → pick es made xs ≡ o
+    (o : Option Picked) (p : Picked) → picked_least es made xs ≡ o
     → ((q : Picked) → o ≡ Some q → Picks es made xs q)
     → pick_by (is_ready es made x.does) x xs o ≡ Some p → Picks es made (x ∷ xs) p
 picks_by es made x xs None p n f e = picks_none es made x xs (is_ready es made x.does) p n e
 picks_by es made x xs (Some q) p n f e =
-    picks_some es made x xs (is_ready es made x.does) (before q.op x) q p refl refl (f q refl) e
+    picks_some es made x xs (is_ready es made x.does) (is_ranked_before q.op x) q p refl refl
+    (f q refl) e
 
 picks : (es : List Entry) (made : List Place) (xs : List Ranked) (p : Picked)
-    → pick es made xs ≡ Some p → Picks es made xs p
+    → picked_least es made xs ≡ Some p → Picks es made xs p
 picks es made [] p e = let bad : ⊥ = cc in absurd bad
 picks es made (x ∷ xs) p e =
-    picks_by es made x xs (pick es made xs) p refl (λ q i. picks es made xs q i) e
+    picks_by es made x xs (picked_least es made xs) p refl (λ q i. picks es made xs q i) e
 
 pub picks_next : (es : List Entry) (made : List Place) (xs : List Ranked) (p : Picked)
-    → pick es made xs ≡ Some p → IsTurn es made xs p.op.does p.rest
+    → picked_least es made xs ≡ Some p → IsTurn es made xs p.op.does p.rest
 picks_next es made xs p e =
     let k = pick_ok es made xs p e in
     let t = picks es made xs p e in
@@ -135,8 +136,8 @@ picks_next es made xs p e =
 -- ---- all in turn
 
 turn_by : (es : List Entry) (k : ℕ) (made : List Place) (xs : List Ranked) (o : Option Picked)
-    → pick es made xs ≡ o
-    → ((p : Picked) → pick es made xs ≡ Some p
+    → picked_least es made xs ≡ o
+    → ((p : Picked) → picked_least es made xs ≡ Some p
     → InTurn es (gives_of es p.op.does ++ made) p.rest
     (ordered es k (gives_of es p.op.does ++ made) p.rest))
     → InTurn es made xs (ordered_by o (λ p. ordered es k (gives_of es p.op.does ++ made) p.rest))
@@ -149,7 +150,7 @@ unfolding ordered
 ordered_in_turn es zero made [] l = λ y i. absurd i
 ordered_in_turn es zero made (x ∷ xs) l = absurd (omega arith)
 ordered_in_turn es (suc k) made xs l =
-    turn_by es k made xs (pick es made xs) refl
+    turn_by es k made xs (picked_least es made xs) refl
     (λ p e. ordered_in_turn es k (gives_of es p.op.does ++ made) p.rest
     (let s = (pick_ok es made xs p e).length in omega arith))
 

@@ -6,7 +6,7 @@ use Rattle.exec_graph.specs.declared.graph.Node.{Node}
 use Rattle.exec_graph.specs.declared.graph.Node.TheVariants.{Source, Flatten, Pdo, Gbk, Barrier}
 use Rattle.exec_graph.specs.declared.graph.Blocked.{Blocked}
 use Rattle.plan_laws.specs.declared.operations.Key.{Key}
-use Rattle.plan_laws.specs.Operations.{times}
+use Rattle.plan_laws.specs.Operations.{times_named}
 use Rattle.plan_rules.specs.Fitting.{same_key}
 use Rattle.plan_roles.specs.Levels.{level}
 use Rattle.plan_roles.specs.Mappers.{keys_in}
@@ -25,8 +25,8 @@ keys_at b n (Some (Gbk c o l k)) = keys_in b n c
 keys_at b n (Some (Barrier ins o l a)) = []
 
 -- the keys of what the Gbk n takes, in order
-abbrev pub keys_of : Blocked → ℕ → List Key
-keys_of b n = keys_at b n (node_at b.graph.nodes n)
+abbrev pub keys_taken : Blocked → ℕ → List Key
+keys_taken b n = keys_at b n (node_at b.graph.nodes n)
 
 -- ---- chains
 
@@ -34,7 +34,7 @@ keys_of b n = keys_at b n (node_at b.graph.nodes n)
 abbrev pub related : Blocked → ℕ → ℕ → Bool
 related b n k =
     (level b.graph.nodes n == level b.graph.nodes k)
-    && list_any (has_same (keys_of b n)) (keys_of b k)
+    && list_any (has_same (keys_taken b n)) (keys_taken b k)
 
 -- each is related to the next
 abbrev pub AreLinked : Blocked → ℕ → List ℕ → ℕ → Type 0
@@ -62,11 +62,11 @@ IsGbk b n = IsGbkAt (node_at b.graph.nodes n)
 -- one of the classes has both
 abbrev pub IsShared : ℕ → ℕ → List (List ℕ) → Type 0
 IsShared n k [] = ⊥
-IsShared n k (c ∷ cs) = ((0 < times n c) × (0 < times k c)) ⊎ IsShared n k cs
+IsShared n k (c ∷ cs) = ((0 < times_named n c) × (0 < times_named k c)) ⊎ IsShared n k cs
 
 -- the members of all classes
-abbrev pub members : List (List ℕ) → List ℕ
-members cs = flat_map (λ c. c) cs
+abbrev pub class_members : List (List ℕ) → List ℕ
+class_members cs = flat_map (λ c. c) cs
 
 -- each number is less than those after it
 abbrev pub Rises : List ℕ → Type 0
@@ -76,7 +76,7 @@ Rises (n ∷ ns) = AllByRecursion (λ k. n < k) ns × Rises ns
 -- each Gbk stands in one class, and two share one exactly where they are linked
 pub record AreClasses (b : Blocked) (cs : List (List ℕ)) : Type 0 where
   pub gbks : AllByRecursion (AllByRecursion (IsGbk b)) cs
-  pub once : (n : ℕ) → IsGbk b n → times n (members cs) ≡ 1
+  pub once : (n : ℕ) → IsGbk b n → times_named n (class_members cs) ≡ 1
   pub linked : (n k : ℕ) → IsGbk b n → IsGbk b k → IsShared n k cs ↔ IsLinked b n k
   -- none is empty, and each has the least number first
   pub some : AllByRecursion (λ c. 0 < length c) cs

@@ -18,10 +18,10 @@ use Rattle.plan_laws.specs.declared.operations.Grouped.{Grouped}
 use Rattle.plan_laws.specs.declared.operations.Operation.{Operation}
 use Rattle.plan_laws.specs.declared.operations.Operation.TheVariants.{Flat, Class}
 use Rattle.plan_roles.specs.Levels.{level}
-use Rattle.plan_roles.specs.Mappers.{is_mapper, is_reducer, is_stage, outputs_of, reducer_of}
+use Rattle.plan_roles.specs.Mappers.{is_mapper, is_reducer, is_stage, places_given, reducer_of}
 use Rattle.plan_roles.specs.Roles.{passes_of}
 use Rattle.plan_rules.specs.Fitting.{same_key}
-use Rattle.form_laws.specs.Classes.{keys_of}
+use Rattle.form_laws.specs.Classes.{keys_taken}
 use Rattle.form_laws.specs.declared.ranked.Ranked.{Ranked}
 
 -- ---- the MSCR of a class
@@ -33,11 +33,11 @@ first_uses (k ∷ ks) = k ∷ filter (λ j. not (same_key k j)) (first_uses ks)
 
 -- the keys of Gbks and their inputs, in order of first use
 abbrev pub class_keys : Blocked → List ℕ → List Key
-class_keys b ns = first_uses (flat_map (keys_of b) ns)
+class_keys b ns = first_uses (flat_map (keys_taken b) ns)
 
 -- a Gbk with its reducer
-abbrev pub grouped : Blocked → ℕ → Grouped
-grouped b n = record { gbk = n; reducer = reducer_of b n }
+abbrev pub gbk_with_reducer : Blocked → ℕ → Grouped
+gbk_with_reducer b n = record { gbk = n; reducer = reducer_of b n }
 
 abbrev pub passes_at : Blocked → ℕ → Option Node → List Place
 passes_at b n None = []
@@ -56,21 +56,22 @@ key_passes b (Whole c) = []
 -- passes through stands in order of channel and output
 abbrev pub class_operation : Blocked → List ℕ → Operation
 class_operation b ns =
-    Class (class_keys b ns) (map (grouped b) ns) (flat_map (key_passes b) (class_keys b ns))
+    Class (class_keys b ns) (map (gbk_with_reducer b) ns)
+    (flat_map (key_passes b) (class_keys b ns))
 
 -- the number and the level of the first
-abbrev pub least_of : List ℕ → ℕ
-least_of [] = 0
-least_of (n ∷ ns) = n
+abbrev pub number_of_first : List ℕ → ℕ
+number_of_first [] = 0
+number_of_first (n ∷ ns) = n
 
 abbrev pub class_level : Blocked → List ℕ → ℕ
-class_level b ns = level b.graph.nodes (least_of ns)
+class_level b ns = level b.graph.nodes (number_of_first ns)
 
 -- an MSCR of Gbks of level L has rank 2L, and the least of their numbers
 abbrev pub class_ranked : Blocked → List ℕ → Ranked
 class_ranked b ns = record {
   rank = 2 * class_level b ns;
-  number = least_of ns;
+  number = number_of_first ns;
   does = class_operation b ns;
 }
 
@@ -78,11 +79,11 @@ class_ranked b ns = record {
 
 -- one input channel, and one pass-through channel for each output
 abbrev pub trivial : ℕ → Forest → Operation
-trivial n f = Class (Mapper n ∷ []) [] (outputs_of n f)
+trivial n f = Class (Mapper n ∷ []) [] (places_given n f)
 
 -- a trivial MSCR or a Flatten of level L has rank 2L + 1, and its own number
-abbrev pub alone : Blocked → ℕ → Operation → Ranked
-alone b n does =
+abbrev pub ranked_alone : Blocked → ℕ → Operation → Ranked
+ranked_alone b n does =
     record { rank = suc (2 * level b.graph.nodes n); number = n; does = does }
 
 -- ---- steps beside objects, and what gives an object
@@ -104,9 +105,9 @@ barrier_ranked b n a =
 
 abbrev pub alone_of : Blocked → ℕ → Node → List Ranked
 alone_of b n (Source r) = []
-alone_of b n (Flatten ins) = cond (is_stage b n) (alone b n (Flat n) ∷ []) []
+alone_of b n (Flatten ins) = cond (is_stage b n) (ranked_alone b n (Flat n) ∷ []) []
 alone_of b n (Pdo c f) =
-    cond (is_mapper b n || is_reducer b n) [] (alone b n (trivial n f) ∷ [])
+    cond (is_mapper b n || is_reducer b n) [] (ranked_alone b n (trivial n f) ∷ [])
 alone_of b n (Gbk c o l k) = []
 alone_of b n (Barrier ins o l a) = barrier_ranked b n a ∷ []
 

@@ -12,7 +12,7 @@ ghost use Rattle.exec_graph.specs.Wellformed.{HaveObjects, IsBlockedOk, IsGraphO
 ghost use Rattle.plan_laws.specs.Operations.{DoAll, IsIn};
 ghost use Rattle.plan_rules.specs.Fitting.{AreFit};
 ghost use Rattle.form_laws.specs.Formed.{AreFormed, IsFormed};
-ghost use Rattle.form_laws.specs.Order.{InTurn, IsTurn, Picked, is_ready, ordered, pick};
+ghost use Rattle.form_laws.specs.Order.{InTurn, IsTurn, Picked, is_ready, ordered, picked_least};
 ghost use Rattle.form_laws.specs.declared.ranked.Ranked.{Ranked};
 
 /// The operations that are formed of a sound graph carry it out: each stands for nodes of the graph
@@ -36,9 +36,10 @@ pub fn fit_law()
 /// next one in its turn, and in the end none is ready.
 pub fn order_law()
     ensures next { (es : List Entry) (made : List Place) (xs : List Ranked) (p : Picked) →
-        pick es made xs ≡ Some p → IsTurn es made xs p.op.does p.rest }
+        picked_least es made xs ≡ Some p → IsTurn es made xs p.op.does p.rest }
     ensures none { (es : List Entry) (made : List Place) (xs : List Ranked) →
-        pick es made xs ≡ None → (y : Ranked) → IsIn y xs → is_ready es made y.does ≡ false }
+        picked_least es made xs ≡ None → (y : Ranked) → IsIn y xs
+        → is_ready es made y.does ≡ false }
     ensures in_turn { (es : List Entry) (n : ℕ) (made : List Place) (xs : List Ranked) →
         length xs ≤ n → InTurn es made xs (ordered es n made xs) }
 {}

@@ -15,9 +15,9 @@ use Rattle.exec_graph.specs.declared.graph.Blocked.{Blocked}
 use Rattle.exec_graph.proofs.Entries.{all_found, all_map, entry}
 use Rattle.graph_laws.specs.Joining.{reread}
 use Rattle.graph_laws.proofs.ReadPlaces.{nodes_read, outputs_read}
-use Rattle.pardo_fuse.specs.Fusing.{finished, holds_out, is_first}
+use Rattle.pardo_fuse.specs.Fusing.{finished_entry, holds_out, is_first}
 use Rattle.pardo_fuse.specs.SingleFusing.{new_place, planted, step_at}
-use Rattle.pardo_fuse.specs.Parting.{part_number, parted, parted_nodes, parts, parts_of}
+use Rattle.pardo_fuse.specs.Parting.{part_number, parted, parted_nodes, parts, parts_of_node}
 use Rattle.pardo_fuse.specs.Wellformed.{IsFusible}
 use Rattle.pardo_fuse.proofs.Counting.{times}
 use Rattle.pardo_fuse.proofs.Naming.{outs_differ}
@@ -72,7 +72,7 @@ module _ (b : Blocked) (fu : IsFusible b) where
       ∙ later_drawn n (suc i) c f at d rest w.2
 
   node_drawn : (n : ℕ) (x : Node) → node_at es n ≡ Some x
-      → drawn (own b) (parts_of k n (reread r x)) ≡ entry n (whole_node b n x) ∷ []
+      → drawn (own b) (parts_of_node k n (reread r x)) ≡ entry n (whole_node b n x) ∷ []
   node_drawn n (Pdo c f) at =
       let s = step_at_node g (can b fu) n c f at in
       by f (row_of f s) (filled f s)
@@ -95,7 +95,7 @@ module _ (b : Blocked) (fu : IsFusible b) where
   all_drawn [] a = refl
   all_drawn (e ∷ ds) a =
       flat_map-append (λ (h : Entry). drawn_node (own b) h.number h.node)
-      (parts_of k e.number (reread r e.node)) (all_parts k r ds)
+      (parts_of_node k e.number (reread r e.node)) (all_parts k r ds)
       ∙ ap (λ (xs : List Entry). xs ++ drawn (own b) (all_parts k r ds))
       (node_drawn e.number e.node a.0)
       ∙ ap (λ (xs : List Entry). whole b e ∷ xs) (all_drawn ds a.1)
@@ -178,7 +178,7 @@ module _ (b : Blocked) (fu : IsFusible b) where
       ∙ ap (λ (xs : List Place). d ∷ xs) (same_map ds t.1 a.1)
 
   node_same : (n : ℕ) (x : Node) → node_at es n ≡ Some x → Each (IsThere es) (reads x)
-      → Each IsRead (reads x) → finished now (entry n (whole_node b n x)) ≡ entry n x
+      → Each IsRead (reads x) → finished_entry now (entry n (whole_node b n x)) ≡ entry n x
   node_same n (Source s) at t a = refl
   node_same n (Flatten ins) at t a = ap (λ (l : List Place). entry n (Flatten l)) (same_map ins t a)
   node_same n (Pdo c f) at t a =
@@ -198,10 +198,10 @@ module _ (b : Blocked) (fu : IsFusible b) where
   nodes_same : (ds : List Entry) → Each (λ (e : Entry). node_at es e.number ≡ Some e.node) ds
       → Each (λ (e : Entry). Each (IsThere es) (reads e.node)) ds
       → Each (λ (e : Entry). Each IsRead (reads e.node)) ds
-      → map (finished now) (map (whole b) ds) ≡ ds
+      → map (finished_entry now) (map (whole b) ds) ≡ ds
   nodes_same [] f t a = refl
   nodes_same (e ∷ ds) f t a =
-      ap (λ (x : Entry). x ∷ map (finished now) (map (whole b) ds))
+      ap (λ (x : Entry). x ∷ map (finished_entry now) (map (whole b) ds))
       (node_same e.number e.node f.0 t.0 a.0)
       ∙ ap (λ (xs : List Entry). e ∷ xs) (nodes_same ds f.1 t.1 a.1)
 
@@ -232,7 +232,7 @@ module _ (b : Blocked) (fu : IsFusible b) where
           ((same_place v c || false) || any_node (uses v) (parts k n c more)) (by more)
 
   node_uses : (v : Place) (n : ℕ) (x : Node) → node_at es n ≡ Some x
-      → uses v (whole_node b n x) ≡ any_node (uses v) (parts_of k n (reread r x))
+      → uses v (whole_node b n x) ≡ any_node (uses v) (parts_of_node k n (reread r x))
   node_uses v n (Source s) at = refl
   node_uses v n (Flatten ins) at = or_no (among v (map r ins))
     where
@@ -257,9 +257,9 @@ module _ (b : Blocked) (fu : IsFusible b) where
   any_uses v [] a = refl
   any_uses v (e ∷ ds) a =
       ap (λ (t : Bool). t || any_node (uses v) (map (whole b) ds)) (node_uses v e.number e.node a.0)
-      ∙ ap (λ (t : Bool). any_node (uses v) (parts_of k e.number (reread r e.node)) || t)
+      ∙ ap (λ (t : Bool). any_node (uses v) (parts_of_node k e.number (reread r e.node)) || t)
       (any_uses v ds a.1)
-      ∙ sym (any_append (uses v) (parts_of k e.number (reread r e.node)) (all_parts k r ds))
+      ∙ sym (any_append (uses v) (parts_of_node k e.number (reread r e.node)) (all_parts k r ds))
 
   pub whole_reads : (v : Place) → is_read (named_graph hs outs) v ≡ is_read (parted b).graph v
   whole_reads v = ap (λ (t : Bool). t || among v outs) (any_uses v es (found b fu))

@@ -20,7 +20,7 @@ use Rattle.exec_graph.proofs.Entries.{all_found}
 use Rattle.graph_laws.specs.Joining.{reread}
 use Rattle.graph_laws.specs.Single.{HasSteps, IsOneStep}
 use Rattle.pardo_fuse.specs.Fusing.{is_first}
-use Rattle.pardo_fuse.specs.Parting.{part_place, parted, parted_nodes, parts, parts_of}
+use Rattle.pardo_fuse.specs.Parting.{part_place, parted, parted_nodes, parts, parts_of_node}
 use Rattle.pardo_fuse.specs.Wellformed.{IsFusible}
 use Rattle.pardo_fuse.proofs.Parting.{all_parts, number_mod, parts_mod, small_mod}
 use Rattle.pardo_fuse.proofs.Places.{same_is, same_self}
@@ -71,7 +71,7 @@ pub record StepsFrom (b : Blocked) (done rest : List Entry) : Type 0 where
 
 pub parts_two : (k : ℕ) (r : Place → Place) (xs ys : List Entry)
     → all_parts k r (xs ++ ys) ≡ all_parts k r xs ++ all_parts k r ys
-parts_two k r xs ys = flat_map-append (λ e. parts_of k e.number (reread r e.node)) xs ys
+parts_two k r xs ys = flat_map-append (λ e. parts_of_node k e.number (reread r e.node)) xs ys
 
 -- Each output that reads is of one of the nodes.
 those_mod : (P : ℕ → Type 0) (k : ℕ) (t : Node → Bool) (n : ℕ) → P n → (hs : List Entry)
@@ -90,11 +90,11 @@ pub calls_mod : (P : ℕ → Type 0) (k : ℕ) (r : Place → Place) (c : Place)
 calls_mod P k r c [] a p = tt
 calls_mod P k r c (e ∷ ds) a p =
     subst (Each (λ m. P (m % k)))
-    (sym (those-append (calls_on c) (parts_of k e.number (reread r e.node))
+    (sym (those-append (calls_on c) (parts_of_node k e.number (reread r e.node))
     (all_parts k r ds)))
-    (Each-append (λ m. P (m % k)) (those (calls_on c) (parts_of k e.number (reread r e.node)))
+    (Each-append (λ m. P (m % k)) (those (calls_on c) (parts_of_node k e.number (reread r e.node)))
     (readers (all_parts k r ds) c)
-    (those_mod P k (calls_on c) e.number p.0 (parts_of k e.number (reread r e.node))
+    (those_mod P k (calls_on c) e.number p.0 (parts_of_node k e.number (reread r e.node))
     (parts_mod k e.number (reread r e.node) a.0))
     (calls_mod P k r c ds a.1 p.1))
 
@@ -144,7 +144,8 @@ module _ (b : Blocked) (fu : IsFusible b) where
     row_from n d t at rest,
   )
 
-  node_from : (n : ℕ) (x : Node) → node_at es n ≡ Some x → Each From (parts_of k n (reread r x))
+  node_from : (n : ℕ) (x : Node) → node_at es n ≡ Some x
+      → Each From (parts_of_node k n (reread r x))
   node_from n (Pdo d t) at = row_from n d t at t
   node_from n _ at = (λ c f e. let bad : ⊥ = cc in absurd bad, tt)
 
@@ -156,12 +157,12 @@ module _ (b : Blocked) (fu : IsFusible b) where
   -- ---- one node more
   calls_end : (done : List Entry) (e : Entry) (c : Place)
       → calls b (end done e) c
-      ≡ calls b done c ++ those (calls_on c) (parts_of k e.number (reread r e.node))
+      ≡ calls b done c ++ those (calls_on c) (parts_of_node k e.number (reread r e.node))
   calls_end done e c =
       ap (λ (l : List Entry). readers l c) (parts_two k r done (e ∷ []))
       ∙ those-append (calls_on c) (all_parts k r done) (all_parts k r (e ∷ []))
       ∙ ap (λ (l : List Entry). calls b done c ++ readers l c)
-      (append-nil (parts_of k e.number (reread r e.node)))
+      (append-nil (parts_of_node k e.number (reread r e.node)))
 
   calls_pdo : (done : List Entry) (e : Entry) (d : Place) (f : Forest) → e.node ≡ Pdo d f
       → node_at es e.number ≡ Some (Pdo d f) → (c : Place) (t : Bool) → same_place c (r d) ≡ t
@@ -169,7 +170,7 @@ module _ (b : Blocked) (fu : IsFusible b) where
   calls_pdo done e d f is at c t h =
       calls_end done e c
       ∙ ap (λ (x : Node). calls b done c
-      ++ those (calls_on c) (parts_of k e.number (reread r x))) is
+      ++ those (calls_on c) (parts_of_node k e.number (reread r x))) is
       ∙ ap (λ (l : List ℕ). calls b done c ++ l) (parts_readers c k e.number (r d) f t h)
       ∙ ap (λ (l : List ℕ). calls b done c ++ cond t l []) (sym (sites_at b fu e.number d f at))
 
@@ -186,7 +187,7 @@ module _ (b : Blocked) (fu : IsFusible b) where
 
   -- ---- a node that is no Pdo
   pub other_plan : (done rest : List Entry) (e : Entry) → es ≡ done ++ (e ∷ rest)
-      → ((c : Place) → those (calls_on c) (parts_of k e.number (reread r e.node)) ≡ [])
+      → ((c : Place) → those (calls_on c) (parts_of_node k e.number (reread r e.node)) ≡ [])
       → ((c : Place) (h : Forest) → Some e.node ≡ Some (Pdo c h) → ⊥)
       → (q : ℕ) (c : Place) (h : Forest) → node_at ps q ≡ Some (Pdo c h)
       → part_done b (end done e) q c ≡ part_done b done q c

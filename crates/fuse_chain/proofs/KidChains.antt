@@ -27,7 +27,7 @@ use Rattle.pardo_fuse.proofs.Once.{there_zero}
 use Rattle.pardo_fuse.proofs.Places.{and_left, pdo_is, place_is, same_is, same_self}
 use Rattle.pardo_fuse.proofs.Seeing.{any_at}
 use Rattle.fuse_chain.specs.Cuts.{IsNextKid, siblings_of}
-use Rattle.fuse_chain.specs.Numbers.{ReadsInner, after_kid, after_kids}
+use Rattle.fuse_chain.specs.Numbers.{ReadsInner, numbers_after_kid, after_kids}
 use Rattle.fuse_chain.specs.Rewrites.{ByKids, InOrder, IsKid, Kid, FusesTo, Fusion, is_sibling, other_of}
 use Rattle.fuse_chain.proofs.CutStates.{any_two}
 use Rattle.fuse_chain.proofs.KidSteps.{keeper_is, kid_of_cut}
@@ -230,11 +230,11 @@ module _ (b : Blocked) (chain : CanChain b) where
           },
           i.inner,
         );
-        numbered = λ l x. i.numbered (after_kid l step.0 e.number)
-            (subst (λ (k : Cut). IsNumbering k (after_kid l step.0 e.number))
+        numbered = λ l x. i.numbered (numbers_after_kid l step.0 e.number)
+            (subst (λ (k : Cut). IsNumbering k (numbers_after_kid l step.0 e.number))
             (sym (grows b done e d f is zero u))
             (subst (λ (s : ℕ). IsNumbering (more_inner (later b done) d.node)
-            (after_kid l s e.number))
+            (numbers_after_kid l s e.number))
             (sym (keeper_is (later b done) d.node e.number (can_later b done can)
             (more_of done rest e d f split is u none)))
             (next_numbering (later b done) d.node e.number (can_later b done can)

@@ -12,10 +12,10 @@ use Rattle.exec_graph.specs.declared.graph.Entry.{Entry}
 use Rattle.exec_graph.specs.declared.graph.Graph.{Graph}
 use Rattle.exec_graph.proofs.Entries.{all_map}
 use Rattle.graph_laws.specs.Joining.{as_kid, grafted, joined_into, moved, reread_entry, set_node, without}
-use Rattle.graph_laws.specs.Kids.{apart, even, kept_by, moved_out, named_by, number_in, odd, out_kept, refitted, renewed, same_number, with_kid}
+use Rattle.graph_laws.specs.Kids.{apart, even, kept_by, moved_out, named_by, number_after, odd, out_kept, refitted, renewed, same_number, with_kid}
 use Rattle.graph_laws.proofs.Changes.{all_set, all_without, differ_without}
 use Rattle.graph_laws.proofs.Wellness.{differ_map, reads_reread}
-use Rattle.pardo_fuse.specs.Renumbering.{at_number, in_order, renumbered_entry, renumbered_graph}
+use Rattle.pardo_fuse.specs.Renumbering.{at_number, entries_in_order, renumbered_entry, renumbered_graph}
 use Rattle.fuse_chain.proofs.Renumbers.{IsWithin, among_numbered, any_numbered, nodes_numbered, order_any, order_reread, order_set, order_without, places_numbered, same_eqb, set_differ, set_numbered, without_numbered}
 
 module _ (N : ℕ → Type 0) (l : ℕ → ℕ)
@@ -114,14 +114,15 @@ module _ (N : ℕ → Type 0) (l : ℕ → ℕ)
       let moves : (d : Place) → N d.node → x (moved_out n r d) ≡ moved_out (l n) r (x d) =
       λ d i. out_moved n r d a i in
       let set : List Entry = set_node es n z in
-      let nodes : in_order (map (renumbered_entry l) (map (reread_entry (moved_out n r)) set))
+      let nodes : entries_in_order (map (renumbered_entry l)
+      (map (reread_entry (moved_out n r)) set))
       ≡ map (reread_entry (moved_out (l n) r))
-      (set_node (in_order (map (renumbered_entry l) es)) (l n) (Pdo (x c) f)) =
-      ap in_order (nodes_numbered N l far (moved_out n r) (moved_out (l n) r) set moves
+      (set_node (entries_in_order (map (renumbered_entry l) es)) (l n) (Pdo (x c) f)) =
+      ap entries_in_order (nodes_numbered N l far (moved_out n r) (moved_out (l n) r) set moves
       (all_set (IsWithin N l far) es n z w.nodes (a, (b, tt))))
       ∙ order_reread (moved_out (l n) r) (map (renumbered_entry l) set)
       ∙ ap (λ (k : List Entry). map (reread_entry (moved_out (l n) r)) k)
-      (ap in_order (set_numbered N l far es n z w.nodes a)
+      (ap entries_in_order (set_numbered N l far es n z w.nodes a)
       ∙ order_set (map (renumbered_entry l) es) (l n) (Pdo (x c) f)
       (differ_numbered es w.nodes w.differ)) in
       ap₂ (λ (k : List Entry) (cs : List Place). graph_of k cs g.next) nodes
@@ -153,18 +154,19 @@ module _ (N : ℕ → Type 0) (l : ℕ → ℕ)
       λ d i. both_moved p q d e i in
       let rest : Each (IsWithin N l far) left = all_without (IsWithin N l far) es q w.nodes in
       let set : List Entry = set_node left p z in
-      let nodes : in_order (map (renumbered_entry l) (map (reread_entry (moved p q)) set))
+      let nodes : entries_in_order (map (renumbered_entry l) (map (reread_entry (moved p q)) set))
       ≡ map (reread_entry (moved (l p) (l q)))
-      (set_node (without (in_order (map (renumbered_entry l) es)) (l q)) (l p) (Pdo (x c) f)) =
-      ap in_order (nodes_numbered N l far (moved p q) (moved (l p) (l q)) set moves
+      (set_node (without (entries_in_order (map (renumbered_entry l) es)) (l q)) (l p)
+      (Pdo (x c) f)) =
+      ap entries_in_order (nodes_numbered N l far (moved p q) (moved (l p) (l q)) set moves
       (all_set (IsWithin N l far) left p z rest (a, (b, tt))))
       ∙ order_reread (moved (l p) (l q)) (map (renumbered_entry l) set)
       ∙ ap (λ (k : List Entry). map (reread_entry (moved (l p) (l q))) k)
-      (ap in_order (set_numbered N l far left p z rest a)
+      (ap entries_in_order (set_numbered N l far left p z rest a)
       ∙ order_set (map (renumbered_entry l) left) (l p) (Pdo (x c) f)
       (differ_numbered left rest (differ_without es q w.differ))
       ∙ ap (λ (k : List Entry). set_node k (l p) (Pdo (x c) f))
-      (ap in_order (without_numbered N l far es q w.nodes e)
+      (ap entries_in_order (without_numbered N l far es q w.nodes e)
       ∙ order_without (map (renumbered_entry l) es) (l q)
       (differ_numbered es w.nodes w.differ))) in
       ap₂ (λ (k : List Entry) (cs : List Place). graph_of k cs g.next) nodes
@@ -187,13 +189,13 @@ module _ (N : ℕ → Type 0) (l : ℕ → ℕ)
       let same : (λ j. is_read (R g) (place (l n) j)) ≡ kept =
       λ i. λ j. read_numbered g (place n j) w a i in
       let k : Forest = kept_by kept f in
-      refit_numbered (refitted g n c k same_number) n c (numbered 0 k) (λ j. number_in 0 k j)
+      refit_numbered (refitted g n c k same_number) n c (numbered 0 k) (λ j. number_after 0 k j)
       (refit_holds g n c k same_number w a b) a b
-      ∙ ap (λ (h : Graph). refitted h (l n) (x c) (numbered 0 k) (λ j. number_in 0 k j))
+      ∙ ap (λ (h : Graph). refitted h (l n) (x c) (numbered 0 k) (λ j. number_after 0 k j))
       (refit_numbered g n c k same_number w a b)
       ∙ sym (ap (λ (t : ℕ → Bool). let m : Forest = kept_by t f in
       refitted (refitted (R g) (l n) (x c) m same_number) (l n) (x c) (numbered 0 m)
-      (λ j. number_in 0 m j)) same)
+      (λ j. number_after 0 m j)) same)
 
   -- ---- the kid
   pub kid_numbered : (g : Graph) (p k q : ℕ) (c : Place) (f h : Forest) → Holds g → N p → N q

@@ -12,11 +12,11 @@ use Rattle.exec_graph.specs.Readers.{among, any_node, calls_on, collects, is_rea
 use Rattle.exec_graph.proofs.Bools.{or_else, or_right, not_true}
 use Rattle.exec_graph.proofs.Solving.{each_found}
 use Rattle.graph_laws.specs.Joining.{beside, grafted}
-use Rattle.graph_laws.specs.Kids.{kept_by, number_in, out_kept}
+use Rattle.graph_laws.specs.Kids.{kept_by, number_after, out_kept}
 use Rattle.graph_laws.proofs.Joining.{lacks_grafted}
 use Rattle.pardo_fuse.specs.Readers.{Cut, is_outer, is_pdo}
 use Rattle.pardo_fuse.specs.Fusing.{holds_out, is_first, leads}
-use Rattle.pardo_fuse.specs.SingleFusing.{CanFuse, forest_of, fused_by, joined_nodes, keeps_output}
+use Rattle.pardo_fuse.specs.SingleFusing.{CanFuse, forest_reading, fused_by, joined_nodes, keeps_output}
 use Rattle.pardo_fuse.proofs.Chaining.{more_inner, next_trees}
 use Rattle.pardo_fuse.proofs.Counting.{times}
 use Rattle.pardo_fuse.proofs.Finding.{IsNew, any_joined, search_place}
@@ -106,7 +106,7 @@ pub record IsHolder (b : Cut) (n : ℕ) : Type 0 where
   pub old : Forest
   pub at : node_at b.graph.nodes number ≡ Some (Pdo from old)
   pub leads : leads b number from ≡ true
-  pub has : has_out n (forest_of b from) ≡ true
+  pub has : has_out n (forest_reading b from) ≡ true
 
 holder : (b : Cut) (n : ℕ) → CanFuse b → any_node (holds_out n) (joined_nodes b) ≡ true
     → IsHolder b n
@@ -122,9 +122,9 @@ holder b n can h =
     by p (Pdo c f) at h =
         let k = led b can p (now b c) (numbered 0 f) (at_finished (now b) (joined_nodes b) p
         ∙ ap (done_node (now b)) at) in
-        let same : Some (Pdo c f) ≡ Some (Pdo k.from (forest_of b k.from)) =
+        let same : Some (Pdo c f) ≡ Some (Pdo k.from (forest_reading b k.from)) =
         sym at ∙ k.joined in
-        let forest : f ≡ forest_of b k.from = cc in
+        let forest : f ≡ forest_reading b k.from = cc in
         record {
           number = p;
           from = k.from;
@@ -218,15 +218,15 @@ module _ (b : Cut) (n q : ℕ) (can : CanFuse b) (more : IsNextKid b n q) where
   state : IsState (joined_nodes b) b.graph.outputs
   state = cut_state b can g
 
-  at_p : node_at (joined_nodes b) p ≡ Some (Pdo c (forest_of b c))
+  at_p : node_at (joined_nodes b) p ≡ Some (Pdo c (forest_reading b c))
   at_p = leader_found b p c hold.old hold.at hold.leads
 
-  at_q : node_at (joined_nodes b) q ≡ Some (Pdo d (forest_of b d))
+  at_q : node_at (joined_nodes b) q ≡ Some (Pdo d (forest_reading b d))
   at_q = leader_found b q d reader.0 reader.1 lead_q
 
   pub differ : p ≡ q → ⊥
-  differ = kid_differ (joined_nodes b) b.graph.outputs b.graph.next p q n c (forest_of b c)
-      (forest_of b d) state (cut_sound b can) at_p at_q hold.has
+  differ = kid_differ (joined_nodes b) b.graph.outputs b.graph.next p q n c (forest_reading b c)
+      (forest_reading b d) state (cut_sound b can) at_p at_q hold.has
 
   owner_p : owner_in b n ≡ p
   owner_p = owner_led b can g p c hold.old hold.at hold.leads n hold.has
@@ -261,7 +261,7 @@ module _ (b : Cut) (n q : ℕ) (can : CanFuse b) (more : IsNextKid b n q) where
       (none_of q d reader.0 reader.1 lead_q (λ i. differ (sym i))) few
 
   forest_other : (m : ℕ) (e : Place) (f : Forest) → node_at es m ≡ Some (Pdo e f)
-      → leads b m e ≡ true → (m ≡ p → ⊥) → forest_of next e ≡ forest_of b e
+      → leads b m e ≡ true → (m ≡ p → ⊥) → forest_reading next e ≡ forest_reading b e
   forest_other m e f at l none =
       let z : times n (numbers (all_of b e)) ≡ 0 = none_of m e f at l none in
       let lacks : has_out n (all_of b e) ≡ false = not_true (has_out n (all_of b e))
@@ -271,8 +271,8 @@ module _ (b : Cut) (n q : ℕ) (can : CanFuse b) (more : IsNextKid b n q) where
       ∙ kept_alike held keep (all_of b e) (λ i h. held_other i
       (λ j. false≢true (sym lacks ∙ ap (λ (k : ℕ). has_out k (all_of b e)) (sym j) ∙ h)))
 
-  forest_p : forest_of next c
-      ≡ kept_by held (grafted n (forest_of b d) (forest_of b c))
+  forest_p : forest_reading next c
+      ≡ kept_by held (grafted n (forest_reading b d) (forest_reading b c))
   forest_p =
       ap (kept_by held) (trees_next c (head_few b p c hold.old can g hold.at hold.leads n))
       ∙ sym (kept_twice keep held (grafted n (all_of b d) (all_of b c)) held_keeps)
@@ -291,12 +291,12 @@ module _ (b : Cut) (n q : ℕ) (can : CanFuse b) (more : IsNextKid b n q) where
   plan_other : (m : ℕ) (e : Place) (f : Forest) → node_at es m ≡ Some (Pdo e f)
       → (m ≡ p → ⊥) → (m ≡ q → ⊥) → plan_of next m e ≡ plan_of b m e
   plan_other m e f at no_p no_q =
-      ap (λ r. cond r (Some (forest_of next e)) None) (leads_next m e)
+      ap (λ r. cond r (Some (forest_reading next e)) None) (leads_next m e)
       ∙ by (same_place e d) (leads b m e) refl refl
     where
       by : (s l : Bool) → same_place e d ≡ s → leads b m e ≡ l
-          → cond (cond s false l) (Some (forest_of next e)) None
-          ≡ cond l (Some (forest_of b e)) None
+          → cond (cond s false l) (Some (forest_reading next e)) None
+          ≡ cond l (Some (forest_reading b e)) None
       by true true i j = absurd (no_q (first_only m q (readers es d)
           (ap (λ (y : Place). is_first m (readers es y)) (sym (same_is e d i))
           ∙ leads_first b m e j) more.first))
@@ -310,10 +310,10 @@ module _ (b : Cut) (n q : ℕ) (can : CanFuse b) (more : IsNextKid b n q) where
       ∙ leads_first b p c hold.leads) more.first))
 
   new : Forest
-  new = kept_by held (grafted n (forest_of b d) (forest_of b c))
+  new = kept_by held (grafted n (forest_reading b d) (forest_reading b c))
 
   is_next : IsNext es (plan_of b) (plan_of next) p q c d
-      (kept_by held (grafted n (forest_of b d) (forest_of b c)))
+      (kept_by held (grafted n (forest_reading b d) (forest_reading b c)))
   is_next = record {
     near = hold.old;
     far = reader.0;
@@ -321,21 +321,21 @@ module _ (b : Cut) (n q : ℕ) (can : CanFuse b) (more : IsNextKid b n q) where
     other = reader.1;
     differ = differ;
     was = (
-      forest_of b c,
-      ap (λ r. cond r (Some (forest_of b c)) None) hold.leads,
+      forest_reading b c,
+      ap (λ r. cond r (Some (forest_reading b c)) None) hold.leads,
     );
-    now = ap (λ r. cond r (Some (forest_of next c)) None) (leads_next p c
+    now = ap (λ r. cond r (Some (forest_reading next c)) None) (leads_next p c
         ∙ ap (λ r. cond r false (leads b p c)) apart_p ∙ hold.leads)
         ∙ ap (λ (t : Forest). Some t) forest_p;
-    gone = ap (λ r. cond r (Some (forest_of next d)) None) (leads_next q d
+    gone = ap (λ r. cond r (Some (forest_reading next d)) None) (leads_next q d
         ∙ ap (λ r. cond r false (leads b q d)) (same_self d));
     others = plan_other;
   }
 
   next_nodes : fused_in (joined_nodes b) p q c
-      (kept_by held (grafted n (forest_of b d) (forest_of b c))) ≡ joined_nodes next
+      (kept_by held (grafted n (forest_reading b d) (forest_reading b c))) ≡ joined_nodes next
   next_nodes =
-      let new : Forest = kept_by held (grafted n (forest_of b d) (forest_of b c)) in
+      let new : Forest = kept_by held (grafted n (forest_reading b d) (forest_reading b c)) in
       ap (λ l. fused_in l p q c new) (joined_drawn b)
       ∙ drawn_next es (plan_of b) (plan_of next) p q c d new is_next can.ok.differ
       (subst AllDiffer (joined_drawn b) state.differ)
@@ -345,11 +345,12 @@ module _ (b : Cut) (n q : ℕ) (can : CanFuse b) (more : IsNextKid b n q) where
       q (graph_of (joined_nodes (more_inner b n)) b.graph.outputs b.graph.next)
   kid_of_cut = (
     p,
-    number_in 0 (forest_of b c) n,
+    number_after 0 (forest_reading b c) n,
     subst (λ l. IsKid (graph_of (joined_nodes b) b.graph.outputs b.graph.next) p
-        (number_in 0 (forest_of b c) n) q (graph_of l b.graph.outputs b.graph.next)) next_nodes
-        (kid_step (joined_nodes b) b.graph.outputs b.graph.next p q n c (forest_of b c)
-        (forest_of b d) held state (cut_sound b can) at_p at_q hold.has
+        (number_after 0 (forest_reading b c) n) q (graph_of l b.graph.outputs b.graph.next))
+        next_nodes
+        (kid_step (joined_nodes b) b.graph.outputs b.graph.next p q n c (forest_reading b c)
+        (forest_reading b d) held state (cut_sound b can) at_p at_q hold.has
         (λ i x. sym (ap (λ l. is_read (named_graph l b.graph.outputs) (place i 0)) next_nodes
         ∙ read_kept next (place i 0) can_next))),
   )

@@ -17,7 +17,7 @@ use Rattle.exec_graph.proofs.Solving.{each_found}
 use Rattle.exec_graph.proofs.Soundness.{differ_ascends}
 use Rattle.graph_laws.proofs.Numbering.{label_old}
 use Rattle.pardo_fuse.specs.Readers.{Cut, cut_of, is_pdo, is_unmarked}
-use Rattle.pardo_fuse.specs.Fusing.{finished, forest_over, fused_by_parents, is_first, joined_by, kept_nodes, kept_of, leads, least, least_at, least_of, members_over, moved_to}
+use Rattle.pardo_fuse.specs.Fusing.{finished_entry, forest_over, fused_by_parents, is_first, joined_by, kept_nodes, kept_of, leads, least_number, least_at, least_of, members_over, moved_to}
 use Rattle.pardo_fuse.specs.Parting.{part_place, parted}
 use Rattle.pardo_fuse.specs.SingleFusing.{Grown, fused_by, kids_of}
 use Rattle.pardo_fuse.specs.Wellformed.{IsFusible}
@@ -118,7 +118,7 @@ module _ (b : Blocked) (chain : CanChain b) where
     least = λ m e f at lead.
         let g : AllGrown begun = all_grown begun (can_later b [] chain.can) in
         let first : is_first m (readers es e) ≡ true = leads_first begun m e lead in
-        sym (ap (least m) (flat (readers es e) (all_of begun e) (g e))
+        sym (ap (least_number m) (flat (readers es e) (all_of begun e) (g e))
         ∙ least_same m (readers es e)
         (first_low m e es chain.low (chain.first m e first) first));
     others = λ m h. refl;
@@ -157,7 +157,7 @@ unfolding joined_by
 stood_by_parents a fu =
     let b : Cut = cut_of a in
     let P : Entry → Type 0 = λ h. Stood b h.number in
-    all_map (finished (moved_to (kept_nodes b))) P P (λ h p. p) (kept_nodes b)
+    all_map (finished_entry (moved_to (kept_nodes b))) P P (λ h p. p) (kept_nodes b)
     (all_kept b (Stood b) (stood_left b) b.graph.nodes
     (each_found b.graph.nodes (differ_ascends b.graph.nodes fu.ok.ok.founded.ascends)))
 
@@ -182,7 +182,7 @@ module _ (a : Blocked) (fu : IsFusible a) (l : ℕ → ℕ)
       num.least n (part_place g c) w.0 w.1 (leads_part a (can_mark a fu) n c t ∙ leads_here)
       ∙ sym (class_counts a fu c t n)
       ∙ sym (ap (least_at (cut_of a) n) at
-      ∙ ap (λ (s : Bool). cond s (least n (members_over (cut_of a) c)) n) leads_here)
+      ∙ ap (λ (s : Bool). cond s (least_number n (members_over (cut_of a) c)) n) leads_here)
   at_last n x at lead =
       num.others n (ap is_pdo (other_found g can n x at refl))
       ∙ sym (ap (least_at (cut_of a) n) at)

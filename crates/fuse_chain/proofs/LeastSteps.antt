@@ -11,7 +11,7 @@ pub use Rattle.graph_laws.proofs.Exchanging.{other_twice as two_twice}
 use Rattle.graph_laws.proofs.Exchanging.{other_far, other_left}
 use Rattle.graph_laws.proofs.Joining.{lacks_grafted}
 use Rattle.pardo_fuse.specs.Readers.{Cut, is_pdo}
-use Rattle.pardo_fuse.specs.Fusing.{is_first, leads, least, lesser}
+use Rattle.pardo_fuse.specs.Fusing.{is_first, leads, least_number, lesser_number}
 use Rattle.pardo_fuse.specs.SingleFusing.{CanFuse, Grown, keeps_output}
 use Rattle.pardo_fuse.proofs.Chaining.{more_inner}
 use Rattle.pardo_fuse.proofs.Counting.{times}
@@ -22,14 +22,14 @@ use Rattle.pardo_fuse.proofs.Partition.{numbers}
 use Rattle.pardo_fuse.proofs.Places.{same_self}
 use Rattle.pardo_fuse.proofs.Seeing.{head_few}
 use Rattle.fuse_chain.specs.Cuts.{IsNextKid}
-use Rattle.fuse_chain.specs.Numbers.{after_kid, other_of_two}
+use Rattle.fuse_chain.specs.Numbers.{numbers_after_kid, other_of_two}
 use Rattle.fuse_chain.proofs.KidSteps.{IsHolder, differ, hold, lead_q, leads_next, none_of, reader, trees_next}
 use Rattle.fuse_chain.proofs.Minima.{grown_first, least_grafted, least_joined, lesser_same}
 
 -- each Pdo that leads has the least number of its class, and what is no Pdo its own
 pub record IsNumbering (b : Cut) (l : ℕ → ℕ) : Type 0 where
   pub least : (m : ℕ) (e : Place) (f : Forest) → node_at b.graph.nodes m ≡ Some (Pdo e f)
-      → leads b m e ≡ true → l m ≡ least m (numbers (all_of b e))
+      → leads b m e ≡ true → l m ≡ least_number m (numbers (all_of b e))
   pub others : (m : ℕ) → is_pdo (node_at b.graph.nodes m) ≡ false → l m ≡ m
   pub apart : (m i : ℕ) → l m ≡ l i → m ≡ i
 
@@ -71,17 +71,18 @@ module _ (b : Cut) (n q : ℕ) (can : CanFuse b) (more : IsNextKid b n q) where
           (sym (eqb-true q m i)) (grown_first b m ns (all_of b d) w)
 
   -- the class of both
-  class_joined : least p (numbers (all_of next c))
-      ≡ lesser (least p (numbers (all_of b c))) (least q (numbers (all_of b d)))
+  class_joined : least_number p (numbers (all_of next c))
+      ≡ lesser_number (least_number p (numbers (all_of b c)))
+      (least_number q (numbers (all_of b d)))
   class_joined =
       let xs : List ℕ = first_q.0 in
-      let A : ℕ = least p (numbers (all_of b c)) in
-      ap (λ (f : Forest). least p (numbers f)) (trees_next b n q can more c few)
+      let A : ℕ = least_number p (numbers (all_of b c)) in
+      ap (λ (f : Forest). least_number p (numbers f)) (trees_next b n q can more c few)
       ∙ least_grafted n (all_of b d) (all_of b c) p here few
-      ∙ ap (least A) first_q.1
+      ∙ ap (least_number A) first_q.1
       ∙ least_joined A q xs
-      ∙ ap (lesser A) (sym (ap (least q) first_q.1
-      ∙ ap (λ (m : ℕ). least m xs) (lesser_same q)))
+      ∙ ap (lesser_number A) (sym (ap (least_number q) first_q.1
+      ∙ ap (λ (m : ℕ). least_number m xs) (lesser_same q)))
 
   -- another class
   class_other : (m : ℕ) (e : Place) (f : Forest) → node_at b.graph.nodes m ≡ Some (Pdo e f)
@@ -95,12 +96,12 @@ module _ (b : Cut) (n q : ℕ) (can : CanFuse b) (more : IsNextKid b n q) where
 
   module _ (l : ℕ → ℕ) (num : IsNumbering b l) where
     abbrev new : ℕ → ℕ
-    new = after_kid l p q
+    new = numbers_after_kid l p q
 
     l_differ : l p ≡ l q → ⊥
     l_differ e = differ b n q can more (num.apart p q e)
 
-    new_p : new p ≡ lesser (l p) (l q)
+    new_p : new p ≡ lesser_number (l p) (l q)
     new_p = ap (λ (x : ℕ). cond (ltb (l q) (l p)) x (l p)) (other_left (l p) (l q))
 
     new_other : (m : ℕ) → (m ≡ p → ⊥) → (m ≡ q → ⊥) → new m ≡ l m
@@ -114,28 +115,28 @@ module _ (b : Cut) (n q : ℕ) (can : CanFuse b) (more : IsNextKid b n q) where
         both false = refl
 
     new_least : (m : ℕ) (e : Place) (f : Forest) → node_at b.graph.nodes m ≡ Some (Pdo e f)
-        → leads next m e ≡ true → new m ≡ least m (numbers (all_of next e))
+        → leads next m e ≡ true → new m ≡ least_number m (numbers (all_of next e))
     new_least m e f at lead = by (same_place e d) refl (sym (leads_next b n q can more m e) ∙ lead)
       where
         by : (s : Bool) → same_place e d ≡ s → cond s false (leads b m e) ≡ true
-            → new m ≡ least m (numbers (all_of next e))
+            → new m ≡ least_number m (numbers (all_of next e))
         by true i j = absurd (false≢true j)
         by false i j = at_m (eqb m p) refl
           where
-            at_m : (t : Bool) → eqb m p ≡ t → new m ≡ least m (numbers (all_of next e))
+            at_m : (t : Bool) → eqb m p ≡ t → new m ≡ least_number m (numbers (all_of next e))
             at_m true k =
                 let is : m ≡ p = eqb-true m p k in
                 let both : Some (Pdo e f) ≡ Some (Pdo c held.old) =
                 sym at ∙ ap (node_at b.graph.nodes) is ∙ held.at in
                 let same : e ≡ c = cc in
                 ap new is ∙ new_p
-                ∙ ap (λ (x : ℕ). lesser x (l q)) (num.least p c held.old held.at held.leads)
-                ∙ ap (lesser (least p (numbers (all_of b c))))
+                ∙ ap (λ (x : ℕ). lesser_number x (l q)) (num.least p c held.old held.at held.leads)
+                ∙ ap (lesser_number (least_number p (numbers (all_of b c))))
                 (num.least q d (reader b n q can more).0 (reader b n q can more).1
                 (lead_q b n q can more))
                 ∙ sym class_joined
-                ∙ ap (λ (x : ℕ). least x (numbers (all_of next c))) (sym is)
-                ∙ ap (λ (x : Place). least m (numbers (all_of next x))) (sym same)
+                ∙ ap (λ (x : ℕ). least_number x (numbers (all_of next c))) (sym is)
+                ∙ ap (λ (x : Place). least_number m (numbers (all_of next x))) (sym same)
             at_m false k =
                 let no_p : m ≡ p → ⊥ = λ x. false≢true (sym k ∙ eq-eqb m p x) in
                 let no_q : m ≡ q → ⊥ = λ x.
@@ -144,7 +145,8 @@ module _ (b : Cut) (n q : ℕ) (can : CanFuse b) (more : IsNextKid b n q) where
                 let same : e ≡ d = cc in
                 false≢true (sym i ∙ ap (λ (y : Place). same_place y d) same ∙ same_self d) in
                 new_other m no_p no_q ∙ num.least m e f at j
-                ∙ ap (λ (x : Forest). least m (numbers x)) (sym (class_other m e f at j no_p))
+                ∙ ap (λ (x : Forest). least_number m (numbers x))
+                (sym (class_other m e f at j no_p))
 
     no_pdo_apart : (m i : ℕ) (e : Place) (f : Forest) → is_pdo (node_at b.graph.nodes m) ≡ false
         → node_at b.graph.nodes i ≡ Some (Pdo e f) → m ≡ i → ⊥

@@ -14,7 +14,7 @@ use Rattle.exec_graph.specs.declared.graph.Blocked.{Blocked}
 use Rattle.graph_laws.specs.Joining.{reread}
 use Rattle.graph_laws.specs.Single.{HasSteps, IsOneStep}
 use Rattle.pardo_fuse.specs.Fusing.{is_first}
-use Rattle.pardo_fuse.specs.Parting.{part_number, part_place, parted, parts, parts_of, sole}
+use Rattle.pardo_fuse.specs.Parting.{part_number, part_place, parted, parts, parts_of_node, sole_output}
 use Rattle.pardo_fuse.specs.Readers.{cut_of}
 use Rattle.pardo_fuse.specs.SingleFusing.{CanFuse}
 use Rattle.pardo_fuse.specs.Wellformed.{IsFusible}
@@ -47,7 +47,7 @@ row_high : (k n i : ℕ) (c : Place) (f : Forest) → n < k → IsRow (suc i) f 
 row_high k n i c f h r P = parts_each (λ (d : Entry). d.number < k → P d) k n c f
     (label_weaker (λ l. suc i ≤ l.at)
     (λ l. part_number k n l.at < k
-    → P (record { number = part_number k n l.at; node = Pdo c (sole l) }))
+    → P (record { number = part_number k n l.at; node = Pdo c (sole_output l) }))
     (λ l a low. absurd (later_high k n l.at h (omega arith) low)) f (row_above (suc i) f r))
 
 row_low : (k n i : ℕ) (c : Place) (f : Forest) (tail : List Entry) → n < k → IsRow (suc i) f
@@ -60,7 +60,7 @@ row_low k n i c (Grow l kids rest) tail h r a = (
 
 node_low : (k n : ℕ) (x : Node) (r : Place → Place) (tail : List Entry) → n < k
     → HasSteps IsOneStep x → Each (λ (d : Entry). d.number < k → n < d.number) tail
-    → AscendsLow k tail → AscendsLow k (parts_of k n (reread r x) ++ tail)
+    → AscendsLow k tail → AscendsLow k (parts_of_node k n (reread r x) ++ tail)
 node_low k n (Pdo c f) r tail h o t a = by f (row_of f o)
   where
     by : (f : Forest) → IsRow 0 f → AscendsLow k (parts k n (r c) f ++ tail)
@@ -81,12 +81,13 @@ above_parts : (k n : ℕ) (r : Place → Place) (es : List Entry)
     → Each (λ (d : Entry). d.number < k → n < d.number) (all_parts k r es)
 above_parts k n r [] b a = tt
 above_parts k n r (e ∷ es) b a =
-    Each-append (λ (d : Entry). d.number < k → n < d.number) (parts_of k e.number (reread r e.node))
+    Each-append (λ (d : Entry). d.number < k → n < d.number)
+    (parts_of_node k e.number (reread r e.node))
     (all_parts k r es)
     (Each-weaker (λ (d : Entry). d.number % k ≡ e.number) (λ (d : Entry). d.number < k
     → n < d.number)
     (λ d m low. let s = small_mod k d.number low in let l = a.0 in omega arith)
-    (parts_of k e.number (reread r e.node)) (parts_mod k e.number (reread r e.node) b.0))
+    (parts_of_node k e.number (reread r e.node)) (parts_mod k e.number (reread r e.node) b.0))
     (above_parts k n r es b.1 a.1)
 
 all_low : (k : ℕ) (r : Place → Place) (es : List Entry) → Each (λ (e : Entry). e.number < k) es

@@ -14,7 +14,7 @@ use Rattle.exec_graph.proofs.Bools.{not_true}
 use Rattle.exec_graph.proofs.Entries.{entry}
 use Rattle.graph_laws.specs.Joining.{reread, reread_entry, set_node, without}
 use Rattle.graph_laws.proofs.Changes.{all_set}
-use Rattle.pardo_fuse.specs.Renumbering.{at_number, in_order, put_entry, renumbered_entry}
+use Rattle.pardo_fuse.specs.Renumbering.{at_number, entries_in_order, put_entry, renumbered_entry}
 use Rattle.pardo_fuse.proofs.Sorting.{order_all, order_ascends}
 
 -- ---- nodes in order
@@ -36,10 +36,10 @@ put_reread r e (d ∷ ds) = by (ltb e.number d.number) (put_reread r e ds)
     by false i = ap (λ (l : List Entry). reread_entry r d ∷ l) i
 
 pub order_reread : (r : Place → Place) (es : List Entry)
-    → in_order (map (reread_entry r) es) ≡ map (reread_entry r) (in_order es)
+    → entries_in_order (map (reread_entry r) es) ≡ map (reread_entry r) (entries_in_order es)
 order_reread r [] = refl
 order_reread r (e ∷ es) =
-    ap (put_entry (reread_entry r e)) (order_reread r es) ∙ put_reread r e (in_order es)
+    ap (put_entry (reread_entry r e)) (order_reread r es) ∙ put_reread r e (entries_in_order es)
 
 abbrev Lacks : ℕ → List Entry → Type 0
 Lacks n ds = Each (λ d. d.number ≡ n → ⊥) ds
@@ -102,23 +102,25 @@ put_here n y z (d ∷ ds) a = by (ltb n d.number) (put_here n y z ds a.1)
         ∙ ap (λ (l : List Entry). d ∷ l) h
 
 pub order_set : (es : List Entry) (n : ℕ) (z : Node) → AllDiffer es
-    → in_order (set_node es n z) ≡ set_node (in_order es) n z
+    → entries_in_order (set_node es n z) ≡ set_node (entries_in_order es) n z
 order_set [] n z u = refl
 order_set (e ∷ es) n z u = by (eqb e.number n) refl (order_set es n z u.1)
   where
-    lacks : Lacks e.number (in_order es)
+    lacks : Lacks e.number (entries_in_order es)
     lacks = order_all (λ d. d.number ≡ e.number → ⊥) es u.0
 
-    by : (b : Bool) → eqb e.number n ≡ b → in_order (set_node es n z) ≡ set_node (in_order es) n z
-        → in_order (cond b (entry n z ∷ es) (e ∷ set_node es n z))
-        ≡ set_node (put_entry e (in_order es)) n z
+    by : (b : Bool) → eqb e.number n ≡ b
+        → entries_in_order (set_node es n z) ≡ set_node (entries_in_order es) n z
+        → entries_in_order (cond b (entry n z ∷ es) (e ∷ set_node es n z))
+        ≡ set_node (put_entry e (entries_in_order es)) n z
     by true i h =
         let is : e.number ≡ n = eqb-true e.number n i in
-        sym (put_here n e.node z (in_order es) (subst (λ (k : ℕ). Lacks k (in_order es)) is lacks))
-        ∙ ap (λ (k : ℕ). set_node (put_entry (entry k e.node) (in_order es)) n z) (sym is)
+        sym (put_here n e.node z (entries_in_order es) (subst
+        (λ (k : ℕ). Lacks k (entries_in_order es)) is lacks))
+        ∙ ap (λ (k : ℕ). set_node (put_entry (entry k e.node) (entries_in_order es)) n z) (sym is)
     by false i h =
         ap (put_entry e) h
-        ∙ sym (put_set e (in_order es) n z (λ q. false≢true (sym i ∙ eq-eqb e.number n q)))
+        ∙ sym (put_set e (entries_in_order es) n z (λ q. false≢true (sym i ∙ eq-eqb e.number n q)))
 
 pub set_differ : (es : List Entry) (n : ℕ) (z : Node) → AllDiffer es → AllDiffer (set_node es n z)
 set_differ [] n z u = tt
@@ -188,18 +190,20 @@ without_here e (d ∷ ds) a = by (ltb e.number d.number) (without_here e ds a.1)
         ∙ ap (λ (l : List Entry). d ∷ l) h
 
 pub order_without : (es : List Entry) (q : ℕ) → AllDiffer es
-    → in_order (without es q) ≡ without (in_order es) q
+    → entries_in_order (without es q) ≡ without (entries_in_order es) q
 order_without [] q u = refl
 order_without (e ∷ es) q u = by (eqb e.number q) refl (order_without es q u.1)
   where
-    by : (b : Bool) → eqb e.number q ≡ b → in_order (without es q) ≡ without (in_order es) q
-        → in_order (cond b es (e ∷ without es q)) ≡ without (put_entry e (in_order es)) q
+    by : (b : Bool) → eqb e.number q ≡ b
+        → entries_in_order (without es q) ≡ without (entries_in_order es) q
+        → entries_in_order (cond b es (e ∷ without es q))
+        ≡ without (put_entry e (entries_in_order es)) q
     by true i h =
-        sym (without_here e (in_order es) (order_all (λ d. d.number ≡ e.number → ⊥) es u.0))
-        ∙ ap (without (put_entry e (in_order es))) (eqb-true e.number q i)
+        sym (without_here e (entries_in_order es) (order_all (λ d. d.number ≡ e.number → ⊥) es u.0))
+        ∙ ap (without (put_entry e (entries_in_order es))) (eqb-true e.number q i)
     by false i h =
         ap (put_entry e) h
-        ∙ sym (put_without e (in_order es) q (λ k. false≢true (sym i ∙ eq-eqb e.number q k))
+        ∙ sym (put_without e (entries_in_order es) q (λ k. false≢true (sym i ∙ eq-eqb e.number q k))
         (order_ascends es u.1))
 
 -- ---- whether some node passes
@@ -221,10 +225,11 @@ put_any t e (d ∷ ds) = by (ltb e.number d.number) (put_any t e ds)
     by false h =
         ap (λ (b : Bool). t d.node || b) h ∙ or_swap (t d.node) (t e.node) (any_node t ds)
 
-pub order_any : (t : Node → Bool) (es : List Entry) → any_node t (in_order es) ≡ any_node t es
+pub order_any : (t : Node → Bool) (es : List Entry)
+    → any_node t (entries_in_order es) ≡ any_node t es
 order_any t [] = refl
 order_any t (e ∷ es) =
-    put_any t e (in_order es) ∙ ap (λ (b : Bool). t e.node || b) (order_any t es)
+    put_any t e (entries_in_order es) ∙ ap (λ (b : Bool). t e.node || b) (order_any t es)
 
 -- ---- numbers that keep those apart of which N holds
 module _ (N : ℕ → Type 0) (l : ℕ → ℕ)

@@ -1,11 +1,11 @@
 -- The outputs of a step, each in a Pdo of its own, are side by side the forest of that step.
 use Rattle.std.proofs.Common.{◌≡◌, ℕ, ◌+◌, ◌/◌, ◌%◌, ◌<◌, ◌≤◌, Bool, true, false, cond, eqb, ◌||◌, List, [], ◌∷◌, Option, Some, None, refl, sym, ap, ◌∙◌, subst, arith, suc}
 use Rattle.std.proofs.lemmas.Bool.{eqb-true, eq-eqb, false≢true, ne_eqb}
-use Rattle.exec_graph.specs.Forests.{Label, Forest, Bare, Grow, after, after_out, new_label, new_out, numbered, with_out}
+use Rattle.exec_graph.specs.Forests.{Label, Forest, Bare, Grow, next_after, after_out, new_label, new_out, numbered, with_out}
 use Rattle.exec_graph.specs.Meaning.{node_at, is_out, has_out}
 use Rattle.exec_graph.specs.declared.graph.Node.TheVariants.{Pdo}
 use Rattle.exec_graph.specs.declared.graph.Blocked.{Blocked}
-use Rattle.graph_laws.specs.Kids.{number_in}
+use Rattle.graph_laws.specs.Kids.{number_after}
 use Rattle.pardo_fuse.specs.SingleFusing.{planted, step_at, step_of}
 use Rattle.pardo_fuse.specs.Parting.{part_number, at_of, parted, parted_nodes}
 use Rattle.pardo_fuse.proofs.Counting.{hit, one_if, times}
@@ -153,13 +153,13 @@ row_numbered b n s i (Grow l kids rest) r a e =
     let own : Label = step_of (node_at (parted_nodes b.graph) q) in
     let label : new_label s l ≡ l =
     first_label_is (new_label s l) l (numbered (after_out s l.out) kids) kids
-    (numbered (after (after_out s l.out) kids) rest) rest e in
+    (numbered (next_after (after_out s l.out) kids) rest) rest e in
     let out : new_out s l.out ≡ l.out = ap (λ (m : Label). m.out) label in
-    let more : numbered (after (after_out s l.out) kids) rest ≡ rest =
+    let more : numbered (next_after (after_out s l.out) kids) rest ≡ rest =
     rest_is (new_label s l) l (numbered (after_out s l.out) kids) kids
-    (numbered (after (after_out s l.out) kids) rest) rest e in
-    let plain : after (after_out s l.out) kids ≡ after_out s l.out =
-    ap (after (after_out s l.out)) r.1 in
+    (numbered (next_after (after_out s l.out) kids) rest) rest e in
+    let plain : next_after (after_out s l.out) kids ≡ after_out s l.out =
+    ap (next_after (after_out s l.out)) r.1 in
     let rec = row_numbered b n (after_out s l.out) (suc i) rest r.2 a.1
     (ap (λ (x : ℕ). numbered x rest) (sym plain) ∙ more) in
     ap (λ (o : Option ℕ). Grow (with_out o own) Bare
@@ -180,16 +180,16 @@ at_above j i f r h =
 
 pub row_number : (b : Blocked) (n s i j : ℕ) (f : Forest) → n < b.graph.next → IsRow i f
     → EachLabel (Stands b n) f → numbered s f ≡ f → has_out j f ≡ true
-    → number_in s (rooted (parted b) (outputs_of b.graph.next n f))
+    → number_after s (rooted (parted b) (outputs_of b.graph.next n f))
     (part_number b.graph.next n (at_of j f)) ≡ j
 row_number b n s i j Bare lo r a e h = absurd (false≢true h)
 row_number b n s i j (Grow l kids rest) lo r a e h =
     by (is_out l.out j) refl
     (subst (λ (x : Forest). (is_out l.out j || (has_out j x || has_out j rest)) ≡ true) r.1 h)
     (λ t. row_number b n (after_out s l.out) (suc i) j rest lo r.2 a.1
-    (ap (λ (x : ℕ). numbered x rest) (sym (ap (after (after_out s l.out)) r.1))
+    (ap (λ (x : ℕ). numbered x rest) (sym (ap (next_after (after_out s l.out)) r.1))
     ∙ rest_is (new_label s l) l (numbered (after_out s l.out) kids) kids
-    (numbered (after (after_out s l.out) kids) rest) rest e) t)
+    (numbered (next_after (after_out s l.out) kids) rest) rest e) t)
   where
     k : ℕ
     k = b.graph.next
@@ -206,7 +206,7 @@ row_number b n s i j (Grow l kids rest) lo r a e h =
     out : new_out s l.out ≡ l.out
     out = ap (λ (m : Label). m.out)
         (first_label_is (new_label s l) l (numbered (after_out s l.out) kids) kids
-        (numbered (after (after_out s l.out) kids) rest) rest e)
+        (numbered (next_after (after_out s l.out) kids) rest) rest e)
 
     number : (o : Option ℕ) → new_out s o ≡ o → is_out o j ≡ true → s ≡ j
     number None g t = absurd (false≢true t)
@@ -222,14 +222,15 @@ row_number b n s i j (Grow l kids rest) lo r a e h =
 
     by : (t : Bool) → is_out l.out j ≡ t → (t || has_out j rest) ≡ true
         → (has_out j rest ≡ true
-        → number_in (after_out s l.out) rows (part_number b.graph.next n (at_of j rest)) ≡ j)
-        → number_in s (Grow (with_out (cond (keep q) (Some q) None)
+        → number_after (after_out s l.out) rows (part_number b.graph.next n (at_of j rest)) ≡ j)
+        → number_after s (Grow (with_out (cond (keep q) (Some q) None)
         (step_of (node_at (parted_nodes b.graph) q))) Bare rows)
         (part_number b.graph.next n (cond t l.at (at_of j rest))) ≡ j
     by true g h f =
         ap (λ (x : Bool). cond (is_out (cond x (Some q) None) q) s
-        (number_in (after_out s (cond (keep q) (Some q) None)) rows q)) (a.0.1 ∙ some l.out g)
-        ∙ ap (λ (x : Bool). cond x s (number_in (after_out s (cond (keep q) (Some q) None)) rows q))
+        (number_after (after_out s (cond (keep q) (Some q) None)) rows q)) (a.0.1 ∙ some l.out g)
+        ∙ ap (λ (x : Bool). cond x s (number_after (after_out s (cond (keep q) (Some q) None)) rows
+        q))
         (eq-eqb q q refl)
         ∙ number l.out out g
     by false g h f =
@@ -239,7 +240,8 @@ row_number b n s i j (Grow l kids rest) lo r a e h =
         let same : l.at ≡ at_of j rest = sym (number_div k n l.at lo) ∙ ap (λ (x : ℕ). x / k) w
         ∙ number_div k n (at_of j rest) lo in
         let v = r.0 in omega arith) in
-        ap (λ (x : Bool). cond x s (number_in (after_out s (cond (keep q) (Some q) None)) rows z))
+        ap (λ (x : Bool). cond x s (number_after (after_out s (cond (keep q) (Some q) None)) rows
+        z))
         (other (keep q) q z apart)
-        ∙ ap (λ (x : ℕ). number_in x rows z) (after_again s q l.out (keep q) a.0.1)
+        ∙ ap (λ (x : ℕ). number_after x rows z) (after_again s q l.out (keep q) a.0.1)
         ∙ f h

@@ -16,8 +16,8 @@ use Rattle.exec_graph.specs.declared.graph.Blocked.{Blocked}
 use Rattle.graph_laws.specs.Joining.{reread}
 use Rattle.graph_laws.specs.Kids.{kept_by}
 use Rattle.pardo_fuse.specs.Fusing.{is_first}
-use Rattle.pardo_fuse.specs.SingleFusing.{forest_of, fused_by, Grown, joined_nodes, keeps_output, kids_of, planted, step_at}
-use Rattle.pardo_fuse.specs.Parting.{parted, parts_of}
+use Rattle.pardo_fuse.specs.SingleFusing.{forest_reading, fused_by, Grown, joined_nodes, keeps_output, kids_of, planted, step_at}
+use Rattle.pardo_fuse.specs.Parting.{parted, parts_of_node}
 use Rattle.pardo_fuse.specs.Readers.{Cut, is_unmarked}
 use Rattle.pardo_fuse.specs.Wellformed.{IsFusible}
 use Rattle.pardo_fuse.proofs.Chaining.{grown_one}
@@ -73,11 +73,11 @@ module _ (b : Blocked) (fu : IsFusible b) where
       → StepsFrom b done (e ∷ rest)
   node_steps done rest e split (Source s) is at h = skip done rest e
       (other_plan b fu done rest e split
-      (λ c. ap (λ (x : Node). those (calls_on c) (parts_of k e.number (reread r x))) is)
+      (λ c. ap (λ (x : Node). those (calls_on c) (parts_of_node k e.number (reread r x))) is)
       (λ c t i. let bad : ⊥ = cc in absurd bad)) at h
   node_steps done rest e split (Flatten ins) is at h = skip done rest e
       (other_plan b fu done rest e split
-      (λ c. ap (λ (x : Node). those (calls_on c) (parts_of k e.number (reread r x))) is)
+      (λ c. ap (λ (x : Node). those (calls_on c) (parts_of_node k e.number (reread r x))) is)
       (λ c t i. let bad : ⊥ = cc in absurd bad)) at h
   node_steps done rest e split (Pdo d f) is at h = by (calls b done (r d)) refl
     where
@@ -86,11 +86,11 @@ module _ (b : Blocked) (fu : IsFusible b) where
       by (p ∷ more) some = one_more b fu done rest e d f split is p more some at h
   node_steps done rest e split (Gbk c o l m) is at h = skip done rest e
       (other_plan b fu done rest e split
-      (λ c. ap (λ (x : Node). those (calls_on c) (parts_of k e.number (reread r x))) is)
+      (λ c. ap (λ (x : Node). those (calls_on c) (parts_of_node k e.number (reread r x))) is)
       (λ c t i. let bad : ⊥ = cc in absurd bad)) at h
   node_steps done rest e split (Barrier ins o l a) is at h = skip done rest e
       (other_plan b fu done rest e split
-      (λ c. ap (λ (x : Node). those (calls_on c) (parts_of k e.number (reread r x))) is)
+      (λ c. ap (λ (x : Node). those (calls_on c) (parts_of_node k e.number (reread r x))) is)
       (λ c t i. let bad : ⊥ = cc in absurd bad)) at h
 
   steps_from : (done rest : List Entry) → es ≡ done ++ rest → IsDone b done
@@ -142,7 +142,7 @@ module _ (b : Blocked) (fu : IsFusible b) where
     bare_grown ns,
   )
 
-  forest_last : (c : Place) → rooted (parted b) (readers ps c) ≡ forest_of cut c
+  forest_last : (c : Place) → rooted (parted b) (readers ps c) ≡ forest_reading cut c
   forest_last c =
       ap (kept_by (reads_output (parted b))) (grown_one cut (readers ps c)
       (planted (step_at cut) bare (readers ps c)) (all_of cut c)
@@ -159,7 +159,7 @@ module _ (b : Blocked) (fu : IsFusible b) where
       (Some (rooted (parted b) (readers ps c))) None)
       (own b q c)) (found_in es (q % k) (Pdo w.0 w.1) w.2)
       ∙ ap (λ (t : Forest). cond (is_first q (readers ps c)) (Some t) None) (forest_last c)
-      ∙ sym (ap (λ t. cond (cond t false (is_first q (readers ps c))) (Some (forest_of cut c))
+      ∙ sym (ap (λ t. cond (cond t false (is_first q (readers ps c))) (Some (forest_reading cut c))
       None) (outer c (any_at (calls_on c) ps q (Pdo c h) at (same_self c))))
 
   nodes_last : done_nodes b es ≡ joined_nodes cut

@@ -14,10 +14,10 @@ use Rattle.exec_graph.specs.declared.graph.Graph.{Graph}
 use Rattle.exec_graph.specs.declared.graph.Blocked.{Blocked}
 use Rattle.exec_graph.proofs.Entries.{all_found, entry}
 use Rattle.exec_graph.proofs.Solving.{each_found, there_found}
-use Rattle.graph_laws.specs.Kids.{number_in}
+use Rattle.graph_laws.specs.Kids.{number_after}
 use Rattle.pardo_fuse.specs.Fusing.{holds_out, is_first, step_in}
 use Rattle.pardo_fuse.specs.SingleFusing.{new_place, step_of}
-use Rattle.pardo_fuse.specs.Parting.{part_number, at_of, part_at, part_place, parted, parted_nodes, sole}
+use Rattle.pardo_fuse.specs.Parting.{part_number, at_of, part_at, part_place, parted, parted_nodes, sole_output}
 use Rattle.pardo_fuse.specs.Readers.{is_pdo}
 use Rattle.pardo_fuse.specs.Wellformed.{IsFusible}
 use Rattle.pardo_fuse.proofs.Counting.{times}
@@ -109,7 +109,8 @@ module _ (b : Blocked) (fu : IsFusible b) where
       → IsNodeOk g n (Pdo c f)
       → EachLabel (Stands b n) f
   stands n c f at ok =
-      label_both (λ l. node_at (parted_nodes g) (part_number k n l.at) ≡ Some (Pdo (r c) (sole l)))
+      label_both (λ l. node_at (parted_nodes g) (part_number k n l.at) ≡ Some
+      (Pdo (r c) (sole_output l)))
       (λ l. reads_output (parted b) (part_number k n l.at) ≡ is_some l.out) (Stands b n)
       (λ l x y. (ap step_of x, y)) f (label_found g can n c f at)
       (label_both (λ l. l.out ≡ None → (d : Place) → IsThere es d
@@ -276,8 +277,8 @@ module _ (b : Blocked) (fu : IsFusible b) where
           (ap (λ (y : Place). has_out y.node (rooted (parted b) (sites g c.node))) held.is
           ∙ held.has)
           ∙ ap (λ (y : Place). place c.node
-          (number_in 0 (rooted (parted b) (sites g c.node)) y.node)) held.is
-          ∙ ap (λ (l : List ℕ). place c.node (number_in 0 (rooted (parted b) l)
+          (number_after 0 (rooted (parted b) (sites g c.node)) y.node)) held.is
+          ∙ ap (λ (l : List ℕ). place c.node (number_after 0 (rooted (parted b) l)
           (part_number k c.node (at_of c.out f)))) (sites_at c.node held.source f held.at)
           ∙ ap (place c.node) (row_number b c.node 0 0 c.out f lo row
           (stands c.node held.source f held.at ok) ok.order held.out)

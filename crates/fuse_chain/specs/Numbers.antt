@@ -19,13 +19,13 @@ abbrev pub other_of_two : ℕ → ℕ → ℕ → ℕ
 other_of_two a b n = cond (n == a) b (cond (n == b) a n)
 
 -- p takes the lesser of its number and that of q, and q the other
-abbrev pub after_kid : (ℕ → ℕ) → ℕ → ℕ → ℕ → ℕ
-after_kid l p q n = cond (ltb (l q) (l p)) (other_of_two (l p) (l q) (l n)) (l n)
+abbrev pub numbers_after_kid : (ℕ → ℕ) → ℕ → ℕ → ℕ → ℕ
+numbers_after_kid l p q n = cond (ltb (l q) (l p)) (other_of_two (l p) (l q) (l n)) (l n)
 
 -- after kids one after another; a sibling is of greater number as it is
 abbrev pub after_kids : List Fusion → (ℕ → ℕ) → ℕ → ℕ
 after_kids [] l = l
-after_kids (Kid p k q ∷ rs) l = after_kids rs (after_kid l p q)
+after_kids (Kid p k q ∷ rs) l = after_kids rs (numbers_after_kid l p q)
 after_kids (Sibling p q ∷ rs) l = after_kids rs l
 
 -- the Pdo n reads an unmarked output of a Pdo

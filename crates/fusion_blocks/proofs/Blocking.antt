@@ -17,7 +17,7 @@ use Rattle.exec_graph.proofs.Entries.{all_found}
 use Rattle.exec_graph.proofs.Soundness.{IsSound-ok}
 use Rattle.fusion_blocks.specs.Blocks.{CanMark, IsBlocked, IsMarkOf, MarksLead, takes_mark, unmarked, with_mark}
 use Rattle.fusion_blocks.specs.Chains.{IsChain, group, lifted, then}
-use Rattle.fusion_blocks.specs.Feeding.{feeds, feeds_by, flattens, groups, is_grouped}
+use Rattle.fusion_blocks.specs.Feeding.{feeds, feeds_by, is_flatten_of, is_gbk_of, is_grouped}
 use Rattle.fusion_blocks.specs.inner.Stretches.{AreMarks, MarkedBy, MarkedFrom, fed}
 use Rattle.fusion_blocks.specs.inner.Tables.{AllThere, IsRanked}
 use Rattle.fusion_blocks.proofs.Marking.{is_same, same_is}
@@ -41,7 +41,7 @@ and_none true = refl
 and_none false = refl
 
 fed_by : (es : List Entry) (c : Place) (n : ℕ) (x : Node)
-    → (groups c x || (is_grouped es (place n 0) && flattens c x)) ≡ among c (fed es n x)
+    → (is_gbk_of c x || (is_grouped es (place n 0) && is_flatten_of c x)) ≡ among c (fed es n x)
 fed_by es c n (Flatten ins) = by (is_grouped es (place n 0))
   where
     by : (b : Bool) → (b && among c ins) ≡ among c (cond b ins [])

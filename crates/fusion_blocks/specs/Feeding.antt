@@ -10,22 +10,22 @@ use Rattle.exec_graph.specs.declared.graph.Node.TheVariants.{Flatten, Gbk}
 use Rattle.exec_graph.specs.declared.graph.Entry.{Entry}
 
 -- whether the node is a Gbk of c
-abbrev pub groups : Place → Node → Bool
-groups c (Gbk d o l k) = same_place c d
-groups c _ = false
+abbrev pub is_gbk_of : Place → Node → Bool
+is_gbk_of c (Gbk d o l k) = same_place c d
+is_gbk_of c _ = false
 
 -- whether the node is a Flatten of c
-abbrev pub flattens : Place → Node → Bool
-flattens c (Flatten ins) = among c ins
-flattens c _ = false
+abbrev pub is_flatten_of : Place → Node → Bool
+is_flatten_of c (Flatten ins) = among c ins
+is_flatten_of c _ = false
 
 -- whether c is the input of a Gbk
 abbrev pub is_grouped : List Entry → Place → Bool
-is_grouped es c = any_node (groups c) es
+is_grouped es c = any_node (is_gbk_of c) es
 
 -- whether the node is a Gbk of c, or a Flatten of c that is the input of a Gbk
 abbrev pub feeds_by : List Entry → Place → Entry → Bool
-feeds_by es c e = groups c e.node || (is_grouped es (place e.number 0) && flattens c e.node)
+feeds_by es c e = is_gbk_of c e.node || (is_grouped es (place e.number 0) && is_flatten_of c e.node)
 
 -- whether c feeds a Gbk
 abbrev pub feeds : List Entry → Place → Bool

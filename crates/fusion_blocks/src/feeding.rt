@@ -3,7 +3,7 @@ ghost use Rattle.std.specs.Prelude.{◌≡◌, ◌||◌, ℕ, OnOk, IfOk, nat_eq
 ghost use Rattle.std.specs.HashSet.{contains};
 ghost use Rattle.exec_graph.specs.Meaning.{place};
 ghost use Rattle.exec_graph.specs.Readers.{same_place};
-ghost use Rattle.fusion_blocks.specs.Feeding.{groups};
+ghost use Rattle.fusion_blocks.specs.Feeding.{is_gbk_of};
 ghost use Rattle.fusion_blocks.specs.inner.Stretches.{HasGrouped};
 
 use exec_graph::{Entry, Node, Place};
@@ -23,7 +23,7 @@ pub(crate) fn grouped_of(alloc: Global, nodes: &[Entry]) -> Result<HashSet<u32>,
 
 fn add_grouped(node: &Node, grouped: &mut HashSet<u32>) -> Result<(), AllocError>
     ensures { OnOk result ((n : ℕ) → contains nat_eq grouped.new n
-        ≡ (contains nat_eq grouped.old n || groups (place n 0) node.now)) }
+        ≡ (contains nat_eq grouped.old n || is_gbk_of (place n 0) node.now)) }
 {
     match node {
         Node::Gbk { input: c, .. } => add_first(*c, grouped),

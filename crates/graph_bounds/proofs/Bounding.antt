@@ -2,7 +2,7 @@
 use Rattle.std.proofs.Common.{◌≡◌, ℕ, ◌+◌, ◌<◌, ◌≤◌, ◌^◌, ◌⊎◌, Bool, true, false, cond, List, [], ◌∷◌, map, length, Option, Some, None, zero, suc, refl, sym, ap, ◌∙◌, inl, inr, arith}
 use Rattle.std.specs.List.{AllByRecursion, flat_map}
 use Rattle.flume_value.proofs.EachLemmas.{Each-append, Each-both}
-use Rattle.sink_laws.specs.of_exec_graph.Forests.{Forest, Bare, Grow, after, after_out, numbered}
+use Rattle.sink_laws.specs.of_exec_graph.Forests.{Forest, Bare, Grow, next_after, after_out, numbered}
 use Rattle.sink_laws.specs.of_exec_graph.Meaning.{node_at}
 use Rattle.sink_laws.specs.of_exec_graph.Readers.{readers}
 use Rattle.sink_laws.specs.of_exec_graph.declared.graph.Input.{Input}
@@ -18,8 +18,8 @@ use Rattle.sink_laws.proofs.of_exec_graph.Entries.{all_found, all_map}
 use Rattle.sink_laws.specs.of_graph_laws.Joining.{reread}
 use Rattle.sink_laws.specs.of_graph_laws.Lifting.{lifted}
 use Rattle.sink_laws.specs.Chain.{IsSunk}
-use Rattle.pardo_fuse.specs.Fusing.{finished, forest_over, fused, fused_by_parents, hanging, hung, in_turn, joined_by, kept_nodes, kept_of, kids_on, leads, least_of, moved_to, step_in, with_numbers}
-use Rattle.pardo_fuse.specs.Renumbering.{at_number, in_order, renumbered_entry}
+use Rattle.pardo_fuse.specs.Fusing.{finished_entry, forest_over, fused, fused_by_parents, hanging, hung, trees_in_turn, joined_by, kept_nodes, kept_of, kids_on, leads, least_of, moved_to, step_in, with_numbers}
+use Rattle.pardo_fuse.specs.Renumbering.{at_number, entries_in_order, renumbered_entry}
 use Rattle.pardo_fuse.proofs.Sorting.{order_all}
 use Rattle.pardo_fuse.proofs.Parting.{IsRow, row_of}
 use Rattle.pardo_fuse.specs.Readers.{Cut, cut_of}
@@ -34,7 +34,7 @@ numbered_few m s Bare h = tt
 numbered_few m s (Grow l kids rest) h = (
   h.0,
   numbered_few 0 (after_out s l.out) kids h.1,
-  numbered_few (l.at + 1) (after (after_out s l.out) kids) rest h.2,
+  numbered_few (l.at + 1) (next_after (after_out s l.out) kids) rest h.2,
 )
 
 -- ---- trees
@@ -72,13 +72,13 @@ step_few es n (Some (Pdo c f)) a h =
 turn_few : (b : Cut) (over : ℕ → Option ℕ → Forest) → AreFew b.graph.nodes
     → ((n : ℕ) (o : Option ℕ) → HasFewOutputs 0 (over n o)) → (ns : List ℕ) (m : ℕ)
     → HasFewOutputs m
-    (in_turn (λ n rest. hung b n (over n) (step_in (node_at b.graph.nodes n)) rest) ns)
+    (trees_in_turn (λ n rest. hung b n (over n) (step_in (node_at b.graph.nodes n)) rest) ns)
 turn_few b over a h [] m = tt
 turn_few b over a h (n ∷ ns) m =
     let s = step_few b.graph.nodes n (node_at b.graph.nodes n) a refl in
     let w = s.1 in
     hung_few b n 0 m (over n) (step_in (node_at b.graph.nodes n))
-    (in_turn (λ n rest. hung b n (over n) (step_in (node_at b.graph.nodes n)) rest) ns)
+    (trees_in_turn (λ n rest. hung b n (over n) (step_in (node_at b.graph.nodes n)) rest) ns)
     s.0 (omega arith) (inl refl) (h n) (turn_few b over a h ns)
 
 trees_few : (b : Cut) (k : ℕ) (ns : List ℕ) (m : ℕ) → AreFew b.graph.nodes
@@ -143,13 +143,13 @@ node_narrow r n (Barrier ins o l a) h = tt
 
 all_below : (r : Place → Place) (n : Input ⊎ Act → Type 0) (hs : List Entry)
     → AllByRecursion (λ e. IsLeft n e.node) hs
-    → AllByRecursion (λ e. BringsSuch n e.node) (map (finished r) hs)
+    → AllByRecursion (λ e. BringsSuch n e.node) (map (finished_entry r) hs)
 all_below r n [] a = tt
 all_below r n (h ∷ hs) a = (node_below r n h.node a.0, all_below r n hs a.1)
 
 all_narrow : (r : Place → Place) (n : Input ⊎ Act → Type 0) (hs : List Entry)
     → AllByRecursion (λ e. IsLeft n e.node) hs
-    → AllByRecursion (λ e. IsNarrow e.node) (map (finished r) hs)
+    → AllByRecursion (λ e. IsNarrow e.node) (map (finished_entry r) hs)
 all_narrow r n [] a = tt
 all_narrow r n (h ∷ hs) a = (node_narrow r n h.node a.0, all_narrow r n hs a.1)
 
@@ -191,7 +191,7 @@ narrow_reread r _ h = h
 -- what holds of nodes, whatever they read, holds of them under other numbers
 all_renumbered : (P : Node → Type 0) → ((r : Place → Place) (x : Node) → P x → P (reread r x))
     → (l : ℕ → ℕ) (es : List Entry) → AllByRecursion (λ e. P e.node) es
-    → AllByRecursion (λ e. P e.node) (in_order (map (renumbered_entry l) es))
+    → AllByRecursion (λ e. P e.node) (entries_in_order (map (renumbered_entry l) es))
 all_renumbered P still l es a =
     order_all (λ e. P e.node) (map (renumbered_entry l) es)
     (all_map (renumbered_entry l) (λ e. P e.node) (λ e. P e.node)

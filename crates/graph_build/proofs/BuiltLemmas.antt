@@ -6,7 +6,7 @@ use Rattle.script_program.specs.of_written_types.Named.{Named}
 use Rattle.script_program.proofs.SourceSteps.{told_many}
 use Rattle.script_program.specs.Script.{Node, Script}
 use Rattle.graph_build.specs.Built.{built, built_at, built_from, built_here}
-use Rattle.graph_build.specs.Calls.{call_built, emitted_at, first_emitted, kept_at, kept_from, next_if, other_names}
+use Rattle.graph_build.specs.Calls.{call_built, emitted_at, first_emitted, is_kept_at, numbers_kept_from, next_if, other_names}
 
 found : (script : Script) (k i : ℕ) (nodes : Named Node) (node : Node)
     → option_map (λ entry. entry.1) (slice_get nodes i) ≡ Some node
@@ -36,20 +36,20 @@ built_length script =
 
 -- the first of the names up to an end
 first_kept : (script : Script) (name end : ℕ) → name < end
-    → kept_from script name (end - name)
-    ≡ (if kept_at script name then name ∷ [] else [])
-    ++ kept_from script (name + 1) (end - (name + 1))
+    → numbers_kept_from script name (end - name)
+    ≡ (if is_kept_at script name then name ∷ [] else [])
+    ++ numbers_kept_from script (name + 1) (end - (name + 1))
 first_kept script name end h =
     let e : end - name ≡ suc (end - (name + 1)) = omega arith in
     let next : suc name ≡ name + 1 = omega arith in
-    ap (kept_from script name) e
-    ∙ ap (λ k. (if kept_at script name then name ∷ [] else [])
-    ++ kept_from script k (end - (name + 1))) next
+    ap (numbers_kept_from script name) e
+    ∙ ap (λ k. (if is_kept_at script name then name ∷ [] else [])
+    ++ numbers_kept_from script k (end - (name + 1))) next
 
 none_kept : (script : Script) (name end : ℕ) → end ≤ name
-    → kept_from script name (end - name) ≡ []
+    → numbers_kept_from script name (end - name) ≡ []
 none_kept script name end h =
-    let e : end - name ≡ 0 = omega arith in ap (kept_from script name) e
+    let e : end - name ≡ 0 = omega arith in ap (numbers_kept_from script name) e
 
 kept-more : (b : Bool) (name count more : ℕ) (rest : List ℕ) → more ≡ next_if b count
     → count + length ((if b then name ∷ [] else []) ++ rest) ≡ more + length rest
@@ -58,51 +58,51 @@ kept-more false name count more rest is = omega (arith, is)
 
 -- how many are kept
 pub kept_next : (script : Script) (name end count more all : ℕ) → name < end
-    → more ≡ next_if (kept_at script name) count
-    → count + length (kept_from script name (end - name)) ≡ all
-    → more + length (kept_from script (name + 1) (end - (name + 1))) ≡ all
+    → more ≡ next_if (is_kept_at script name) count
+    → count + length (numbers_kept_from script name (end - name)) ≡ all
+    → more + length (numbers_kept_from script (name + 1) (end - (name + 1))) ≡ all
 kept_next script name end count more all below is h =
     sym
-    (kept-more (kept_at script name) name count more
-    (kept_from script (name + 1) (end - (name + 1))) is)
+    (kept-more (is_kept_at script name) name count more
+    (numbers_kept_from script (name + 1) (end - (name + 1))) is)
     ∙ ap (λ names. count + length names) (sym (first_kept script name end below))
     ∙ h
 
 pub kept_all : (script : Script) (name end count all : ℕ) → end ≤ name
-    → count + length (kept_from script name (end - name)) ≡ all → count ≡ all
+    → count + length (numbers_kept_from script name (end - name)) ≡ all → count ≡ all
 kept_all script name end count all past h =
     let none = ap (λ names. count + length names) (none_kept script name end past) in
     omega (arith, none, h)
 
 -- the kept one of a place
 pub kept_here : (script : Script) (name end : ℕ) (all : Option ℕ) → name < end
-    → kept_at script name ≡ true
-    → slice_get (kept_from script name (end - name)) 0 ≡ all → Some name ≡ all
+    → is_kept_at script name ≡ true
+    → slice_get (numbers_kept_from script name (end - name)) 0 ≡ all → Some name ≡ all
 kept_here script name end all below is h =
     (λ i. slice_get ((if sym is i then name ∷ [] else [])
-    ++ kept_from script (name + 1) (end - (name + 1))) 0)
+    ++ numbers_kept_from script (name + 1) (end - (name + 1))) 0)
     ∙ ap (λ names. slice_get names 0) (sym (first_kept script name end below)) ∙ h
 
 pub kept_behind : (script : Script) (name end left : ℕ) (all : Option ℕ) → name < end
-    → kept_at script name ≡ true
-    → slice_get (kept_from script name (end - name)) (suc left) ≡ all
-    → slice_get (kept_from script (name + 1) (end - (name + 1))) left ≡ all
+    → is_kept_at script name ≡ true
+    → slice_get (numbers_kept_from script name (end - name)) (suc left) ≡ all
+    → slice_get (numbers_kept_from script (name + 1) (end - (name + 1))) left ≡ all
 kept_behind script name end left all below is h =
     (λ i. slice_get ((if sym is i then name ∷ [] else [])
-    ++ kept_from script (name + 1) (end - (name + 1))) (suc left))
+    ++ numbers_kept_from script (name + 1) (end - (name + 1))) (suc left))
     ∙ ap (λ names. slice_get names (suc left)) (sym (first_kept script name end below)) ∙ h
 
 pub kept_other : (script : Script) (name end left : ℕ) (all : Option ℕ) → name < end
-    → kept_at script name ≡ false
-    → slice_get (kept_from script name (end - name)) left ≡ all
-    → slice_get (kept_from script (name + 1) (end - (name + 1))) left ≡ all
+    → is_kept_at script name ≡ false
+    → slice_get (numbers_kept_from script name (end - name)) left ≡ all
+    → slice_get (numbers_kept_from script (name + 1) (end - (name + 1))) left ≡ all
 kept_other script name end left all below is h =
     (λ i. slice_get ((if sym is i then name ∷ [] else [])
-    ++ kept_from script (name + 1) (end - (name + 1))) left)
+    ++ numbers_kept_from script (name + 1) (end - (name + 1))) left)
     ∙ ap (λ names. slice_get names left) (sym (first_kept script name end below)) ∙ h
 
 pub kept_none : (script : Script) (name end left : ℕ) (all : Option ℕ) → end ≤ name
-    → slice_get (kept_from script name (end - name)) left ≡ all → None ≡ all
+    → slice_get (numbers_kept_from script name (end - name)) left ≡ all → None ≡ all
 kept_none script name end left all past h =
     ap (λ names. slice_get names left) (sym (none_kept script name end past)) ∙ h
 
@@ -134,18 +134,18 @@ many_names first f others script is =
     let e : ((first + 1) + others) - first ≡ suc others = omega arith in e ∙ ap suc is
 
 pub call_names : (script : Script) (first f others place : ℕ) → others ≡ other_names script f
-    → slice_get (kept_from script first (((first + 1) + others) - first)
+    → slice_get (numbers_kept_from script first (((first + 1) + others) - first)
     ++ first_emitted script first (((first + 1) + others) - first)) place
     ≡ slice_get (call_built script first f) place
 call_names script first f others place is =
-    ap (λ n. slice_get (kept_from script first n ++ first_emitted script first n) place)
+    ap (λ n. slice_get (numbers_kept_from script first n ++ first_emitted script first n) place)
     (many_names first f others script is)
 
 pub all_kept : (script : Script) (first f others kept : ℕ) → others ≡ other_names script f
-    → kept ≡ length (kept_from script first (((first + 1) + others) - first))
-    → kept ≡ length (kept_from script first (suc (other_names script f)))
+    → kept ≡ length (numbers_kept_from script first (((first + 1) + others) - first))
+    → kept ≡ length (numbers_kept_from script first (suc (other_names script f)))
 all_kept script first f others kept is h =
-    h ∙ ap (λ n. length (kept_from script first n)) (many_names first f others script is)
+    h ∙ ap (λ n. length (numbers_kept_from script first n)) (many_names first f others script is)
 
 -- ---- what stands at a place of two lists
 

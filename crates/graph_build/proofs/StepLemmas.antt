@@ -8,20 +8,21 @@ use Rattle.exec_graph.specs.declared.graph.Entry.{Entry}
 use Rattle.exec_graph.specs.declared.graph.Place.{Place}
 use Rattle.script_program.proofs.SourceSteps.{head_of}
 use Rattle.script_program.specs.Script.{Script}
-use Rattle.graph_build.specs.Graphs.{last_node, behind, giving_from, next_source, nodes_at, nodes_from}
+use Rattle.graph_build.specs.Graphs.{last_node, number_past, giving_from, next_source, nodes_at, nodes_from}
 use Rattle.graph_build.specs.Built.{Built, built, built_at}
 use Rattle.graph_build.proofs.BuiltLemmas.{built_length}
 
 giving_step : (ws : List (Option Built)) (i n : ℕ) → i < length ws
     → giving_from n (drop i ws)
-    ≡ last_node n (get_or ws i None) ∷ giving_from (behind n (get_or ws i None)) (drop (i + 1) ws)
+    ≡ last_node n (get_or ws i None) ∷ giving_from (number_past n (get_or ws i None))
+    (drop (i + 1) ws)
 giving_step ws i n h = rw (add-one, drop-cons ws i None)
 
 pub nodes_step : (script : Script) (gives : ℕ → Place) (ws : List (Option Built)) (i source n : ℕ)
     → i < length ws → nodes_from script gives source n (drop i ws)
     ≡ nodes_at script gives source n (get_or ws i None)
     ++ nodes_from script gives (next_source source (get_or ws i None))
-    (behind n (get_or ws i None)) (drop (i + 1) ws)
+    (number_past n (get_or ws i None)) (drop (i + 1) ws)
 nodes_step script gives ws i source n h = rw (add-one, drop-cons ws i None)
 
 pub all_dropped : {A : Type 0} (xs : List A) (i : ℕ) → i ≡ length xs → drop i xs ≡ []
@@ -42,7 +43,7 @@ nodes_done gives script i source n h =
 pub giving_next : (script : Script) (done more all : List ℕ) (i n next : ℕ)
     → i < length script.nodes
     → more ≡ done ++ last_node n (built_at script i) ∷ []
-    → next ≡ behind n (built_at script i)
+    → next ≡ number_past n (built_at script i)
     → done ++ giving_from n (drop i (built script)) ≡ all
     → more ++ giving_from next (drop (i + 1) (built script)) ≡ all
 giving_next script done more all i n next below pushed ahead h =

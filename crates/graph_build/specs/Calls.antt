@@ -69,19 +69,20 @@ number_behind next (needed ∷ rest) = number_behind (next_if needed next) rest
 
 -- ---- kept names
 
-abbrev pub is_kept : Option Made → Bool
-is_kept (Some (made.Saved is_object call)) = true
-is_kept _ = false
+abbrev pub is_saved_made : Option Made → Bool
+is_saved_made (Some (made.Saved is_object call)) = true
+is_saved_made _ = false
 
 -- whether there is a collection of that number that is needed and kept
-abbrev pub kept_at : Script → ℕ → Bool
-kept_at script number = is_kept (wanted_at script number)
+abbrev pub is_kept_at : Script → ℕ → Bool
+is_kept_at script number = is_saved_made (wanted_at script number)
 
 -- the numbers of those among so many collections, from that number on
-abbrev pub kept_from : Script → ℕ → ℕ → List ℕ
-kept_from script number zero = []
-kept_from script number (suc more) =
-    (if kept_at script number then number ∷ [] else []) ++ kept_from script (suc number) more
+abbrev pub numbers_kept_from : Script → ℕ → ℕ → List ℕ
+numbers_kept_from script number zero = []
+numbers_kept_from script number (suc more) =
+    (if is_kept_at script number then number ∷ [] else [])
+    ++ numbers_kept_from script (suc number) more
 
 -- the number of the first that a call emits among so many collections, if it emits one
 abbrev pub first_emitted : Script → ℕ → ℕ → List ℕ
@@ -93,5 +94,5 @@ first_emitted script number (suc more) =
 -- the first name that it emits
 abbrev pub call_built : Script → ℕ → ℕ → List ℕ
 call_built script first function =
-    kept_from script first (suc (other_names script function))
+    numbers_kept_from script first (suc (other_names script function))
     ++ first_emitted script first (suc (other_names script function))

@@ -11,7 +11,7 @@ use Rattle.script_program.specs.declared.made.Made.{Made}
 use Rattle.script_program.specs.Script.{Script}
 use Rattle.exec_graph.specs.Meaning.{place}
 use Rattle.graph_build.specs.Built.{Built, built}
-use Rattle.graph_build.specs.Calls.{emitted_as, is_kept, kept_from, needed_from, number_behind, other_names}
+use Rattle.graph_build.specs.Calls.{emitted_as, is_saved_made, numbers_kept_from, needed_from, number_behind, other_names}
 use Rattle.graph_build.specs.Nodes.{before_last, first_of, sources_made, made_nodes}
 use Rattle.graph_build.specs.Wanted.{wanted}
 
@@ -23,15 +23,15 @@ last_node n None = 0
 last_node n (Some it) = n + before_last it.made
 
 -- the number behind its nodes
-abbrev pub behind : ℕ → Option Built → ℕ
-behind n None = n
-behind n (Some it) = n + before_last it.made + 1
+abbrev pub number_past : ℕ → Option Built → ℕ
+number_past n None = n
+number_past n (Some it) = n + before_last it.made + 1
 
 -- the number of the last node that is built at each collection, where the next node has the number
 -- n
 abbrev pub giving_from : ℕ → List (Option Built) → List ℕ
 giving_from n [] = []
-giving_from n (it ∷ rest) = last_node n it ∷ giving_from (behind n it) rest
+giving_from n (it ∷ rest) = last_node n it ∷ giving_from (number_past n it) rest
 
 abbrev pub giving : Script → List ℕ
 giving script = giving_from 0 (built script)
@@ -44,21 +44,21 @@ abbrev pub call_place : Script → List ℕ → ℕ → ℕ → ℕ → Place
 call_place script giving first function output =
     place
     (slice_index giving
-    (first + length (kept_from script first (suc (other_names script function)))))
+    (first + length (numbers_kept_from script first (suc (other_names script function)))))
     (number_behind 0 (needed_from script first output))
 
 -- the place of an output of a call that is kept: a node of its own, behind those of the kept names
 -- before it
 abbrev pub kept_place : Script → List ℕ → ℕ → ℕ → Place
 kept_place script giving first output =
-    first_of (slice_index giving (first + length (kept_from script first output)))
+    first_of (slice_index giving (first + length (numbers_kept_from script first output)))
 
 -- the place of a collection that is so made, by the numbers of the last nodes: what that node
 -- gives, or an output of a call
 abbrev pub place_as : Script → List ℕ → ℕ → Made → Option Emitted → Place
 place_as script giving number how None = first_of (slice_index giving number)
 place_as script giving number how (Some it) =
-    if is_kept (Some how) then kept_place script giving (number - it.output) it.output
+    if is_saved_made (Some how) then kept_place script giving (number - it.output) it.output
     else call_place script giving (number - it.output) it.function it.output
 
 -- none is read where it is not needed
@@ -77,8 +77,8 @@ abbrev pub places : Script → List Place
 places script = places_from script (giving script) 0 (wanted script)
 
 -- the place of the collection of that number, by those of all
-abbrev pub place_in : List Place → ℕ → Place
-place_in places number = slice_index_or places number (first_of 0)
+abbrev pub place_at_number : List Place → ℕ → Place
+place_at_number places number = slice_index_or places number (first_of 0)
 
 -- ---- nodes
 
@@ -97,10 +97,10 @@ abbrev pub nodes_from : Script → (ℕ → Place) → ℕ → ℕ → List (Opt
 nodes_from script gives source n [] = []
 nodes_from script gives source n (it ∷ rest) =
     nodes_at script gives source n it
-    ++ nodes_from script gives (next_source source it) (behind n it) rest
+    ++ nodes_from script gives (next_source source it) (number_past n it) rest
 
 abbrev pub nodes_of : Script → List Entry
-nodes_of script = nodes_from script (place_in (places script)) 0 0 (built script)
+nodes_of script = nodes_from script (place_at_number (places script)) 0 0 (built script)
 
 -- ---- the graph
 
@@ -108,6 +108,6 @@ nodes_of script = nodes_from script (place_in (places script)) 0 0 (built script
 abbrev pub graph_of : Script → Graph
 graph_of script = record {
   nodes = nodes_of script;
-  outputs = map (λ output. place_in (places script) output.1.reads) script.outputs;
+  outputs = map (λ output. place_at_number (places script) output.1.reads) script.outputs;
   next = length (nodes_of script);
 }

@@ -81,8 +81,8 @@ call_in script origin function input =
     (needed_from script (suc origin) (other_names script function)))
 
 -- the groups behind the last step of a collection
-abbrev pub groups : ℕ → Place → Node
-groups origin input = Gbk input origin false None
+abbrev pub gbk_of : ℕ → Place → Node
+gbk_of origin input = Gbk input origin false None
 
 -- what the act makes of collections that it takes whole, which is what the collection is
 abbrev pub barrier : ℕ → Act → List Place → Node
@@ -98,14 +98,14 @@ first_of n = place n 0
 abbrev pub combined_nodes : Comb → ℕ → ℕ → Place → List Entry
 combined_nodes comb origin n input =
     entry n (step_node Ahead origin does.Solo input)
-    ∷ entry (n + 1) (groups origin (first_of n))
+    ∷ entry (n + 1) (gbk_of origin (first_of n))
     ∷ entry (n + 2) (step_node Ahead origin (does.Combine comb) (first_of (n + 1))) ∷ []
 
 -- each member with 1, in groups, with the sum of its ones
 abbrev pub count_nodes : ℕ → ℕ → Place → List Entry
 count_nodes origin n input =
     entry n (step_node Ahead origin does.Pair input)
-    ∷ entry (n + 1) (groups origin (first_of n))
+    ∷ entry (n + 1) (gbk_of origin (first_of n))
     ∷ entry (n + 2) (step_node Last origin (does.Combine by.Sum) (first_of (n + 1))) ∷ []
 
 -- the values of both sides told apart, together, in groups, with the sides of each group apart
@@ -114,7 +114,7 @@ join_nodes origin n left right =
     entry n (step_node Ahead origin does.TagLeft left)
     ∷ entry (n + 1) (step_node Ahead origin does.TagRight right)
     ∷ entry (n + 2) (Flatten (first_of n ∷ first_of (n + 1) ∷ []))
-    ∷ entry (n + 3) (groups origin (first_of (n + 2)))
+    ∷ entry (n + 3) (gbk_of origin (first_of (n + 2)))
     ∷ entry (n + 4) (step_node Last origin does.Split (first_of (n + 3))) ∷ []
 
 -- the greatest members in one list, and these alone

@@ -47,7 +47,7 @@ fn nodes_of(
 ) -> Result<Pile<Entry>, AllocError>
     requires { count ≡ length program.now.script.nodes }
     ensures { IfOk result (λ nodes. nodes
-        ≡ spec.nodes_from program.now.script (spec.place_in places.now) 0 0
+        ≡ spec.nodes_from program.now.script (spec.place_at_number places.now) 0 0
         (built program.now.script)) }
 {
     let sources = source_numbers(alloc, program)?;
@@ -86,12 +86,13 @@ fn push_nodes(
     requires at { start.origin < length program.now.script.nodes }
     requires sources { sources.now ≡ numbers_in program.now.script }
     ensures pushed { OnOk result (nodes.new ≡ nodes.old
-        ++ spec.nodes_at program.now.script (spec.place_in places.now) start.source start.node
+        ++ spec.nodes_at program.now.script (spec.place_at_number places.now) start.source
+        start.node
         (built_in program.now.script start.origin)) }
     ensures source { IfOk result (λ behind. behind.source
         ≡ spec.next_source start.source (built_in program.now.script start.origin)) }
     ensures node { IfOk result (λ behind. behind.node
-        ≡ spec.behind start.node (built_in program.now.script start.origin)) }
+        ≡ spec.number_past start.node (built_in program.now.script start.origin)) }
 {
     match built_at(program, start.origin)? {
         None => Ok(start),
@@ -118,7 +119,7 @@ fn push_made(
 ) -> Result<Start, AllocError>
     requires { sources.now ≡ numbers_in program.now.script }
     ensures pushed { OnOk result (nodes.new ≡ nodes.old
-        ++ made_nodes program.now.script (spec.place_in places.now) start.origin start.source
+        ++ made_nodes program.now.script (spec.place_at_number places.now) start.origin start.source
         start.node made.now) }
     ensures source { IfOk result (λ behind. behind.source
         ≡ start.source + inputs_in made.now) }
@@ -150,7 +151,7 @@ fn push_operation(
     requires few { start.node + before_last_of made.now + 1 < 2 ^ 32 }
     requires input { input ≡ source_number program.now.script start.source }
     ensures { OnOk result (nodes.new ≡ nodes.old
-        ++ made_nodes program.now.script (spec.place_in places.now) start.origin start.source
+        ++ made_nodes program.now.script (spec.place_at_number places.now) start.origin start.source
         start.node made.now) }
 {
     match made {
@@ -206,7 +207,7 @@ fn push_call(
 ) -> Result<(), AllocError>
     ensures { OnOk result (nodes.new ≡ nodes.old
         ++ entry start.node
-        (call_in program.now.script first function (spec.place_in places.now source)) ∷ []) }
+        (call_in program.now.script first function (spec.place_at_number places.now source)) ∷ []) }
 {
     let input = place_in(places, source);
     let node = call(alloc, program, first, function, input)?;
@@ -221,7 +222,8 @@ fn push_groups(
     nodes: &mut Pile<Entry>,
 ) -> Result<(), AllocError>
     ensures { OnOk result (nodes.new ≡ nodes.old
-        ++ entry start.node (Gbk (spec.place_in places.now source) start.origin true None) ∷ []) }
+        ++ entry start.node (Gbk (spec.place_at_number places.now source) start.origin true None) ∷
+        []) }
 {
     let input = place_in(places, source);
     push_node(
@@ -247,7 +249,8 @@ fn push_combine(
 ) -> Result<(), AllocError>
     ensures { OnOk result (nodes.new ≡ nodes.old
         ++ entry start.node
-        (step_node Last start.origin (does.Combine by) (spec.place_in places.now source)) ∷ []) }
+        (step_node Last start.origin (does.Combine by) (spec.place_at_number places.now source)) ∷
+        []) }
 {
     let input = place_in(places, source);
     let combined = Does::Combine(by);
@@ -272,7 +275,7 @@ fn push_flatten(
     nodes: &mut Pile<Entry>,
 ) -> Result<(), AllocError>
     ensures { OnOk result (nodes.new ≡ nodes.old
-        ++ entry start.node (Flatten (map (spec.place_in places.now) sources.now)) ∷ []) }
+        ++ entry start.node (Flatten (map (spec.place_at_number places.now) sources.now)) ∷ []) }
 {
     let inputs = places_in(alloc, places, sources)?;
     push_node(nodes, start.node, Node::Flatten(inputs))
@@ -281,7 +284,8 @@ fn push_flatten(
 /// The places of the collections that are written out.
 fn outputs_of(alloc: Global, program: &Program, places: &[Place]) -> Result<Pile<Place>, AllocError>
     ensures { IfOk result (λ outputs. outputs
-        ≡ map (λ output. spec.place_in places.now output.1.reads) program.now.script.outputs) }
+        ≡ map (λ output. spec.place_at_number places.now output.1.reads)
+        program.now.script.outputs) }
 {
     let mut outputs = Pile::new(alloc);
     for number in 0..program.output_count() {

@@ -2,7 +2,7 @@
 ghost use Rattle.std.specs.Prelude.{◌≡◌, ◌-◌, ◌<◌, ◌++◌, IfOk, length, slice_get};
 ghost use Rattle.std.specs.Option.{option_map};
 ghost use Rattle.graph_build.specs.Built as spec;
-ghost use Rattle.graph_build.specs.Calls.{call_built, first_emitted, kept_from};
+ghost use Rattle.graph_build.specs.Calls.{call_built, first_emitted, numbers_kept_from};
 
 use crate::numbers::number_of;
 use crate::outputs::{emitted_at, kept_at, kept_count, other_names};
@@ -90,9 +90,9 @@ fn built_in_call(
 /// What is built at that place of the names from one number up to another, of which so many are
 /// kept.
 fn named(program: &Program, first: usize, end: usize, kept: u32, place: usize) -> Option<usize>
-    requires { kept ≡ length (kept_from program.now.script first (end - first)) }
+    requires { kept ≡ length (numbers_kept_from program.now.script first (end - first)) }
     ensures { result ≡ slice_get
-        (kept_from program.now.script first (end - first)
+        (numbers_kept_from program.now.script first (end - first)
         ++ first_emitted program.now.script first (end - first)) place }
 {
     let count = kept as usize;
@@ -116,7 +116,7 @@ fn name_of(name: Option<usize>) -> Result<Option<u32>, AllocError>
 
 /// The kept name of that place among the kept ones from one number up to another.
 fn nth_kept(program: &Program, first: usize, end: usize, place: usize) -> Option<usize>
-    ensures { result ≡ slice_get (kept_from program.now.script first (end - first)) place }
+    ensures { result ≡ slice_get (numbers_kept_from program.now.script first (end - first)) place }
 {
     let mut left = place;
     for name in first..end {

@@ -84,7 +84,7 @@ pub(crate) fn call(
 
 /// The groups behind a step of a collection.
 pub(crate) fn groups(origin: u32, input: Place) -> Node
-    ensures { result ≡ spec.groups origin input }
+    ensures { result ≡ spec.gbk_of origin input }
 {
     Node::Gbk {
         input,

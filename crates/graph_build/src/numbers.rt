@@ -87,7 +87,7 @@ fn push_giving(
         ≡ giving.old.items
         ++ spec.last_node next (built_in program.now.script number) ∷ []) }
     ensures next { IfOk result (λ behind.
-        behind ≡ spec.behind next (built_in program.now.script number)) }
+        behind ≡ spec.number_past next (built_in program.now.script number)) }
 {
     match built_at(program, number)? {
         None => {

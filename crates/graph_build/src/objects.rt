@@ -1,7 +1,7 @@
 // Objects, and what is made beside one: nodes that take collections whole.
 ghost use Rattle.std.specs.Prelude.{◌≡◌, ◌+◌, ◌<◌, ◌^◌, [], ◌∷◌, ◌++◌, IfOk, OnOk, map};
 ghost use Rattle.exec_graph.specs.declared.graph.Act.TheVariants.{Operate, SideInput, Singleton};
-ghost use Rattle.graph_build.specs.Graphs.{place_in as place_of};
+ghost use Rattle.graph_build.specs.Graphs.{place_at_number as place_of};
 ghost use Rattle.graph_build.specs.Nodes as spec;
 
 use crate::nodes::push_node;

@@ -1,7 +1,7 @@
 // Operations that are made of several nodes: counts, joins and greatest members.
 ghost use Rattle.std.specs.Prelude.{◌≡◌, ◌+◌, ◌<◌, ◌^◌, [], ◌∷◌, ◌++◌, IfOk, OnOk};
 ghost use Rattle.exec_graph.specs.declared.graph.Node.TheVariants.{Flatten};
-ghost use Rattle.graph_build.specs.Graphs.{place_in as place_of};
+ghost use Rattle.graph_build.specs.Graphs.{place_at_number as place_of};
 ghost use Rattle.graph_build.specs.Nodes as spec;
 
 use crate::nodes::{Turn, groups, push_node, push_step};

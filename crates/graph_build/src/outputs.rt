@@ -42,7 +42,7 @@ pub(crate) fn emitted_at(program: &Program, number: usize) -> bool
 
 /// Whether there is a collection of a number that is needed and kept.
 pub(crate) fn kept_at(program: &Program, number: usize) -> bool
-    ensures { result ≡ spec.kept_at program.now.script number }
+    ensures { result ≡ spec.is_kept_at program.now.script number }
 {
     match wanted_at(program, number) {
         Some(Made::Saved { .. }) => true,
@@ -53,7 +53,7 @@ pub(crate) fn kept_at(program: &Program, number: usize) -> bool
 /// How many collections from one number up to another are needed and kept.
 pub(crate) fn kept_count(program: &Program, first: usize, end: usize) -> Result<u32, AllocError>
     ensures { IfOk result (λ count. count
-        ≡ length (spec.kept_from program.now.script first (end - first))) }
+        ≡ length (spec.numbers_kept_from program.now.script first (end - first))) }
 {
     let mut count = 0;
     for name in first..end {

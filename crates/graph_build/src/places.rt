@@ -1,6 +1,6 @@
 // The places of collections in the graph.
 ghost use Rattle.std.specs.Prelude.{◌≡◌, ◌+◌, ◌<◌, ◌^◌, [], ◌∷◌, Some, IfOk, if◌then◌else◌, length, map, slice_index};
-ghost use Rattle.graph_build.specs.Calls.{emitted_as, is_kept};
+ghost use Rattle.graph_build.specs.Calls.{emitted_as, is_saved_made};
 ghost use Rattle.graph_build.specs.Graphs as spec;
 ghost use Rattle.graph_build.specs.Wanted.{wanted_at as wanted_in};
 
@@ -67,7 +67,7 @@ fn place_of(
 ) -> Result<Place, AllocError>
     requires { first + it.output < 2 ^ 64 }
     ensures { IfOk result (λ place. place
-        ≡ (if is_kept (Some made.now)
+        ≡ (if is_saved_made (Some made.now)
         then spec.kept_place program.now.script giving.now first it.output
         else spec.call_place program.now.script giving.now first it.function it.output)) }
 {
@@ -125,7 +125,7 @@ fn last_node(giving: &[u32], number: usize) -> u32
 
 /// The place of the collection of a number, by those of all.
 pub(crate) fn place_in(places: &[Place], number: usize) -> Place
-    ensures { result ≡ spec.place_in places.now number }
+    ensures { result ≡ spec.place_at_number places.now number }
 {
     match places.get(number) {
         Some(place) => *place,
@@ -139,7 +139,7 @@ pub(crate) fn places_in(
     places: &[Place],
     sources: &[usize],
 ) -> Result<Pile<Place>, AllocError>
-    ensures { IfOk result (λ inputs. inputs ≡ map (spec.place_in places.now) sources.now) }
+    ensures { IfOk result (λ inputs. inputs ≡ map (spec.place_at_number places.now) sources.now) }
 {
     let mut inputs = Pile::new(alloc);
     for source in sources {

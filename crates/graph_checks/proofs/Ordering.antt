@@ -3,7 +3,7 @@ use Rattle.std.proofs.Common.{◌≡◌, ℕ, ◌+◌, Bool, true, false, ◌&&�
 use Rattle.std.proofs.lemmas.Bool.{eqb-true, eq-eqb, false≢true}
 use Rattle.std.specs.List.{list_any}
 use Rattle.flume_value.proofs.BoolLemmas.{both_true, and_both}
-use Rattle.exec_graph.specs.Forests.{Label, Forest, Bare, Grow, after, after_out, new_out, numbered, with_out}
+use Rattle.exec_graph.specs.Forests.{Label, Forest, Bare, Grow, next_after, after_out, new_out, numbered, with_out}
 use Rattle.exec_graph.specs.Meaning.{has_out, is_out, place}
 use Rattle.exec_graph.specs.Readers.{is_read}
 use Rattle.exec_graph.specs.declared.graph.Graph.{Graph}
@@ -23,13 +23,13 @@ after-append : (n : ℕ) (xs ys : List Spot)
 after-append n [] ys = refl
 after-append n (x ∷ xs) ys = after-append (after_out n x.out) xs ys
 
-after_is : (n : ℕ) (f : Forest) → after_spots n (spots f) ≡ after n f
+after_is : (n : ℕ) (f : Forest) → after_spots n (spots f) ≡ next_after n f
 after_is n Bare = refl
 after_is n (Grow l kids rest) =
     let a : ℕ = after_out n l.out in
     after-append a (spots kids) (spots rest)
     ∙ ap (λ m. after_spots m (spots rest)) (after_is a kids)
-    ∙ after_is (after a kids) rest
+    ∙ after_is (next_after a kids) rest
 
 order-append : (n : ℕ) (xs ys : List Spot)
     → in_order n (xs ++ ys) ≡ (in_order n xs && in_order (after_spots n xs) ys)
@@ -47,7 +47,7 @@ order-append n (x ∷ xs) ys = by (is_next n x.out) (order-append (after_out n x
 order_parts : (n : ℕ) (l : Label) (kids rest : Forest)
     → in_order n (spots (Grow l kids rest)) ≡ (is_next n l.out
     && (in_order (after_out n l.out) (spots kids)
-    && in_order (after (after_out n l.out) kids) (spots rest)))
+    && in_order (next_after (after_out n l.out) kids) (spots rest)))
 order_parts n l kids rest =
     let a : ℕ = after_out n l.out in
     ap (λ b. is_next n l.out && b) (order-append a (spots kids) (spots rest)
@@ -66,11 +66,11 @@ numbered_from n Bare h = refl
 numbered_from n (Grow l kids rest) h =
     let a : ℕ = after_out n l.out in
     let p = both_true (is_next n l.out)
-    (in_order a (spots kids) && in_order (after a kids) (spots rest))
+    (in_order a (spots kids) && in_order (next_after a kids) (spots rest))
     (sym (order_parts n l kids rest) ∙ h) in
-    let q = both_true (in_order a (spots kids)) (in_order (after a kids) (spots rest)) p.1 in
+    let q = both_true (in_order a (spots kids)) (in_order (next_after a kids) (spots rest)) p.1 in
     λ i. Grow (with_out (next_is n l.out p.0 i) l) (numbered_from a kids q.0 i)
-    (numbered_from (after a kids) rest q.1 i)
+    (numbered_from (next_after a kids) rest q.1 i)
 
 abbrev label_of : Forest → Option (Option ℕ)
 label_of Bare = None
@@ -92,9 +92,9 @@ numbered_to n (Grow l kids rest) h =
     let same : new_out n l.out ≡ l.out = cc in
     order_parts n l kids rest
     ∙ and_both (is_next n l.out)
-    (in_order a (spots kids) && in_order (after a kids) (spots rest)) (is_next_to n l.out same)
-    (and_both (in_order a (spots kids)) (in_order (after a kids) (spots rest))
-    (numbered_to a kids (ap kids_of h)) (numbered_to (after a kids) rest (ap rest_of h)))
+    (in_order a (spots kids) && in_order (next_after a kids) (spots rest)) (is_next_to n l.out same)
+    (and_both (in_order a (spots kids)) (in_order (next_after a kids) (spots rest))
+    (numbered_to a kids (ap kids_of h)) (numbered_to (next_after a kids) rest (ap rest_of h)))
 
 -- ---- what is read
 out_read_at : (g : Graph) (n j : ℕ) (o : Option ℕ) → is_out o j ≡ true → out_read g n o ≡ true

@@ -9,7 +9,7 @@ use Rattle.exec_graph.specs.declared.graph.Node.{Node}
 use Rattle.exec_graph.specs.declared.graph.Node.TheVariants.{Pdo}
 use Rattle.exec_graph.specs.declared.graph.Place.{Place}
 use Rattle.graph_laws.specs.Joining.{reread_entry, set_node}
-use Rattle.graph_laws.specs.Kids.{kept_by, moved_out, number_in, refitted, renewed, same_number}
+use Rattle.graph_laws.specs.Kids.{kept_by, moved_out, number_after, refitted, renewed, same_number}
 use Rattle.graph_laws.proofs.Reading.{any_set}
 use Rattle.graph_laws.proofs.Wellness.{mapped, node_at-map}
 use Rattle.graph_walks.specs.Outs.{outs, place_of}
@@ -51,10 +51,10 @@ renewed_by g n c f roots flags kept table read is_roots is_kept is_table =
     let k : Forest = kept_by keep f in
     let same : kept_by flags f ≡ k = kept_same flags keep read f in
     ap (λ (h : Forest). refitted g n c h table) (is_roots ∙ ap (numbered 0) same)
-    ∙ refitted_alike g n c (numbered 0 k) table (λ j. number_in 0 k j)
+    ∙ refitted_alike g n c (numbered 0 k) table (λ j. number_after 0 k j)
     (λ j. is_table j ∙ ap (λ ks. place_of ks j) (is_kept ∙ ap outs same)
     ∙ sym (number_place 0 k j ∙ from_none (place_of (outs k) j)))
-    ∙ sym (refitted_twice g n c k (numbered 0 k) (λ j. number_in 0 k j))
+    ∙ sym (refitted_twice g n c k (numbered 0 k) (λ j. number_after 0 k j))
   where
     from_none : (m : ℕ) → 0 + m ≡ m
     from_none m = omega arith

@@ -11,7 +11,7 @@ use Rattle.exec_graph.specs.declared.graph.Node.TheVariants.{Source, Flatten, Pd
 use Rattle.exec_graph.specs.declared.graph.Place.{Place}
 use Rattle.graph_laws.specs.Joining.{set_node, without}
 use Rattle.graph_states.specs.States.{taken_in}
-use Rattle.graph_joins.specs.Counts.{one_if, readings, times, times_in}
+use Rattle.graph_joins.specs.Counts.{one_if, readings, times_read, times_in}
 
 -- ---- it is read where it is read once or more
 
@@ -25,11 +25,11 @@ one_positive : (b : Bool) → b ≡ ltb 0 (one_if b)
 one_positive true = refl
 one_positive false = refl
 
-among_times : (c : Place) (ds : List Place) → among c ds ≡ ltb 0 (times c ds)
+among_times : (c : Place) (ds : List Place) → among c ds ≡ ltb 0 (times_read c ds)
 among_times c [] = refl
 among_times c (d ∷ ds) =
     ap₂ (λ (a b : Bool). a || b) (one_positive (same_place c d)) (among_times c ds)
-    ∙ or_sum (one_if (same_place c d)) (times c ds)
+    ∙ or_sum (one_if (same_place c d)) (times_read c ds)
 
 or_right_false : (b : Bool) → b ≡ (b || false)
 or_right_false true = refl
@@ -47,28 +47,28 @@ any_times c [] = refl
 any_times c (e ∷ es) =
     ap₂ (λ (a b : Bool). a || b) (uses_reads c e.node ∙ among_times c (reads e.node))
     (any_times c es)
-    ∙ or_sum (times c (reads e.node)) (times_in c es)
+    ∙ or_sum (times_read c (reads e.node)) (times_in c es)
 
 pub read_times : (g : Graph) (c : Place) → is_read g c ≡ ltb 0 (readings g c)
 read_times g c =
     ap₂ (λ (a b : Bool). a || b) (any_times c g.nodes) (among_times c g.outputs)
-    ∙ or_sum (times_in c g.nodes) (times c g.outputs)
+    ∙ or_sum (times_in c g.nodes) (times_read c g.outputs)
 
 -- ---- a node that is gone, and one that is changed
 
 times_without : (c : Place) (es : List Entry) (q : ℕ) (x : Node) → node_at es q ≡ Some x
-    → times_in c es ≡ times c (reads x) + times_in c (without es q)
+    → times_in c es ≡ times_read c (reads x) + times_in c (without es q)
 times_without c [] q x h = let bad : ⊥ = cc in absurd bad
 times_without c (e ∷ es) q x h = by (eqb e.number q) h (times_without c es q x)
   where
     by : (b : Bool) → cond b (Some e.node) (node_at es q) ≡ Some x
         → (node_at es q ≡ Some x
-        → times_in c es ≡ times c (reads x) + times_in c (without es q))
-        → times c (reads e.node) + times_in c es
-        ≡ times c (reads x) + times_in c (cond b es (e ∷ without es q))
+        → times_in c es ≡ times_read c (reads x) + times_in c (without es q))
+        → times_read c (reads e.node) + times_in c es
+        ≡ times_read c (reads x) + times_in c (cond b es (e ∷ without es q))
     by true i f =
         let same : e.node ≡ x = cc in
-        ap (λ (y : Node). times c (reads y) + times_in c es) same
+        ap (λ (y : Node). times_read c (reads y) + times_in c es) same
     by false i f = let r = f i in omega arith
 
 times_set : (c : Place) (es : List Entry) (p : ℕ) (x y : Node) → node_at es p ≡ Some x
@@ -80,12 +80,12 @@ times_set c (d ∷ es) p x y h e = by (eqb d.number p) h (times_set c es p x y)
         → (node_at es p ≡ Some x → reads x ≡ reads y
         → times_in c (set_node es p y) ≡ times_in c es)
         → times_in c (cond b (record { number = p; node = y } ∷ es) (d ∷ set_node es p y))
-        ≡ times c (reads d.node) + times_in c es
+        ≡ times_read c (reads d.node) + times_in c es
     by true i f =
         let same : d.node ≡ x = cc in
-        ap (λ (l : List Place). times c l + times_in c es) (sym e)
-        ∙ ap (λ (z : Node). times c (reads z) + times_in c es) (sym same)
-    by false i f = ap (λ (n : ℕ). times c (reads d.node) + n) (f i e)
+        ap (λ (l : List Place). times_read c l + times_in c es) (sym e)
+        ∙ ap (λ (z : Node). times_read c (reads z) + times_in c es) (sym same)
+    by false i f = ap (λ (n : ℕ). times_read c (reads d.node) + n) (f i e)
 
 -- a Pdo that is taken in reads no more what it read
 pub readings_taken : (h : Graph) (p q : ℕ) (c d : Place) (f i new : Forest) (v : Place)

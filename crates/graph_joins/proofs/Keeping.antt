@@ -16,7 +16,7 @@ use Rattle.exec_graph.proofs.Bools.{not_true}
 use Rattle.exec_graph.proofs.Entries.{all_found}
 use Rattle.exec_graph.proofs.Soundness.{IsSound-ok}
 use Rattle.graph_laws.specs.Joining.{beside, grafted}
-use Rattle.graph_laws.specs.Kids.{kept_by, number_in}
+use Rattle.graph_laws.specs.Kids.{kept_by, number_after}
 use Rattle.graph_laws.proofs.Changes.{node_at-without_other}
 use Rattle.graph_states.specs.of_graph_names.Names.{named, named_entry, unnamed}
 use Rattle.graph_states.specs.of_graph_rewrites.Rewrites.{CanBeKid, CanBeSibling, after_kid, after_sibling, forest_at, input_at}
@@ -28,9 +28,9 @@ use Rattle.graph_states.proofs.Made.{kid_joined, sibling_joined}
 use Rattle.graph_states.proofs.Named.{graph_again}
 use Rattle.graph_states.proofs.Siblings as siblings
 use Rattle.graph_states.proofs.Standing.{named_stands, same_self}
-use Rattle.graph_states.specs.of_pardo_fuse.Fusing.{finished, holds_out}
+use Rattle.graph_states.specs.of_pardo_fuse.Fusing.{finished_entry, holds_out}
 use Rattle.graph_states.specs.of_pardo_fuse.SingleFusing.{new_place}
-use Rattle.graph_joins.specs.Counts.{HasCounts, count_in, one_if, readings}
+use Rattle.graph_joins.specs.Counts.{HasCounts, count_at_place, one_if, readings}
 use Rattle.graph_joins.specs.Lists.{HasLists}
 use Rattle.graph_joins.specs.Sessions.{ArePair, IsReader, IsSession}
 use Rattle.graph_joins.specs.declared.session.Joins.{Joins}
@@ -42,12 +42,12 @@ use Rattle.graph_walks.specs.Outs.{outs}
 -- ---- numbers ascend under names too
 
 all_back : (r : Place → Place) (n : ℕ) (es : List Entry)
-    → AllByRecursion (λ d. n < d.number) (map (finished r) es)
+    → AllByRecursion (λ d. n < d.number) (map (finished_entry r) es)
     → AllByRecursion (λ d. n < d.number) es
 all_back r n [] a = tt
 all_back r n (d ∷ ds) a = (a.0, all_back r n ds a.1)
 
-ascends_back : (r : Place → Place) (es : List Entry) → Ascends (map (finished r) es)
+ascends_back : (r : Place → Place) (es : List Entry) → Ascends (map (finished_entry r) es)
     → Ascends es
 ascends_back r [] a = tt
 ascends_back r (e ∷ es) a = (all_back r e.number es a.0, ascends_back r es a.1)
@@ -88,7 +88,7 @@ begun_same g h ok e = ap unnamed e ∙ graph_again g ok
 
 pub reads_once : (j : Joins) (p q : ℕ) (c d : Place) (f i : Forest) → IsSession j → p < q
     → node_at j.graph.nodes p ≡ Some (Pdo c f) → node_at j.graph.nodes q ≡ Some (Pdo d i)
-    → d.out < 2 ^ 32 → 0 < count_in j.tables.counts d
+    → d.out < 2 ^ 32 → 0 < count_at_place j.tables.counts d
 reads_once j p q c d f i s less at bt lt =
     let h : Graph = j.graph in
     let differ : p ≡ q → ⊥ = λ e. omega arith in
@@ -96,7 +96,7 @@ reads_once j p q c d f i s less at bt lt =
     readings_taken h p q c d f i Bare d (node_at-without_other h.nodes q p (Pdo c f) differ at) bt
     in
     let one : one_if (same_place d d) ≡ 1 = ap one_if (same_self d) in
-    let n : count_in j.tables.counts d ≡ readings h d = s.counts d lt in
+    let n : count_at_place j.tables.counts d ≡ readings h d = s.counts d lt in
     omega arith
 
 -- what is counted off is read once less
@@ -104,14 +104,14 @@ counted : (j k : Joins) (p q : ℕ) (c d : Place) (f i new : Forest) → IsSessi
     → (p ≡ q → ⊥) → node_at j.graph.nodes p ≡ Some (Pdo c f)
     → node_at j.graph.nodes q ≡ Some (Pdo d i)
     → ((v : Place) → v.out < 2 ^ 32
-    → count_in j.tables.counts v ≡ one_if (same_place v d) + count_in k.tables.counts v)
+    → count_at_place j.tables.counts v ≡ one_if (same_place v d) + count_at_place k.tables.counts v)
     → HasCounts k.tables.counts (taken_in j.graph p q c new)
 counted j k p q c d f i new s differ at bt off v lt =
     let h : Graph = j.graph in
     let r : readings h v ≡ one_if (same_place v d) + readings (taken_in h p q c new) v =
     readings_taken h p q c d f i new v (node_at-without_other h.nodes q p (Pdo c f) differ at) bt
     in
-    let n : count_in j.tables.counts v ≡ readings h v = s.counts v lt in
+    let n : count_at_place j.tables.counts v ≡ readings h v = s.counts v lt in
     let m = off v lt in
     omega arith
 
@@ -139,8 +139,8 @@ module _ (j k : Joins) (p q : ℕ) (s : IsSession j) (pair : ArePair j.graph p q
   pair_made = ap unnamed e ∙ sym paired.1
 
   pub pair_session : ((v : Place) → v.out < 2 ^ 32
-      → count_in j.tables.counts v
-      ≡ one_if (same_place v (input_at u p)) + count_in k.tables.counts v)
+      → count_at_place j.tables.counts v
+      ≡ one_if (same_place v (input_at u p)) + count_at_place k.tables.counts v)
       → ((n : ℕ) → get nat_eq k.tables.lists n
       ≡ cond (eqb n p) None (cond (eqb n q) None (get nat_eq j.tables.lists n))) → IsSession k
   pair_session off told = record {
@@ -186,8 +186,9 @@ module _ (j k : Joins) (p m q n : ℕ) (keep : Bool) (s : IsSession j)
     (e : k.graph ≡ taken_in j.graph p q (input_at j.graph p) (kept_by (all_but n keep)
     (grafted n (forest_at j.graph q) (forest_at j.graph p))))
     (off : (v : Place) → v.out < 2 ^ 32
-    → count_in j.tables.counts v ≡ one_if (same_place v (place n 0)) + count_in k.tables.counts v)
-    (left : keep ≡ ltb 0 (count_in k.tables.counts (place n 0))) where
+    → count_at_place j.tables.counts v
+    ≡ one_if (same_place v (place n 0)) + count_at_place k.tables.counts v)
+    (left : keep ≡ ltb 0 (count_at_place k.tables.counts (place n 0))) where
   abbrev h : Graph
   h = j.graph
 
@@ -214,8 +215,8 @@ module _ (j k : Joins) (p m q n : ℕ) (keep : Bool) (s : IsSession j)
       (kept_by (all_but n (still_read h p q c n)) (grafted n i f))
   is = e ∙ ap (λ (b : Bool). taken_in h p q c (kept_by (all_but n b) (grafted n i f))) still
 
-  made : CanBeKid (unnamed h) p (number_in 0 f n) q
-      × (after_kid (unnamed h) p (number_in 0 f n) q ≡ unnamed (taken_in h p q c
+  made : CanBeKid (unnamed h) p (number_after 0 f n) q
+      × (after_kid (unnamed h) p (number_after 0 f n) q ≡ unnamed (taken_in h p q c
       (kept_by (all_but n (still_read h p q c n)) (grafted n i f))))
   made =
       kid_joined h p q n c f i s.stands (IsSound-ok (unnamed h) s.ok) r.less r.keeper r.other r.has

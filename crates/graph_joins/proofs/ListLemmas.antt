@@ -9,7 +9,7 @@ use Rattle.exec_graph.specs.declared.graph.Node.TheVariants.{Pdo}
 use Rattle.exec_graph.specs.declared.graph.Place.{Place}
 use Rattle.flatten_sink.specs.of_sink_laws.Chain.{forest_of}
 use Rattle.graph_laws.specs.Joining.{set_node, without}
-use Rattle.graph_laws.specs.Kids.{number_in}
+use Rattle.graph_laws.specs.Kids.{number_after}
 use Rattle.graph_laws.proofs.Changes.{node_at-without_other}
 use Rattle.graph_laws.proofs.ObjectNodes.{node_without}
 use Rattle.graph_laws.proofs.Wellness.{node_at-set_same}
@@ -93,7 +93,7 @@ pub known_is : (bare : Bool) (i : ℕ) (k : Bool) (n : ℕ) (f g new : Forest)
     (a b : Option (List ℕ)) → ((xs : List ℕ) → a ≡ Some xs → xs ≡ outs f)
     → ((ys : List ℕ) → b ≡ Some ys → ys ≡ outs g)
     → (bare ≡ true → outs new ≡ spliced n k (outs g) (outs f))
-    → has_out n f ≡ true → number_in 0 f n ≡ i
+    → has_out n f ≡ true → number_after 0 f n ≡ i
     → (ns : List ℕ) → known bare (joined i k a b) ≡ Some ns → ns ≡ outs new
 known_is false i k n f g new a b xs ys is has at ns h = let bad : ⊥ = cc in absurd bad
 known_is true i k n f g new None b xs ys is has at ns h = let bad : ⊥ = cc in absurd bad

@@ -4,7 +4,7 @@ use Rattle.std.proofs.lemmas.Bool.{eq-eqb, eqb-false, eqb-true, false≢true, ne
 use Rattle.std.specs.List.{flat_map}
 use Rattle.exec_graph.specs.Forests.{Branch, Forest, Bare, Grow, grown}
 use Rattle.exec_graph.specs.Meaning.{OutsDiffer, has_out, is_out}
-use Rattle.graph_laws.specs.Kids.{number_in}
+use Rattle.graph_laws.specs.Kids.{number_after}
 use Rattle.graph_walks.specs.Outs.{out_list, outs, place_of}
 use Rattle.graph_walks.specs.inner.Numbering.{branches_outs}
 use Rattle.graph_walks.proofs.InPlace.{IsSeen, none_left, seen_here}
@@ -156,12 +156,12 @@ kth_at (m ∷ ns) k n a h = by (eqb k 0) refl h (kth_at ns (k - 1) n a.1)
     by false z e f = later (eqb m n) refl z (f e)
 
 pub kth_is : (f : Forest) (k n : ℕ) → OutsDiffer f → is_kth (outs f) k n ≡ true
-    → (has_out n f ≡ true) × (number_in 0 f n ≡ k)
+    → (has_out n f ≡ true) × (number_after 0 f n ≡ k)
 kth_is f k n d h =
     let there = kth_at (outs f) k n (outs_apart f d) h in
     let a = number_place 0 f n in
     let b : place_of (outs f) n ≡ k = there.place in
-    let e : number_in 0 f n ≡ k = omega arith in
+    let e : number_after 0 f n ≡ k = omega arith in
     (sym (holds_outs f n) ∙ there.among, e)
 
 -- and the other way round
@@ -175,11 +175,11 @@ kth_placed (m ∷ ns) n h = by (eqb m n) refl h (kth_placed ns n)
     by true e r f = e
     by false e r f = kth_next m ns (place_of ns n) n ∙ f r
 
-pub is_told_kth : (f : Forest) (k n : ℕ) → has_out n f ≡ true → number_in 0 f n ≡ k
+pub is_told_kth : (f : Forest) (k n : ℕ) → has_out n f ≡ true → number_after 0 f n ≡ k
     → is_kth (outs f) k n ≡ true
 is_told_kth f k n has number =
     let a = number_place 0 f n in
-    let b : number_in 0 f n ≡ k = number in
+    let b : number_after 0 f n ≡ k = number in
     let e : place_of (outs f) n ≡ k = omega arith in
     subst (λ (i : ℕ). is_kth (outs f) i n ≡ true) e
     (kth_placed (outs f) n (holds_outs f n ∙ has))

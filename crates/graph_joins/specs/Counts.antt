@@ -11,25 +11,25 @@ use Rattle.exec_graph.specs.declared.graph.Place.{Place}
 abbrev pub one_if : Bool → ℕ
 one_if b = cond b 1 0
 
-abbrev pub times : Place → List Place → ℕ
-times c [] = 0
-times c (d ∷ ds) = one_if (same_place c d) + times c ds
+abbrev pub times_read : Place → List Place → ℕ
+times_read c [] = 0
+times_read c (d ∷ ds) = one_if (same_place c d) + times_read c ds
 
 abbrev pub times_in : Place → List Entry → ℕ
 times_in c [] = 0
-times_in c (e ∷ es) = times c (reads e.node) + times_in c es
+times_in c (e ∷ es) = times_read c (reads e.node) + times_in c es
 
 -- by nodes and by script outputs
 abbrev pub readings : Graph → Place → ℕ
-readings g c = times_in c g.nodes + times c g.outputs
+readings g c = times_in c g.nodes + times_read c g.outputs
 
 abbrev pub or_zero : Option ℕ → ℕ
 or_zero None = 0
 or_zero (Some n) = n
 
-abbrev pub count_in : {S : Type 0} → HashMap ℕ ℕ S → Place → ℕ
-count_in m c = or_zero (get nat_eq m (code c))
+abbrev pub count_at_place : {S : Type 0} → HashMap ℕ ℕ S → Place → ℕ
+count_at_place m c = or_zero (get nat_eq m (code c))
 
 -- the map tells it of each collection
 abbrev pub HasCounts : {S : Type 0} → HashMap ℕ ℕ S → Graph → Type 0
-HasCounts m g = (c : Place) → c.out < 2 ^ 32 → count_in m c ≡ readings g c
+HasCounts m g = (c : Place) → c.out < 2 ^ 32 → count_at_place m c ≡ readings g c

@@ -4,7 +4,7 @@ use Rattle.exec_graph.specs.Meaning.{has_out, node_at, place}
 use Rattle.exec_graph.specs.Wellformed.{IsGraphOk}
 use Rattle.exec_graph.specs.declared.graph.Graph.{Graph}
 use Rattle.exec_graph.specs.declared.graph.Node.TheVariants.{Pdo}
-use Rattle.graph_laws.specs.Kids.{number_in}
+use Rattle.graph_laws.specs.Kids.{number_after}
 use Rattle.graph_states.specs.of_graph_names.Names.{unnamed}
 use Rattle.graph_states.specs.of_graph_rewrites.Rewrites.{CanBeSibling, forest_at, input_at}
 use Rattle.graph_states.specs.States.{Stands}
@@ -31,4 +31,4 @@ pub record IsReader (h : Graph) (p k q n : ℕ) : Type 0 where
   pub keeper : node_at h.nodes p ≡ Some (Pdo (input_at h p) (forest_at h p))
   pub other : node_at h.nodes q ≡ Some (Pdo (place n 0) (forest_at h q))
   pub has : has_out n (forest_at h p) ≡ true
-  pub number : number_in 0 (forest_at h p) n ≡ k
+  pub number : number_after 0 (forest_at h p) n ≡ k

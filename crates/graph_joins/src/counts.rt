@@ -22,8 +22,8 @@ pub(crate) fn counts_of(alloc: Global, graph: &Graph) -> Result<HashMap<u64, u32
 }
 
 fn count_places(places: &[Place], counts: &mut HashMap<u64, u32>) -> Result<(), AllocError>
-    ensures { OnOk result ((c : GhostPlace) → c.out < 2 ^ 32 → spec.count_in counts.new c
-        ≡ spec.count_in counts.old c + spec.times c places.now) }
+    ensures { OnOk result ((c : GhostPlace) → c.out < 2 ^ 32 → spec.count_at_place counts.new c
+        ≡ spec.count_at_place counts.old c + spec.times_read c places.now) }
 {
     for c in places {
         count_one(*c, counts)?;
@@ -34,8 +34,8 @@ fn count_places(places: &[Place], counts: &mut HashMap<u64, u32>) -> Result<(), 
 /// The collection is read once more; what 32 bits do not count is more than memory holds.
 #[tactic(auto, using(exec_graph::proofs::Coding::code_same))]
 fn count_one(c: Place, counts: &mut HashMap<u64, u32>) -> Result<(), AllocError>
-    ensures { OnOk result ((d : GhostPlace) → d.out < 2 ^ 32 → spec.count_in counts.new d
-        ≡ spec.count_in counts.old d + spec.one_if (same_place d c)) }
+    ensures { OnOk result ((d : GhostPlace) → d.out < 2 ^ 32 → spec.count_at_place counts.new d
+        ≡ spec.count_at_place counts.old d + spec.one_if (same_place d c)) }
 {
     let now = count_at(counts, c).checked_add(1).ok_or(AllocError)?;
     counts.insert(code_of(c), now)?;
@@ -45,9 +45,9 @@ fn count_one(c: Place, counts: &mut HashMap<u64, u32>) -> Result<(), AllocError>
 /// The collection is read once less.
 #[tactic(auto, using(exec_graph::proofs::Coding::code_same))]
 pub(crate) fn count_off(c: Place, counts: &mut HashMap<u64, u32>) -> Result<(), AllocError>
-    requires { 0 < spec.count_in counts.old c }
-    ensures { OnOk result ((d : GhostPlace) → d.out < 2 ^ 32 → spec.count_in counts.old d
-        ≡ spec.one_if (same_place d c) + spec.count_in counts.new d) }
+    requires { 0 < spec.count_at_place counts.old c }
+    ensures { OnOk result ((d : GhostPlace) → d.out < 2 ^ 32 → spec.count_at_place counts.old d
+        ≡ spec.one_if (same_place d c) + spec.count_at_place counts.new d) }
 {
     let now = count_at(counts, c) - 1;
     counts.insert(code_of(c), now)?;
@@ -56,7 +56,7 @@ pub(crate) fn count_off(c: Place, counts: &mut HashMap<u64, u32>) -> Result<(), 
 
 /// How often the collection is read.
 pub(crate) fn count_at(counts: &HashMap<u64, u32>, c: Place) -> u32
-    ensures { result ≡ spec.count_in counts.now c }
+    ensures { result ≡ spec.count_at_place counts.now c }
 {
     match counts.get(&code_of(c)) {
         Some(count) => *count,

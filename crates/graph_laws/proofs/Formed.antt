@@ -13,7 +13,7 @@ use Rattle.exec_graph.specs.Meaning.{IsSound, OutsDiffer, node_at, place}
 use Rattle.exec_graph.specs.Readers.{is_read}
 use Rattle.exec_graph.specs.Wellformed.{IsForestOk, IsGraphOk, IsNodeOk}
 use Rattle.exec_graph.proofs.Solving.{each_found}
-use Rattle.graph_laws.specs.Kids.{kept_by, number_in, refitted, renewed, same_number}
+use Rattle.graph_laws.specs.Kids.{kept_by, number_after, refitted, renewed, same_number}
 use Rattle.graph_laws.proofs.Nearly.{IsNear, NearNode, near_refitted, read_to}
 use Rattle.graph_laws.proofs.Roots.{numbered_twice, root_kept, root_numbered, steps_kept, steps_numbered, was_kept, was_number}
 
@@ -69,7 +69,7 @@ renewed_formed g p c f d at dk at_h at_new sound near =
     let last : Graph = renewed g p c f in
     let near_h : IsNear p p h = near_refitted p p g p c f k same_number (inl refl)
     (record { at = at; steps = steps_kept keep f; root = root_kept keep f }) near in
-    let near_last : IsNear p p last = near_refitted p p h p c k new (number_in 0 k) (inl refl)
+    let near_last : IsNear p p last = near_refitted p p h p c k new (number_after 0 k) (inl refl)
     (record { at = at_h; steps = steps_numbered 0 k; root = root_numbered 0 k }) near_h in
     let forest : IsForestOk last p new = record {
       order = numbered_twice 0 k;
@@ -79,6 +79,6 @@ renewed_formed g p c f d at dk at_h at_new sound near =
           let read_h : is_read h (place p w.old) ≡ true =
           read_to g p c f k same_number at w.old read_g in
           subst (λ (m : ℕ). is_read last (place p m) ≡ true) w.is
-          (read_to h p c k new (number_in 0 k) at_h w.old read_h);
+          (read_to h p c k new (number_after 0 k) at_h w.old read_h);
     } in
     formed last p c new sound at_new forest near_last

@@ -5,7 +5,7 @@ use Rattle.exec_graph.specs.Meaning.{has_out, place}
 use Rattle.exec_graph.specs.declared.graph.Node.{Node}
 use Rattle.exec_graph.specs.declared.graph.Node.TheVariants.{Pdo}
 use Rattle.exec_graph.specs.declared.graph.Place.{Place}
-use Rattle.graph_laws.specs.Kids.{number_in}
+use Rattle.graph_laws.specs.Kids.{number_after}
 use Rattle.graph_walks.specs.Outs.{outs, place_of}
 use Rattle.graph_walks.proofs.Places.{holds, holds_outs, number_place}
 use Rattle.graph_names.specs.inner.Spots.{spot_from, spot_in}
@@ -27,7 +27,7 @@ spot_place k s (x ∷ xs) n = by (eqb x n) (holds xs n) (spot_place k (s + 1) xs
     by false false e = e
 
 spot_outs : (k : ℕ) (f : Forest) (n : ℕ)
-    → spot_from k 0 (outs f) n ≡ cond (has_out n f) (Some (place k (number_in 0 f n))) None
+    → spot_from k 0 (outs f) n ≡ cond (has_out n f) (Some (place k (number_after 0 f n))) None
 spot_outs k f n =
     spot_place k 0 (outs f) n
     ∙ ap₂ (λ (b : Bool) (m : ℕ). cond b (Some (place k m)) None) (holds_outs f n)

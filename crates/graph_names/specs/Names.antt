@@ -8,7 +8,7 @@ use Rattle.exec_graph.specs.declared.graph.Node.TheVariants.{Source, Flatten, Pd
 use Rattle.exec_graph.specs.declared.graph.Place.{Place}
 use Rattle.graph_laws.specs.Joining.{reread}
 use Rattle.graph_laws.specs.Kids.{named_by}
-use Rattle.pardo_fuse.specs.Fusing.{finished}
+use Rattle.pardo_fuse.specs.Fusing.{finished_entry}
 use Rattle.pardo_fuse.specs.Parting.{part_number}
 use Rattle.pardo_fuse.specs.Readers.{is_pdo}
 use Rattle.pardo_fuse.specs.SingleFusing.{new_place}
@@ -41,7 +41,7 @@ named g = record {
 -- each forest is numbered from 0 on, and what is read is told by node and number
 abbrev pub unnamed : Graph → Graph
 unnamed h = record {
-  nodes = map (finished (new_place h.nodes)) h.nodes;
+  nodes = map (finished_entry (new_place h.nodes)) h.nodes;
   outputs = map (new_place h.nodes) h.outputs;
   next = h.next;
 }

@@ -17,7 +17,7 @@ use Rattle.graph_build.specs.of_script_program.declared.made.Made.TheVariants as
 use Rattle.graph_build.specs.of_script_program.declared.made.Output.{Output}
 use Rattle.graph_build.specs.of_script_program.Script.{Script}
 use Rattle.written_types.specs.Named.{Named}
-use Rattle.graph_print.specs.Names.{name_at}
+use Rattle.graph_print.specs.Names.{printed_name}
 use Rattle.graph_print.specs.Steps.{act_text, step_text}
 
 -- what a node gives: the first output by the number of the node alone
@@ -57,13 +57,13 @@ source_word _ = codes "source "
 -- the node of the collection `origin`, behind its number
 abbrev pub node_text : Script → ℕ → Node → List ℕ
 node_text script origin (Source input) =
-    source_word (slice_get (made_of script) origin) ++ name_at script.nodes origin
+    source_word (slice_get (made_of script) origin) ++ printed_name script.nodes origin
 node_text script origin (Flatten inputs) =
-    codes "flatten " ++ (flat_map input_text inputs ++ name_at script.nodes origin)
+    codes "flatten " ++ (flat_map input_text inputs ++ printed_name script.nodes origin)
 node_text script origin (Pdo input steps) =
     codes "do " ++ (input_text input ++ root_text script steps)
 node_text script origin (Gbk input group last lifted) =
-    codes "group " ++ (input_text input ++ name_at script.nodes group)
+    codes "group " ++ (input_text input ++ printed_name script.nodes group)
 node_text script origin (Barrier inputs own last act) =
     taken_text act inputs ++ act_text script own act
 

@@ -8,5 +8,5 @@ or_nameless None = []
 or_nameless (Some name) = name
 
 -- the name under which that number stands; what no name stands for is printed as nothing
-abbrev pub name_at : {A : Type 0} → Named A → ℕ → List ℕ
-name_at names number = or_nameless (option_map (λ entry. entry.0) (slice_get names number))
+abbrev pub printed_name : {A : Type 0} → Named A → ℕ → List ℕ
+printed_name names number = or_nameless (option_map (λ entry. entry.0) (slice_get names number))

@@ -3,7 +3,7 @@ ghost use Rattle.std.specs.Prelude.{◌≡◌, ◌<◌, ◌++◌, codes, length,
 ghost use Rattle.graph_build.specs.of_script_program.declared.made.Output.{Output};
 ghost use Rattle.std.specs.List.{flat_map};
 ghost use Rattle.graph_print.specs.GraphText as spec;
-ghost use Rattle.graph_print.specs.Names.{name_at};
+ghost use Rattle.graph_print.specs.Names.{printed_name};
 ghost use Rattle.graph_build.specs.of_script_program.Needed.{made_of};
 ghost use Rattle.graph_print.specs.Steps.{act_text};
 
@@ -112,7 +112,7 @@ fn push_node(
 fn push_source(text: &mut Vec<u8>, program: &Program, origin: u32) -> Result<(), AllocError>
     ensures { OnOk result (text.new.items ≡ text.old.items
         ++ (spec.source_word (slice_get (made_of program.now.script) origin)
-        ++ name_at program.now.script.nodes origin)) }
+        ++ printed_name program.now.script.nodes origin)) }
 {
     text.extend_from_slice(source_word(program, origin as usize))?;
     text.extend_from_slice(node_name(program, origin as usize))
@@ -146,7 +146,7 @@ fn push_flatten(
 ) -> Result<(), AllocError>
     ensures { OnOk result (text.new.items ≡ text.old.items
         ++ (codes "flatten "
-        ++ (flat_map spec.input_text inputs.now ++ name_at program.now.script.nodes origin))) }
+        ++ (flat_map spec.input_text inputs.now ++ printed_name program.now.script.nodes origin))) }
 {
     text.extend_from_slice(b"flatten ")?;
     push_inputs(text, inputs)?;
@@ -181,7 +181,7 @@ fn push_group(
 ) -> Result<(), AllocError>
     ensures { OnOk result (text.new.items ≡ text.old.items
         ++ (codes "group "
-        ++ (spec.input_text input ++ name_at program.now.script.nodes origin))) }
+        ++ (spec.input_text input ++ printed_name program.now.script.nodes origin))) }
 {
     text.extend_from_slice(b"group ")?;
     push_input(text, input)?;

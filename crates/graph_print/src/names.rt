@@ -1,6 +1,6 @@
 // The names of what a program numbers, and numbers in decimal.
 ghost use Rattle.std.specs.Prelude.{◌≡◌, ◌++◌, OnOk, decimal};
-ghost use Rattle.graph_print.specs.Names.{name_at};
+ghost use Rattle.graph_print.specs.Names.{printed_name};
 
 use graph_build::script_program::Program;
 use itoa::Buffer;
@@ -8,7 +8,7 @@ use std::alloc::AllocError;
 
 /// The name of the collection of a number, or no byte where it has none.
 pub fn node_name(program: &Program, number: usize) -> &[u8]
-    ensures { result.now ≡ name_at program.now.script.nodes number }
+    ensures { result.now ≡ printed_name program.now.script.nodes number }
 {
     if number < program.node_count() {
         program.node_name(number).as_bytes()
@@ -19,7 +19,7 @@ pub fn node_name(program: &Program, number: usize) -> &[u8]
 
 /// The name of the function of a number.
 pub(crate) fn function_name(program: &Program, number: usize) -> &[u8]
-    ensures { result.now ≡ name_at program.now.script.functions number }
+    ensures { result.now ≡ printed_name program.now.script.functions number }
 {
     if number < program.function_count() {
         program.function_name(number).as_bytes()

@@ -12,7 +12,7 @@ use Rattle.graph_bounds.specs.of_graph_laws.Lifting.{lift_of}
 use Rattle.graph_bounds.proofs.of_graph_laws.Kids.{IsKept as IsRewritten, KeepsMeaning-self, KeepsMeaning-then, kid_sound, sibling_sound}
 use Rattle.graph_bounds.proofs.of_graph_laws.Lifting.{IsGraphOk-lifted_at, KeepsMeaning-remarked, KeepsTypes-remarked}
 use Rattle.graph_bounds.proofs.of_sink_laws.Choosing.{IsKept-call, IsKept-nest}
-use Rattle.graph_rewrites.specs.Rewrites.{CanApply, CanBeKid, forest_at, input_at, kid_under, kid_under_other, pair, rewritten, swapped_at}
+use Rattle.graph_rewrites.specs.Rewrites.{CanApply, CanBeKid, forest_at, input_at, kid_under, kid_under_other, pair_of_nodes, rewritten, swapped_at}
 use Rattle.graph_rewrites.specs.declared.rewrite.Rewrite.{Rewrite}
 use Rattle.graph_rewrites.specs.declared.rewrite.Rewrite.TheVariants.{Merge, Sink, Lift, Kid, Sibling, Mark}
 use Rattle.graph_rewrites.proofs.Exchange.{swapped_can, swapped_kept}
@@ -59,10 +59,10 @@ kid_good g p k q false ok can =
 pub apply_good : (b : Blocked) (r : Rewrite) → IsGraphOk b.graph → CanApply b r
     → IsAsGood b.graph (rewritten b.graph r)
 apply_good b (Merge outer inner) ok can =
-    let a = IsKept-nest b.graph (pair outer inner) ok can in
+    let a = IsKept-nest b.graph (pair_of_nodes outer inner) ok can in
     record { ok = a.good.ok; keeps = a.good.keeps; types = a.types }
 apply_good b (Sink flatten pdo) ok can =
-    let a = IsKept-call b.graph (pair flatten pdo) ok can.0 can.1 in
+    let a = IsKept-call b.graph (pair_of_nodes flatten pdo) ok can.0 can.1 in
     record { ok = a.good.ok; keeps = a.good.keeps; types = a.types }
 apply_good b (Lift group) ok can = record {
   ok = IsGraphOk-lifted_at group b.graph ok;

@@ -15,7 +15,7 @@ use Rattle.fusion_blocks.proofs.Blocking.{mark_ok}
 use Rattle.graph_bounds.specs.Sources.{AreOfKinds, OfSource}
 use Rattle.graph_bounds.proofs.Bounding.{IsFree, below_such, free_such, kinds_agree, such_below, such_free}
 use Rattle.graph_bounds.specs.of_plan_rules.Fitting.{HasFewOutputs, HasSourcesBelow, IsInBounds, IsNarrow}
-use Rattle.graph_rewrites.specs.Replays.{CanFollow, HasNarrowForests, Leads, StopsAt, group_of}
+use Rattle.graph_rewrites.specs.Replays.{CanFollow, HasNarrowForests, Leads, StopsAt, rewrite_group}
 use Rattle.graph_rewrites.specs.Rewrites.{applied, rewritten}
 use Rattle.graph_rewrites.specs.declared.rewrite.Rewrite.{Rewrite}
 use Rattle.graph_rewrites.specs.declared.rewrite.Rewrite.TheVariants.{Merge, Sink, Lift, Kid, Sibling, Mark}
@@ -53,7 +53,7 @@ unmarked_stands g group b h next s le few a =
     }
 
 stands : (g : Graph) (group : ℕ) (b : Blocked) (r : Rewrite) → Stands g group b
-    → CanFollow group b r → Stands g (group_of r) (applied b r)
+    → CanFollow group b r → Stands g (rewrite_group r) (applied b r)
 stands g group b (Mark node output) s f =
     let a : IsBlockedOk (applied b (Mark node output)) =
     mark_ok b (place node output) (blocked_ok g group b s) f.1 in
@@ -63,7 +63,7 @@ stands g group b (Mark node output) s f =
       clear = λ few. let no : ⊥ = omega arith in absurd no;
     }
 stands g group b r s f =
-    unmarked_stands g group b (rewritten b.graph r) (group_of r) s f.0 (omega arith)
+    unmarked_stands g group b (rewritten b.graph r) (rewrite_group r) s f.0 (omega arith)
     (apply_good b r s.good.ok f.1)
 
 leads_stand : (g : Graph) (group : ℕ) (rs : List Rewrite) (a b : Blocked) → Stands g group a
@@ -71,7 +71,7 @@ leads_stand : (g : Graph) (group : ℕ) (rs : List Rewrite) (a b : Blocked) → 
 leads_stand g group [] a b s l =
     (group, subst (λ (x : Blocked). Stands g group x) l s)
 leads_stand g group (r ∷ rs) a b s l =
-    leads_stand g (group_of r) rs (applied a r) b (stands g group a r s l.0) l.1
+    leads_stand g (rewrite_group r) rs (applied a r) b (stands g group a r s l.0) l.1
 
 begun : (g : Graph) → IsGraphOk g → Stands g 0 (unmarked g)
 begun g ok = record { good = as_self IsGraphOk g ok; marks = (tt, tt); clear = λ _. refl }
@@ -97,7 +97,7 @@ leads_all : (Q : Node → Type 0) (F : Forest → Type 0) → IsSteady Q F → (
 leads_all Q F steady group [] a b l h =
     subst (λ (x : Blocked). AllByRecursion (λ e. Q e.node) x.graph.nodes) l h
 leads_all Q F steady group (r ∷ rs) a b l h =
-    leads_all Q F steady (group_of r) rs (applied a r) b l.1
+    leads_all Q F steady (rewrite_group r) rs (applied a r) b l.1
     (all_rewritten Q F steady a r l.0.1 h)
 
 pub leads_free : (rs : List Rewrite) (g : Graph) (b : Blocked) → Leads 0 rs (unmarked g) b
@@ -125,14 +125,14 @@ leads_bounded sources rs g b ok l below kinds narrow few = record {
 pub leads_one : (group : ℕ) (rs : List Rewrite) (a b c : Blocked) → Leads group rs a b
     → Leads group rs a c → b ≡ c
 leads_one group [] a b c l m = sym l ∙ m
-leads_one group (r ∷ rs) a b c l m = leads_one (group_of r) rs (applied a r) b c l.1 m.1
+leads_one group (r ∷ rs) a b c l m = leads_one (rewrite_group r) rs (applied a r) b c l.1 m.1
 
 pub leads_on : (group : ℕ) (rs : List Rewrite) (a b : Blocked) (i : ℕ) → Leads group rs a b
     → StopsAt group rs a i → ⊥
 leads_on group [] a b i l s = s
 leads_on group (r ∷ rs) a b i l (inl s) = s.1 l.0
 leads_on group (r ∷ rs) a b i l (inr s) =
-    leads_on (group_of r) rs (applied a r) b s.1.0 l.1 s.1.2
+    leads_on (rewrite_group r) rs (applied a r) b s.1.0 l.1 s.1.2
 
 pub stops_once : (group : ℕ) (rs : List Rewrite) (a : Blocked) (i j : ℕ) → StopsAt group rs a i
     → StopsAt group rs a j → i ≡ j
@@ -142,7 +142,7 @@ stops_once group (r ∷ rs) a i j (inl s) (inr t) = absurd (s.1 t.0)
 stops_once group (r ∷ rs) a i j (inr s) (inl t) = absurd (t.1 s.0)
 stops_once group (r ∷ rs) a i j (inr s) (inr t) =
     let e : s.1.0 ≡ t.1.0 =
-    stops_once (group_of r) rs (applied a r) s.1.0 t.1.0 s.1.2 t.1.2 in
+    stops_once (rewrite_group r) rs (applied a r) s.1.0 t.1.0 s.1.2 t.1.2 in
     s.1.1 ∙ ap (λ n. n + 1) e ∙ sym t.1.1
 
 -- ---- one more
@@ -150,7 +150,7 @@ stops_once group (r ∷ rs) a i j (inr s) (inr t) =
 -- the group of the last of them
 abbrev pub last_group : ℕ → List Rewrite → ℕ
 last_group group [] = group
-last_group group (r ∷ rs) = last_group (group_of r) rs
+last_group group (r ∷ rs) = last_group (rewrite_group r) rs
 
 pub leads_more : (group : ℕ) (rs : List Rewrite) (r : Rewrite) (a b : Blocked)
     → Leads group rs a b → CanFollow (last_group group rs) b r
@@ -158,12 +158,12 @@ pub leads_more : (group : ℕ) (rs : List Rewrite) (r : Rewrite) (a b : Blocked)
 leads_more group [] r a b l f =
     subst (λ (x : Blocked). CanFollow group x r × (applied x r ≡ applied b r)) (sym l) (f, refl)
 leads_more group (s ∷ rs) r a b l f =
-    (l.0, leads_more (group_of s) rs r (applied a s) b l.1 f)
+    (l.0, leads_more (rewrite_group s) rs r (applied a s) b l.1 f)
 
 pub last_more : (group : ℕ) (rs : List Rewrite) (r : Rewrite)
-    → last_group group (rs ++ r ∷ []) ≡ group_of r
+    → last_group group (rs ++ r ∷ []) ≡ rewrite_group r
 last_more group [] r = refl
-last_more group (s ∷ rs) r = last_more (group_of s) rs r
+last_more group (s ∷ rs) r = last_more (rewrite_group s) rs r
 
 pub stops_here : (group : ℕ) (rs : List Rewrite) (r : Rewrite) (rest : List Rewrite)
     (a b : Blocked) → Leads group rs a b → (CanFollow (last_group group rs) b r → ⊥)
@@ -173,5 +173,5 @@ stops_here group [] r rest a b l f =
 stops_here group (s ∷ rs) r rest a b l f =
     inr (
       l.0,
-      (length rs + 1, omega arith, stops_here (group_of s) rs r rest (applied a s) b l.1 f),
+      (length rs + 1, omega arith, stops_here (rewrite_group s) rs r rest (applied a s) b l.1 f),
     )

@@ -14,7 +14,7 @@ use Rattle.graph_bounds.specs.of_exec_graph.declared.graph.Graph.{Graph}
 use Rattle.graph_bounds.specs.of_exec_graph.declared.graph.Blocked.{Blocked}
 use Rattle.graph_bounds.proofs.of_exec_graph.Entries.{all_found, all_map}
 use Rattle.graph_bounds.specs.of_graph_laws.Joining.{beside, grafted, joined_into, moved, reread, reread_entry, set_node, without}
-use Rattle.graph_bounds.specs.of_graph_laws.Kids.{apart, even, kept_by, moved_out, named_by, number_in, odd, refitted, renewed, same_number, with_kid, with_sibling}
+use Rattle.graph_bounds.specs.of_graph_laws.Kids.{apart, even, kept_by, moved_out, named_by, number_after, odd, refitted, renewed, same_number, with_kid, with_sibling}
 use Rattle.graph_bounds.specs.of_graph_laws.Lifting.{lift_of, marked, marked_entry}
 use Rattle.graph_bounds.proofs.of_graph_laws.Changes.{all_set, all_without}
 use Rattle.graph_bounds.specs.of_sink_laws.Chain.{forest_of, ins_of}
@@ -113,7 +113,7 @@ module _ (Q : Node → Type 0) (F : Forest → Type 0) (steady : IsSteady Q F) w
   all_renewed g n c f i h =
       let k : Forest = kept_by (λ j. is_read g (place n j)) f in
       let j : F k = steady.keep (λ j. is_read g (place n j)) f i in
-      all_refitted (refitted g n c k same_number) n c (numbered 0 k) (λ j. number_in 0 k j)
+      all_refitted (refitted g n c k same_number) n c (numbered 0 k) (λ j. number_after 0 k j)
       (steady.count k j) (all_refitted g n c k same_number j h)
 
   all_kid : (g : Graph) (p k q : ℕ) (c : Place) (f h : Forest) → F f → F h → All g.nodes

@@ -17,8 +17,8 @@ use Rattle.graph_rewrites.specs.Exchange.{swapped}
 use Rattle.graph_rewrites.specs.declared.rewrite.Rewrite.{Rewrite}
 use Rattle.graph_rewrites.specs.declared.rewrite.Rewrite.TheVariants.{Merge, Sink, Lift, Kid, Sibling, Mark}
 
-abbrev pub pair : ℕ → ℕ → Pair
-pair flatten other = record { flatten = flatten; other = other }
+abbrev pub pair_of_nodes : ℕ → ℕ → Pair
+pair_of_nodes flatten other = record { flatten = flatten; other = other }
 
 -- ---- kids and siblings, by their numbers
 
@@ -70,9 +70,9 @@ HasRoom g p = total_size (after_call g p).nodes ≤ most_nodes
 
 -- the rewrite may be made of the graph with its marks, whatever was made before
 abbrev pub CanApply : Blocked → Rewrite → Type 0
-CanApply b (Merge outer inner) = CanNest b.graph (pair outer inner)
+CanApply b (Merge outer inner) = CanNest b.graph (pair_of_nodes outer inner)
 CanApply b (Sink flatten pdo) =
-    CanSinkPdo b.graph (pair flatten pdo) × HasRoom b.graph (pair flatten pdo)
+    CanSinkPdo b.graph (pair_of_nodes flatten pdo) × HasRoom b.graph (pair_of_nodes flatten pdo)
 CanApply b (Lift group) = CanLift b.graph group
 CanApply b (Kid keeper output reader) = CanBeKid b.graph keeper output reader
 CanApply b (Sibling keeper other) = (keeper < other) × CanBeSibling b.graph keeper other
@@ -80,8 +80,8 @@ CanApply b (Mark node output) = CanMark b.graph (place node output)
 
 -- the graph that it makes
 abbrev pub rewritten : Graph → Rewrite → Graph
-rewritten g (Merge outer inner) = after_nest g (pair outer inner)
-rewritten g (Sink flatten pdo) = after_call g (pair flatten pdo)
+rewritten g (Merge outer inner) = after_nest g (pair_of_nodes outer inner)
+rewritten g (Sink flatten pdo) = after_call g (pair_of_nodes flatten pdo)
 rewritten g (Lift group) = lifted_at group g
 rewritten g (Kid keeper output reader) = after_kid g keeper output reader
 rewritten g (Sibling keeper other) = after_sibling g keeper other

@@ -5,7 +5,7 @@ use Rattle.exec_graph.specs.Wellformed.{IsGraphOk}
 use Rattle.exec_graph.specs.declared.graph.Blocked.{Blocked}
 use Rattle.exec_graph.specs.declared.graph.Graph.{Graph}
 use Rattle.fusion_blocks.specs.Blocks.{unmarked}
-use Rattle.graph_rewrites.specs.Replays.{CanFollow, Leads, StopsAt, group_of}
+use Rattle.graph_rewrites.specs.Replays.{CanFollow, Leads, StopsAt, rewrite_group}
 use Rattle.graph_rewrites.specs.Rewrites.{applied}
 use Rattle.graph_rewrites.specs.declared.rewrite.Rewrite.{Rewrite}
 use Rattle.graph_rewriting.specs.Applied.{IsApplied}
@@ -29,7 +29,7 @@ module _ (g : Graph) (rs : List Rewrite) (i group : ℕ) (now : Blocked) (z : Re
     (led : IsLed g rs i group now) (lt : i < length rs) where
   pub led_more : (next : ℕ) (d : Blocked)
       → CanFollow group now (get_or rs i z) × (d ≡ applied now (get_or rs i z))
-      → next ≡ group_of (get_or rs i z) → IsLed g rs (i + 1) next d
+      → next ≡ rewrite_group (get_or rs i z) → IsLed g rs (i + 1) next d
   led_more next d can f =
       let r : Rewrite = get_or rs i z in
       let here : take (i + 1) rs ≡ take i rs ++ r ∷ [] = take_more rs i z lt in
@@ -71,6 +71,6 @@ led_all g rs i group now led past =
 
 -- a rewrite of no earlier group
 pub followed : (group : ℕ) (b : Blocked) (r : Rewrite) (o : Option Blocked)
-    → group ≤ group_of r → IsApplied b r o → Follows group b r o
+    → group ≤ rewrite_group r → IsApplied b r o → Follows group b r o
 followed group b r None le h = λ can. h can.1
 followed group b r (Some d) le h = ((le, h.0), h.1)

@@ -6,23 +6,23 @@ use Rattle.exec_graph.specs.declared.graph.Graph.{Graph}
 use Rattle.exec_graph.specs.declared.graph.Place.{Place}
 use Rattle.exec_graph.specs.Wellformed.{most_nodes, total_size}
 use Rattle.flatten_sink.specs.Pairs.{IsMergedAt, IsSunkAt}
-use Rattle.graph_rewrites.specs.Rewrites.{CanApply, marks_with, pair}
+use Rattle.graph_rewrites.specs.Rewrites.{CanApply, marks_with, pair_of_nodes}
 use Rattle.graph_rewrites.specs.declared.rewrite.Rewrite.{Rewrite}
 use Rattle.graph_rewrites.specs.declared.rewrite.Rewrite.TheVariants.{Merge, Sink}
 use Rattle.sink_laws.specs.Chain.{after_call}
 use Rattle.graph_rewriting.specs.Applied.{IsApplied}
 use Rattle.graph_rewriting.specs.inner.Made.{IsMade, unmarked}
 
-pub merge_made : (g : Graph) (f e : ℕ) (o : Option Graph) → IsMergedAt g (pair f e) o
+pub merge_made : (g : Graph) (f e : ℕ) (o : Option Graph) → IsMergedAt g (pair_of_nodes f e) o
     → IsMade g (Merge f e) o
 merge_made g f e None h = h
 merge_made g f e (Some x) h = h
 
-pub sink_made : (g : Graph) (f p : ℕ) (o : Option Graph) → IsSunkAt g (pair f p) o
+pub sink_made : (g : Graph) (f p : ℕ) (o : Option Graph) → IsSunkAt g (pair_of_nodes f p) o
     → IsMade g (Sink f p) o
 sink_made g f p None h = λ can.
-    let over : most_nodes < total_size (after_call g (pair f p)).nodes = h can.0 in
-    let room : total_size (after_call g (pair f p)).nodes ≤ most_nodes = can.1 in
+    let over : most_nodes < total_size (after_call g (pair_of_nodes f p)).nodes = h can.0 in
+    let room : total_size (after_call g (pair_of_nodes f p)).nodes ≤ most_nodes = can.1 in
     omega arith
 sink_made g f p (Some x) h = ((h.0, h.1), h.2)
 

@@ -1,7 +1,7 @@
 // Rewrites one after another.
 ghost use Rattle.std.specs.Prelude.{◌≡◌, ◌+◌, IfOk, IfSome};
 ghost use Rattle.exec_graph.specs.Wellformed.{IsGraphOk};
-ghost use Rattle.graph_rewrites.specs.Replays.{group_of};
+ghost use Rattle.graph_rewrites.specs.Replays.{rewrite_group};
 ghost use Rattle.graph_rewriting.specs.Replayed.{Follows, IsReplayed};
 ghost use Rattle.graph_rewriting.specs.inner.Standings.{IsStanding, blocked_of, shown};
 
@@ -86,7 +86,7 @@ fn follow(
 
 /// The group of a rewrite, of the four in their order.
 fn group_of(rewrite: Rewrite) -> u32
-    ensures { result ≡ group_of rewrite }
+    ensures { result ≡ rewrite_group rewrite }
 {
     match rewrite {
         Rewrite::Merge { .. } | Rewrite::Sink { .. } => 0,

@@ -15,7 +15,7 @@ use Rattle.exec_graph.proofs.Bools.{or_else, or_left, or_right}
 use Rattle.exec_graph.proofs.Entries.{all_found}
 use Rattle.exec_graph.proofs.Solving.{each_found}
 use Rattle.graph_laws.specs.Joining.{HasOne, grafted, set_node, without}
-use Rattle.graph_laws.specs.Kids.{kept_by, number_in, out_kept}
+use Rattle.graph_laws.specs.Kids.{kept_by, number_after, out_kept}
 use Rattle.graph_laws.proofs.Changes.{all_set, all_without, node_at-without_other}
 use Rattle.graph_laws.proofs.Disjoint.{differ_grafted, has_out-grafted}
 use Rattle.graph_laws.proofs.Renaming.{has_one}
@@ -77,7 +77,7 @@ module _ (h : Graph) (p q n : ℕ) (c : Place) (f i : Forest) (s : Stands h)
   reads_alike v x y =
       ap (λ (b : Bool). b || among v h.outputs) (uses_left v x ∙ sym (uses_left v y))
 
-  pub kid_is : IsKid (unnamed h) p (number_in 0 f n) q
+  pub kid_is : IsKid (unnamed h) p (number_after 0 f n) q
       (unnamed (taken_in h p q c (kept_by (still_read h p q c) (grafted n i f))))
   kid_is =
       kid_step h.nodes h.outputs h.next p q n c f i (still_read h p q c) (state_of h s) sound at

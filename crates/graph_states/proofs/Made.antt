@@ -10,7 +10,7 @@ use Rattle.exec_graph.specs.declared.graph.Place.{Place}
 use Rattle.fuse_chain.specs.Rewrites.{IsKid, IsSibling}
 use Rattle.graph_rewrites.specs.of_graph_bounds.of_sink_laws.Chain.{forest_of}
 use Rattle.graph_laws.specs.Joining.{beside, grafted}
-use Rattle.graph_laws.specs.Kids.{kept_by, number_in, with_kid, with_sibling}
+use Rattle.graph_laws.specs.Kids.{kept_by, number_after, with_kid, with_sibling}
 use Rattle.graph_rewrites.specs.Rewrites.{CanBeKid, CanBeSibling, after_kid, after_sibling, input_of, kid_under, kid_under_other}
 use Rattle.graph_names.specs.Names.{unnamed}
 use Rattle.graph_states.specs.States.{Stands, all_but, still_read, taken_in}
@@ -61,12 +61,12 @@ sibling_joined h p q c f i s sound less at bt =
 pub kid_joined : (h : Graph) (p q n : ℕ) (c : Place) (f i : Forest) → Stands h
     → IsSound (unnamed h) → p < q → node_at h.nodes p ≡ Some (Pdo c f)
     → node_at h.nodes q ≡ Some (Pdo (place n 0) i) → has_out n f ≡ true
-    → CanBeKid (unnamed h) p (number_in 0 f n) q
-    × (after_kid (unnamed h) p (number_in 0 f n) q ≡ unnamed (taken_in h p q c
+    → CanBeKid (unnamed h) p (number_after 0 f n) q
+    × (after_kid (unnamed h) p (number_after 0 f n) q ≡ unnamed (taken_in h p q c
     (kept_by (all_but n (still_read h p q c n)) (grafted n i f))))
 kid_joined h p q n c f i s sound less at bt has =
     let g : Graph = unnamed h in
-    let k : ℕ = number_in 0 f n in
+    let k : ℕ = number_after 0 f n in
     let x : Forest = kept_by (still_read h p q c) (grafted n i f) in
     let m = kid_made g (unnamed (taken_in h p q c x)) p k q (kid_is h p q n c f i s at bt has sound)
     in (

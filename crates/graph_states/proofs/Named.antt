@@ -3,7 +3,7 @@ use Rattle.std.proofs.Common.{◌≡◌, ℕ, ◌/◌, ◌%◌, ◌<◌, Bool, t
 use Rattle.std.proofs.lemmas.Bool.{eqb-true, eq-eqb, false≢true}
 use Rattle.std.specs.List.{AllByRecursion}
 use Rattle.flume_value.proofs.EachLemmas.{Each-weaker}
-use Rattle.exec_graph.specs.Forests.{Forest, Bare, Grow, after, after_out, new_out, numbered}
+use Rattle.exec_graph.specs.Forests.{Forest, Bare, Grow, next_after, after_out, new_out, numbered}
 use Rattle.exec_graph.specs.Meaning.{AllDiffer, IsThere, gives_at, has_out, is_out, node_at, place, reads}
 use Rattle.exec_graph.specs.Wellformed.{IsGraphOk, IsNodeOk}
 use Rattle.exec_graph.specs.declared.graph.Entry.{Entry}
@@ -15,10 +15,10 @@ use Rattle.exec_graph.proofs.Bools.{not_true}
 use Rattle.exec_graph.proofs.Entries.{all_found, entry}
 use Rattle.exec_graph.proofs.Soundness.{IsSound-ok}
 use Rattle.graph_laws.specs.Joining.{reread}
-use Rattle.graph_laws.specs.Kids.{named_by, number_in}
+use Rattle.graph_laws.specs.Kids.{named_by, number_after}
 use Rattle.graph_laws.proofs.Renaming.{had_out}
 use Rattle.graph_laws.proofs.Roots.{after_new, after_numbered}
-use Rattle.fuse_chain.specs.of_pardo_fuse.Fusing.{finished, holds_out, out_number}
+use Rattle.fuse_chain.specs.of_pardo_fuse.Fusing.{finished_entry, holds_out, out_number}
 use Rattle.fuse_chain.specs.of_pardo_fuse.Parting.{part_number}
 use Rattle.fuse_chain.specs.of_pardo_fuse.Readers.{is_pdo}
 use Rattle.fuse_chain.specs.of_pardo_fuse.SingleFusing.{new_place}
@@ -33,40 +33,41 @@ new_is s j None h = absurd (false≢true h)
 new_is s j (Some i) h = eqb-true s j h
 
 number_kept : (s : ℕ) (f : Forest) (j : ℕ) → has_out j (numbered s f) ≡ true
-    → number_in s (numbered s f) j ≡ j
+    → number_after s (numbered s f) j ≡ j
 number_kept s Bare j h = absurd (false≢true h)
 number_kept s (Grow l kids rest) j h =
     by (is_out (new_out s l.out) j) (has_out j (numbered (after_out s l.out) kids)) refl refl h
     (number_kept (after_out s l.out) kids j)
-    (number_kept (after (after_out s l.out) kids) rest j)
+    (number_kept (next_after (after_out s l.out) kids) rest j)
   where
     by : (a b : Bool) → is_out (new_out s l.out) j ≡ a
         → has_out j (numbered (after_out s l.out) kids) ≡ b
-        → (a || (b || has_out j (numbered (after (after_out s l.out) kids) rest))) ≡ true
+        → (a || (b || has_out j (numbered (next_after (after_out s l.out) kids) rest))) ≡ true
         → (has_out j (numbered (after_out s l.out) kids) ≡ true
-        → number_in (after_out s l.out) (numbered (after_out s l.out) kids) j ≡ j)
-        → (has_out j (numbered (after (after_out s l.out) kids) rest) ≡ true
-        → number_in (after (after_out s l.out) kids)
-        (numbered (after (after_out s l.out) kids) rest) j ≡ j)
+        → number_after (after_out s l.out) (numbered (after_out s l.out) kids) j ≡ j)
+        → (has_out j (numbered (next_after (after_out s l.out) kids) rest) ≡ true
+        → number_after (next_after (after_out s l.out) kids)
+        (numbered (next_after (after_out s l.out) kids) rest) j ≡ j)
         → cond a s (cond b
-        (number_in (after_out s (new_out s l.out)) (numbered (after_out s l.out) kids) j)
-        (number_in (after (after_out s (new_out s l.out)) (numbered (after_out s l.out) kids))
-        (numbered (after (after_out s l.out) kids) rest) j)) ≡ j
+        (number_after (after_out s (new_out s l.out)) (numbered (after_out s l.out) kids) j)
+        (number_after (next_after (after_out s (new_out s l.out))
+        (numbered (after_out s l.out) kids))
+        (numbered (next_after (after_out s l.out) kids) rest) j)) ≡ j
     by true b i k h f g = new_is s j l.out i
     by false true i k h f g =
-        ap (λ (n : ℕ). number_in n (numbered (after_out s l.out) kids) j) (after_new s s l.out)
+        ap (λ (n : ℕ). number_after n (numbered (after_out s l.out) kids) j) (after_new s s l.out)
         ∙ f k
     by false false i k h f g =
-        ap (λ (n : ℕ). number_in (after n (numbered (after_out s l.out) kids))
-        (numbered (after (after_out s l.out) kids) rest) j) (after_new s s l.out)
-        ∙ ap (λ (n : ℕ). number_in n (numbered (after (after_out s l.out) kids) rest) j)
+        ap (λ (n : ℕ). number_after (next_after n (numbered (after_out s l.out) kids))
+        (numbered (next_after (after_out s l.out) kids) rest) j) (after_new s s l.out)
+        ∙ ap (λ (n : ℕ). number_after n (numbered (next_after (after_out s l.out) kids) rest) j)
         (after_numbered (after_out s l.out) (after_out s l.out) kids)
         ∙ g h
 
 number_same : (f : Forest) (j : ℕ) → numbered 0 f ≡ f → has_out j f ≡ true
-    → number_in 0 f j ≡ j
+    → number_after 0 f j ≡ j
 number_same f j order has =
-    ap (λ (x : Forest). number_in 0 x j) (sym order)
+    ap (λ (x : Forest). number_after 0 x j) (sym order)
     ∙ number_kept 0 f j (ap (λ (x : Forest). has_out j x) order ∙ has)
 
 -- ---- nodes under names
@@ -135,7 +136,7 @@ module _ (es : List Entry) (m : ℕ) where
           cond (holds_out name (reread (named_place es m) (with_names m k x)))
           (place k (out_number name (reread (named_place es m) (with_names m k x))))
           (new_place (map under xs) (place name 0))) (eqb-true e.number n i) same
-          ∙ ap (λ (b : Bool). cond b (place n (number_in 0 (named_by r f) name))
+          ∙ ap (λ (b : Bool). cond b (place n (number_after 0 (named_by r f) name))
           (new_place (map under xs) (place name 0)))
           (has_is_named back r f j told (number_div m n j lo) ∙ has)
           ∙ ap (λ (k : ℕ). place n k)
@@ -199,7 +200,7 @@ module _ (g : Graph) (ok : IsGraphOk g) where
       ap₂ (λ (d : Place) (ds : List Place). d ∷ ds) (found_again c a.0) (places_again cs a.1)
 
   node_again : (n : ℕ) (x : Node) → AllByRecursion (IsThere g.nodes) (reads x) → IsNodeOk g n x
-      → (finished (new_place hs) (named_entry g.nodes g.next (entry n x))).node ≡ x
+      → (finished_entry (new_place hs) (named_entry g.nodes g.next (entry n x))).node ≡ x
   node_again n (Source s) a o = refl
   node_again n (Flatten ins) a o = ap (λ (ds : List Place). Flatten ds) (places_again ins a)
   node_again n (Pdo c f) a o =
@@ -212,7 +213,7 @@ module _ (g : Graph) (ok : IsGraphOk g) where
   nodes_again : (es : List Entry)
       → AllByRecursion (λ e. AllByRecursion (IsThere g.nodes) (reads e.node)) es
       → AllByRecursion (λ e. IsNodeOk g e.number e.node) es
-      → map (finished (new_place hs)) (map (named_entry g.nodes g.next) es) ≡ es
+      → map (finished_entry (new_place hs)) (map (named_entry g.nodes g.next) es) ≡ es
   nodes_again [] a o = refl
   nodes_again (e ∷ es) a o =
       ap₂ (λ (x : Node) (l : List Entry). entry e.number x ∷ l)

@@ -8,7 +8,7 @@ ghost use Rattle.exec_graph.specs.declared.graph.Node.TheVariants.{Pdo};
 ghost use Rattle.exec_graph.specs.declared.graph.Place.{Place};
 ghost use Rattle.fuse_chain.specs.Rewrites.{IsKid, IsSibling};
 ghost use Rattle.graph_laws.specs.Joining.{beside, grafted};
-ghost use Rattle.graph_laws.specs.Kids.{kept_by, number_in};
+ghost use Rattle.graph_laws.specs.Kids.{kept_by, number_after};
 ghost use Rattle.graph_rewrites.specs.Rewrites.{CanBeKid, CanBeSibling, after_kid, after_sibling, kid_under};
 ghost use Rattle.graph_names.specs.Names.{named, unnamed};
 ghost use Rattle.graph_states.specs.States.{Stands, all_but, still_read, taken_in};
@@ -39,7 +39,7 @@ pub fn kid_law()
     ensures kid { (h : Graph) (p q n : ℕ) (c : Place) (f i : Forest) → Stands h →
         IsSound (unnamed h) → node_at h.nodes p ≡ Some (Pdo c f) →
         node_at h.nodes q ≡ Some (Pdo (place n 0) i) → has_out n f ≡ true →
-        IsKid (unnamed h) p (number_in 0 f n) q
+        IsKid (unnamed h) p (number_after 0 f n) q
         (unnamed (taken_in h p q c (kept_by (still_read h p q c) (grafted n i f)))) }
     ensures stands { (h : Graph) (p q n : ℕ) (c : Place) (f i : Forest) → Stands h →
         IsSound (unnamed h) → node_at h.nodes p ≡ Some (Pdo c f) →
@@ -57,8 +57,8 @@ pub fn join_law()
     ensures kid { (h : Graph) (p q n : ℕ) (c : Place) (f i : Forest) → Stands h →
         IsSound (unnamed h) → p < q → node_at h.nodes p ≡ Some (Pdo c f) →
         node_at h.nodes q ≡ Some (Pdo (place n 0) i) → has_out n f ≡ true →
-        CanBeKid (unnamed h) p (number_in 0 f n) q
-        × (after_kid (unnamed h) p (number_in 0 f n) q ≡ unnamed (taken_in h p q c
+        CanBeKid (unnamed h) p (number_after 0 f n) q
+        × (after_kid (unnamed h) p (number_after 0 f n) q ≡ unnamed (taken_in h p q c
         (kept_by (all_but n (still_read h p q c n)) (grafted n i f)))) }
 {}
 

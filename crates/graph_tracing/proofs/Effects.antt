@@ -11,7 +11,7 @@ use Rattle.exec_graph.specs.declared.graph.Node.TheVariants.{Pdo}
 use Rattle.exec_graph.specs.declared.graph.Place.{Place}
 use Rattle.pass_rewrites.proofs.of_fuse_chain.NextStates.{set_other, without_other}
 use Rattle.graph_laws.specs.Joining.{joined_into, moved, reread_entry, set_node, without}
-use Rattle.graph_laws.specs.Kids.{apart, even, kept_by, moved_out, named_by, number_in, odd, refitted, renewed, same_number}
+use Rattle.graph_laws.specs.Kids.{apart, even, kept_by, moved_out, named_by, number_after, odd, refitted, renewed, same_number}
 use Rattle.graph_laws.proofs.Wellness.{differ_map, differ_set, mapped, node_at-map, node_at-set_same}
 
 -- the Pdo of that number reads c
@@ -163,11 +163,11 @@ module _ (g : Graph) (p q : ℕ) (c d : Place) (f h new : Forest) (t : Takes g p
   g4 = refitted g3 p c k same_number
 
   abbrev g5 : Graph
-  g5 = refitted g4 p c (numbered 0 k) (λ j. number_in 0 k j)
+  g5 = refitted g4 p c (numbered 0 k) (λ j. number_after 0 k j)
 
   -- where what is read is read then
   abbrev pub shift : Place → Place
-  shift x = moved_out p (λ j. number_in 0 k j)
+  shift x = moved_out p (λ j. number_after 0 k j)
       (moved_out p same_number (moved p q (moved_out q odd (moved_out p even x))))
 
   other1 : Calls g1 q d1
@@ -193,7 +193,7 @@ module _ (g : Graph) (p q : ℕ) (c d : Place) (f h new : Forest) (t : Takes g p
   pub taken_calls : (m : ℕ) (x : Place) → Calls g m x → (m ≡ q → ⊥)
       → Calls (renewed (joined_into (apart g p q c d f h) p q c new) p c new) m (shift x)
   taken_calls m x a other =
-      refit_calls g4 p c (numbered 0 k) (λ j. number_in 0 k j) keeper4 m
+      refit_calls g4 p c (numbered 0 k) (λ j. number_after 0 k j) keeper4 m
       (moved_out p same_number (moved p q (moved_out q odd (moved_out p even x))))
       (refit_calls g3 p c k same_number keeper3 m
       (moved p q (moved_out q odd (moved_out p even x)))
@@ -204,7 +204,7 @@ module _ (g : Graph) (p q : ℕ) (c d : Place) (f h new : Forest) (t : Takes g p
   -- what is not there before the last three changes is not there after them
   last_absent : (m : ℕ) → node_at g3.nodes m ≡ None → node_at g5.nodes m ≡ None
   last_absent m a =
-      refit_absent g4 p c (numbered 0 k) (λ j. number_in 0 k j) keeper4 m
+      refit_absent g4 p c (numbered 0 k) (λ j. number_after 0 k j) keeper4 m
       (refit_absent g3 p c k same_number keeper3 m a)
 
   pub taken_absent : (m : ℕ) → node_at g.nodes m ≡ None

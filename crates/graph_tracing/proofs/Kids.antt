@@ -9,7 +9,7 @@ use Rattle.exec_graph.specs.declared.graph.Graph.{Graph}
 use Rattle.exec_graph.specs.declared.graph.Node.TheVariants.{Pdo}
 use Rattle.exec_graph.specs.declared.graph.Place.{Place}
 use Rattle.exec_graph.proofs.Soundness.{IsSound-ok, differ_ascends}
-use Rattle.pass_rewrites.specs.of_fuse_chain.Numbers.{after_kid, after_kids, other_of_two}
+use Rattle.pass_rewrites.specs.of_fuse_chain.Numbers.{numbers_after_kid, after_kids, other_of_two}
 use Rattle.pass_rewrites.specs.of_fuse_chain.Rewrites.{IsKid, Kid, Sibling, FusesTo, Fusion, is_sibling, other_of}
 use Rattle.fusion_blocks.specs.Blocks.{unmarked}
 use Rattle.graph_laws.specs.Kids.{with_kid}
@@ -20,7 +20,7 @@ use Rattle.graph_rewrites.specs.declared.rewrite.Rewrite.{Rewrite}
 use Rattle.graph_rewrites.specs.declared.rewrite.Rewrite.TheVariants as rewrite
 use Rattle.pardo_fuse.specs.Readers.{is_pdo}
 use Rattle.pardo_fuse.specs.Renumbering.{renumbered_graph}
-use Rattle.pass_rewrites.specs.Passes.{as_rewrite, present}
+use Rattle.pass_rewrites.specs.Passes.{as_rewrite, present_fusions}
 use Rattle.pass_rewrites.proofs.LesserKids.{keeps_after, kid_allowed, kid_renumbered}
 use Rattle.sink_laws.specs.Chain.{forest_of}
 use Rattle.graph_tracing.specs.Traces.{GoesUnder, IsTrace}
@@ -49,7 +49,7 @@ kid_of g p k q can = record {
 }
 
 pub kid_goes : (old new : Trace) (p k q : ℕ) (l m : ℕ → ℕ) → IsGraphOk old.graph → KeepsAll l
-    → CanBeKid old.graph p k q → ((n : ℕ) → m n ≡ after_kid l p q n)
+    → CanBeKid old.graph p k q → ((n : ℕ) → m n ≡ numbers_after_kid l p q n)
     → new.graph ≡ kid_under old.graph p k q
     → new.rewrites ≡ old.rewrites ++ rewrite.Kid (l p) k (l q) ∷ [] → GoesUnder l m old new
 kid_goes old new p k q l m ok keeps can now at more g t =
@@ -61,7 +61,7 @@ kid_goes old new p k q l m ok keeps can now at more g t =
     (renumbered_graph m x)) (sym at)
     (subst (λ (f : ℕ → ℕ). IsTrace 2 g (old.rewrites ++ rewrite.Kid (l p) k (l q) ∷ [])
     (renumbered_graph f h)) (λ i. λ n. sym (now n) i)
-    (one_more 2 g (renumbered_graph l old.graph) (renumbered_graph (after_kid l p q) h)
+    (one_more 2 g (renumbered_graph l old.graph) (renumbered_graph (numbers_after_kid l p q) h)
     old.rewrites (rewrite.Kid (l p) k (l q)) t refl
     (kid_allowed old.graph h l keeps sound p k q s)
     (ap unmarked (kid_renumbered old.graph h l keeps sound p k q s)))))
@@ -89,7 +89,7 @@ there_after rs g m n c l low x i gone =
 
 module _ (t new : Trace) (m : Graph) (p k n : ℕ) (ns : List ℕ) (whole : List Rewrite)
     (l o total : ℕ → ℕ) (can : CanBeKid t.graph p k n) (gone : node_at m.nodes n ≡ None)
-    (now : (i : ℕ) → o i ≡ after_kid l p n i) where
+    (now : (i : ℕ) → o i ≡ numbers_after_kid l p n i) where
   abbrev g : Graph
   g = t.graph
 
@@ -98,7 +98,7 @@ module _ (t new : Trace) (m : Graph) (p k n : ℕ) (ns : List ℕ) (whole : List
 
   taken_by : (rs : List Fusion) → Each (λ r. is_sibling r ≡ false) rs → FusesTo rs g m
       → GoFrom rs (n ∷ ns) → Rise (n ∷ ns) → IsSound g
-      → t.rewrites ++ map as_rewrite (present l rs) ≡ whole
+      → t.rewrites ++ map as_rewrite (present_fusions l rs) ≡ whole
       → ((i : ℕ) → after_kids rs l i ≡ total i) → new.graph ≡ kid_under g p k n
       → new.rewrites ≡ t.rewrites ++ rewrite.Kid (l p) k (l n) ∷ []
       → IsUnderway false o total new m ns whole
@@ -121,15 +121,16 @@ module _ (t new : Trace) (m : Graph) (p k n : ℕ) (ns : List ℕ) (whole : List
       at ∙ ap (λ (x : ℕ). kid_under g x k n) of_p
       ∙ ap (λ (x : ℕ). kid_under g u x n) of_k
       ∙ ap (λ (x : ℕ). kid_under g u j x) (sym of_n) ∙ kid_is g u j q to.0 s in
-      let later : ℕ → ℕ = after_kid l u q in
+      let later : ℕ → ℕ = numbers_after_kid l u q in
       let same : later ≡ o =
-      ap₂ (λ (x y : ℕ). after_kid l x y) (sym of_p) of_n ∙ (λ i. λ e. sym (now e) i) in
-      let rest : List Rewrite = map as_rewrite (present later rs) in
+      ap₂ (λ (x y : ℕ). numbers_after_kid l x y) (sym of_p) of_n ∙ (λ i. λ e. sym (now e) i) in
+      let rest : List Rewrite = map as_rewrite (present_fusions later rs) in
       record {
         rest = rs;
         await = await_rest false (Kid u j q) rs g to.0 new.graph m ns next s ok to.2 all.1 go.1
             rise.1;
-        written = ap (λ (f : ℕ → ℕ). new.rewrites ++ map as_rewrite (present f rs)) (sym same)
+        written =
+            ap (λ (f : ℕ → ℕ). new.rewrites ++ map as_rewrite (present_fusions f rs)) (sym same)
             ∙ ap (λ (xs : List Rewrite). xs ++ rest) more
             ∙ one_behind t.rewrites rest (rewrite.Kid (l p) k (l n))
             ∙ ap (λ (x : ℕ). t.rewrites ++ rewrite.Kid (l x) k (l n) ∷ rest) of_p
@@ -152,7 +153,7 @@ left_by : (l total : ℕ → ℕ) (t : Trace) (m : Graph) (n : ℕ) (ns : List �
     (rs : List Fusion)
     → Each (λ r. is_sibling r ≡ false) rs → FusesTo rs t.graph m
     → GoFrom rs (n ∷ ns) → Rise (n ∷ ns) → IsSound t.graph
-    → t.rewrites ++ map as_rewrite (present l rs) ≡ whole
+    → t.rewrites ++ map as_rewrite (present_fusions l rs) ≡ whole
     → ((i : ℕ) → after_kids rs l i ≡ total i)
     → ((p k : ℕ) → CanBeKid t.graph p k n → ⊥)
     → IsUnderway false l total t m ns whole
@@ -187,7 +188,7 @@ kid_left l total t m n ns whole none u =
 -- ---- numbers
 
 pub keeps_kid : (g : Graph) (p k q : ℕ) (l m : ℕ → ℕ) → IsGraphOk g → KeepsAll l
-    → CanBeKid g p k q → ((n : ℕ) → m n ≡ after_kid l p q n) → KeepsAll m
+    → CanBeKid g p k q → ((n : ℕ) → m n ≡ numbers_after_kid l p q n) → KeepsAll m
 keeps_kid g p k q l m ok keeps can now i j e =
     keeps_after g (kid_under g p k q) l keeps (IsSound-ok g ok) p k q (kid_of g p k q can) i j
     (sym (now i) ∙ e ∙ now j)

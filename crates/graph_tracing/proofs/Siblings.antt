@@ -13,7 +13,7 @@ use Rattle.graph_laws.specs.Kids.{with_sibling}
 use Rattle.graph_rewrites.specs.Rewrites.{CanBeSibling, after_sibling, forest_at, input_at, input_of}
 use Rattle.graph_rewrites.specs.declared.rewrite.Rewrite.{Rewrite}
 use Rattle.graph_rewrites.specs.declared.rewrite.Rewrite.TheVariants as rewrite
-use Rattle.pass_rewrites.specs.Passes.{as_rewrite, present}
+use Rattle.pass_rewrites.specs.Passes.{as_rewrite, present_fusions}
 use Rattle.sink_laws.specs.Chain.{forest_of}
 use Rattle.graph_tracing.specs.Traces.{GoesOn}
 use Rattle.graph_tracing.specs.inner.Waiting.{AreApart, GoFrom, IsUnderway, Rise}
@@ -86,7 +86,7 @@ module _ (t new : Trace) (m : Graph) (p n : ℕ) (ns : List ℕ) (whole : List R
 
   taken_by : (rs : List Fusion) → Each (λ r. is_sibling r ≡ true) rs → FusesTo rs g m
       → GoFrom rs (n ∷ ns) → Rise (n ∷ ns) → IsSound g
-      → t.rewrites ++ map as_rewrite (present as_is rs) ≡ whole
+      → t.rewrites ++ map as_rewrite (present_fusions as_is rs) ≡ whole
       → ((i : ℕ) → after_kids rs as_is i ≡ total i) → new.graph ≡ after_sibling g p n
       → new.rewrites ≡ t.rewrites ++ rewrite.Sibling p n ∷ []
       → IsUnderway true as_is total new m ns whole
@@ -109,12 +109,13 @@ module _ (t new : Trace) (m : Graph) (p n : ℕ) (ns : List ℕ) (whole : List R
         rest = rs;
         await = await_rest true (Sibling k q) rs g l.0 new.graph m ns next s low l.2 all.1 go.1
             rise.1;
-        written = ap (λ (xs : List Rewrite). xs ++ map as_rewrite (present as_is rs)) more
-            ∙ one_behind t.rewrites (map as_rewrite (present as_is rs)) (rewrite.Sibling p n)
+        written = ap (λ (xs : List Rewrite). xs ++ map as_rewrite (present_fusions as_is rs)) more
+            ∙ one_behind t.rewrites (map as_rewrite (present_fusions as_is rs))
+            (rewrite.Sibling p n)
             ∙ ap (λ (x : ℕ). t.rewrites ++ rewrite.Sibling x n ∷
-            map as_rewrite (present as_is rs)) of_p
+            map as_rewrite (present_fusions as_is rs)) of_p
             ∙ ap (λ (x : ℕ). t.rewrites ++ rewrite.Sibling k x ∷
-            map as_rewrite (present as_is rs)) (sym of_n)
+            map as_rewrite (present_fusions as_is rs)) (sym of_n)
             ∙ w;
         last = z;
       }
@@ -131,7 +132,8 @@ module _ (t new : Trace) (m : Graph) (p n : ℕ) (ns : List ℕ) (whole : List R
 left_by : (total : ℕ → ℕ) (t : Trace) (m : Graph) (n : ℕ) (ns : List ℕ) (whole : List Rewrite)
     (rs : List Fusion)
     → Each (λ r. is_sibling r ≡ true) rs → FusesTo rs t.graph m → GoFrom rs (n ∷ ns)
-    → Rise (n ∷ ns) → IsSound t.graph → t.rewrites ++ map as_rewrite (present as_is rs) ≡ whole
+    → Rise (n ∷ ns) → IsSound t.graph
+    → t.rewrites ++ map as_rewrite (present_fusions as_is rs) ≡ whole
     → ((i : ℕ) → after_kids rs as_is i ≡ total i)
     → ((p : ℕ) → p < n → CanBeSibling t.graph p n → ⊥) → IsUnderway true as_is total t m ns whole
 left_by total t m n ns whole [] all l go rise low w z none = record {

@@ -8,7 +8,7 @@ use Rattle.flatten_sink.specs.Pairs.{IsMergedAt, IsSunkAt}
 use Rattle.flatten_sink.specs.inner.Turns.{IsMerged, IsReached}
 use Rattle.flatten_sink.proofs.Turning.{step_kept, step_taken}
 use Rattle.fusion_blocks.specs.Blocks.{unmarked}
-use Rattle.graph_rewrites.specs.Replays.{group_of}
+use Rattle.graph_rewrites.specs.Replays.{rewrite_group}
 use Rattle.graph_rewrites.specs.Rewrites.{CanApply, applied}
 use Rattle.graph_rewrites.specs.declared.rewrite.Rewrite.{Rewrite}
 use Rattle.graph_rewrites.specs.declared.rewrite.Rewrite.TheVariants.{Merge, Sink}
@@ -35,7 +35,7 @@ next_last g h i (q ∷ rs) r are next makes =
 record IsNext (g i : Graph) (r : Rewrite) : Type 0 where
   pub next : next_rewrite g ≡ Some r
   pub makes : next_graph g ≡ Some i
-  pub of : group_of r ≡ 0
+  pub of : rewrite_group r ≡ 0
   pub can : CanApply (unmarked g) r
   pub is : applied (unmarked g) r ≡ unmarked i
 

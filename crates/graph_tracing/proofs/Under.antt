@@ -17,7 +17,7 @@ use Rattle.graph_rewrites.specs.declared.rewrite.Rewrite.{Rewrite}
 use Rattle.graph_rewrites.specs.Rewrites.{CanBeKid, CanBeSibling, after_kid, forest_at, input_at, kid_under, kid_under_other}
 use Rattle.graph_states.specs.States.{Stands}
 use Rattle.graph_states.proofs.Siblings.{state_of}
-use Rattle.pardo_fuse.specs.Fusing.{finished, with_numbers}
+use Rattle.pardo_fuse.specs.Fusing.{finished_entry, with_numbers}
 use Rattle.pardo_fuse.specs.Readers.{is_pdo}
 use Rattle.pardo_fuse.specs.SingleFusing.{new_place}
 use Rattle.pardo_fuse.specs.Renumbering.{renumbered_graph}
@@ -45,13 +45,14 @@ of_node r (Gbk d o l k) c f h = let bad : ⊥ = cc in absurd bad
 of_node r (Barrier ins o l a) c f h = let bad : ⊥ = cc in absurd bad
 
 calls_by : (r : Place → Place) (hs : List Entry) (n : ℕ) (c : Place) (f : Forest)
-    → node_at (map (finished r) hs) n ≡ Some (Pdo c f) → CallsBy r hs n c
+    → node_at (map (finished_entry r) hs) n ≡ Some (Pdo c f) → CallsBy r hs n c
 calls_by r [] n c f h = let bad : ⊥ = cc in absurd bad
 calls_by r (e ∷ hs) n c f h = by (eqb e.number n) h (calls_by r hs n c f)
   where
     by : (b : Bool)
-        → cond b (Some (finished r e).node) (node_at (map (finished r) hs) n) ≡ Some (Pdo c f)
-        → (node_at (map (finished r) hs) n ≡ Some (Pdo c f) → CallsBy r hs n c)
+        → cond b (Some (finished_entry r e).node) (node_at (map (finished_entry r) hs) n)
+        ≡ Some (Pdo c f)
+        → (node_at (map (finished_entry r) hs) n ≡ Some (Pdo c f) → CallsBy r hs n c)
         → (d : Place) × (i : Forest)
         × (cond b (Some e.node) (node_at hs n) ≡ Some (Pdo d i)) × (r d ≡ c)
     by true j more = of_node r e.node c f j

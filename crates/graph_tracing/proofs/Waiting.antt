@@ -18,7 +18,7 @@ use Rattle.pass_rewrites.specs.of_fuse_chain.Rewrites.{InOrder, IsKid, IsSibling
 use Rattle.graph_laws.specs.Joining.{beside, grafted, joined_into}
 use Rattle.graph_laws.specs.Kids.{apart, even, named_by, odd, renewed}
 use Rattle.graph_rewrites.specs.declared.rewrite.Rewrite.{Rewrite}
-use Rattle.pass_rewrites.specs.Passes.{as_rewrite, present}
+use Rattle.pass_rewrites.specs.Passes.{as_rewrite, present_fusions}
 use Rattle.graph_laws.proofs.Kids.{kid_sound, sibling_sound}
 use Rattle.graph_laws.proofs.Wellness.{reads_lower}
 use Rattle.graph_tracing.specs.inner.Waiting.{Await, GoFrom, IsUnderway, Rise}
@@ -336,7 +336,7 @@ all_made siblings t m whole l total u =
     by u.rest u.await.leads u.await.some u.written u.last
   where
     by : (rs : List Fusion) → FusesTo rs t.graph m → GoFrom rs []
-        → t.rewrites ++ map as_rewrite (present l rs) ≡ whole
+        → t.rewrites ++ map as_rewrite (present_fusions l rs) ≡ whole
         → ((n : ℕ) → after_kids rs l n ≡ total n)
         → (t.graph ≡ m) × (t.rewrites ≡ whole) × ((n : ℕ) → l n ≡ total n)
     by [] to go w z = (to, sym (append-nil t.rewrites) ∙ w, z)

@@ -14,7 +14,7 @@ use Rattle.exec_graph.specs.declared.graph.Node.TheVariants.{Source, Flatten, Pd
 use Rattle.exec_graph.proofs.Entries.{all_found}
 use Rattle.exec_graph.proofs.Solving.{each_found}
 use Rattle.exec_graph.proofs.Soundness.{IsSound-ok}
-use Rattle.pass_rewrites.specs.of_fuse_chain.Numbers.{KidsToLeast, ReadsInner, after_kid, after_kids, other_of_two}
+use Rattle.pass_rewrites.specs.of_fuse_chain.Numbers.{KidsToLeast, ReadsInner, numbers_after_kid, after_kids, other_of_two}
 use Rattle.pass_rewrites.specs.of_fuse_chain.Rewrites.{ByKids, BySiblings, InOrder, Kid, Sibling, FusesTo, Fusion, is_sibling, other_of}
 use Rattle.pass_rewrites.proofs.of_fuse_chain.Keeping.{lead_good}
 use Rattle.pass_rewrites.proofs.of_fuse_chain.LeastKids.{Stood, kids_to_least, stood_by_parents}
@@ -36,7 +36,7 @@ use Rattle.pardo_fuse.proofs.Seeing.{leads_outer}
 use Rattle.pardo_fuse.proofs.SiteKids.{unmarked_part}
 use Rattle.pardo_fuse.proofs.Unparting.{other_found}
 use Rattle.fusion_blocks.specs.Blocks.{unmarked}
-use Rattle.pass_rewrites.specs.Passes.{as_rewrite, present}
+use Rattle.pass_rewrites.specs.Passes.{as_rewrite, present_fusions}
 use Rattle.pass_rewrites.proofs.LesserKids.{numbers_agree}
 use Rattle.graph_tracing.specs.Fusions.{IsFusion}
 use Rattle.graph_tracing.specs.Orders.{AreInOrder, Ascend, BehindKid, BehindSibling, had_after, with_formers}
@@ -61,7 +61,7 @@ abbrev Tells : (ℕ → ℕ) → (ℕ → ℕ) → Type 0
 Tells f l = (n : ℕ) → f (l n) ≡ n
 
 tells_after : (f l : ℕ → ℕ) (p q : ℕ) → Tells f l
-    → Tells (had_after f (l p) (l q)) (after_kid l p q)
+    → Tells (had_after f (l p) (l q)) (numbers_after_kid l p q)
 tells_after f l p q told n = by (ltb (l q) (l p)) refl ∙ told n
   where
     by : (b : Bool) → ltb (l q) (l p) ≡ b
@@ -75,13 +75,13 @@ tells_after f l p q told n = by (ltb (l q) (l p)) refl ∙ told n
 
 -- the kids as they are shown: with the numbers before all of them
 abbrev shown : (ℕ → ℕ) → (ℕ → ℕ) → List Fusion → List Rewrite
-shown f l rs = with_formers f (map as_rewrite (present l rs))
+shown f l rs = with_formers f (map as_rewrite (present_fusions l rs))
 
 kids_behind : (n : ℕ) (rs : List Fusion) (f l : ℕ → ℕ) → Each (λ s. is_sibling s ≡ false) rs
     → Each (BehindSibling n) (shown f l rs)
 kids_behind n [] f l all = tt
 kids_behind n (Kid p k q ∷ rs) f l all =
-    (tt, kids_behind n rs (had_after f (l p) (l q)) (after_kid l p q) all.1)
+    (tt, kids_behind n rs (had_after f (l p) (l q)) (numbers_after_kid l p q) all.1)
 kids_behind n (Sibling p q ∷ rs) f l all = absurd (false≢true (sym all.0))
 
 kid_first : (n : ℕ) (rs : List Fusion) (f l : ℕ → ℕ) → Tells f l
@@ -90,7 +90,7 @@ kid_first : (n : ℕ) (rs : List Fusion) (f l : ℕ → ℕ) → Tells f l
 kid_first n [] f l told up all = tt
 kid_first n (Kid p k q ∷ rs) f l told up all = (
   subst (λ (x : ℕ). n < x) (sym (told q)) up.0,
-  kid_first n rs (had_after f (l p) (l q)) (after_kid l p q) (tells_after f l p q told) up.1
+  kid_first n rs (had_after f (l p) (l q)) (numbers_after_kid l p q) (tells_after f l p q told) up.1
       all.1,
 )
 kid_first n (Sibling p q ∷ rs) f l told up all = absurd (false≢true (sym all.0))
@@ -100,7 +100,7 @@ kids_order : (rs : List Fusion) (f l : ℕ → ℕ) → Tells f l → InOrder rs
 kids_order [] f l told o all = tt
 kids_order (Kid p k q ∷ rs) f l told o all =
     let g : ℕ → ℕ = had_after f (l p) (l q) in
-    let m : ℕ → ℕ = after_kid l p q in
+    let m : ℕ → ℕ = numbers_after_kid l p q in
     let later : Tells g m = tells_after f l p q told in (
       subst (λ (x : ℕ). Each (BehindKid x) (shown g m rs)) (sym (told q))
           (kid_first q rs g m later o.0 all.1),
@@ -118,7 +118,7 @@ siblings_shown f (Sibling p q ∷ rs) ks all =
     ap (λ (xs : List Rewrite). rewrite.Sibling p q ∷ xs) (siblings_shown f rs ks all.1)
 
 siblings_present : (l : ℕ → ℕ) (rs : List Fusion) → Each (λ s. is_sibling s ≡ true) rs
-    → present l rs ≡ rs
+    → present_fusions l rs ≡ rs
 siblings_present l [] all = refl
 siblings_present l (Kid p k q ∷ rs) all = absurd (false≢true all.0)
 siblings_present l (Sibling p q ∷ rs) all =
@@ -174,10 +174,10 @@ module _ (b : Blocked) (fu : IsFusible b) where
   total = after_kids kids.rewrites (λ n. n)
 
   abbrev pub first_part : List Rewrite
-  first_part = map as_rewrite (present (λ n. n) siblings.rewrites)
+  first_part = map as_rewrite (present_fusions (λ n. n) siblings.rewrites)
 
   abbrev pub whole : List Rewrite
-  whole = first_part ++ map as_rewrite (present (λ n. n) kids.rewrites)
+  whole = first_part ++ map as_rewrite (present_fusions (λ n. n) kids.rewrites)
 
   sound : IsSound b.graph
   sound = IsSound-ok b.graph fu.ok.ok
@@ -250,8 +250,10 @@ module _ (b : Blocked) (fu : IsFusible b) where
       rise = rise_those (goes_in b) es fu.ok.ok.founded.ascends;
       sound = subst IsSound (sym at) sound_middle;
     };
-    written = ap (λ (f : ℕ → ℕ). t.rewrites ++ map as_rewrite (present f kids.rewrites)) same
-        ∙ ap (λ (xs : List Rewrite). xs ++ map as_rewrite (present (λ n. n) kids.rewrites)) first;
+    written =
+        ap (λ (f : ℕ → ℕ). t.rewrites ++ map as_rewrite (present_fusions f kids.rewrites)) same
+        ∙ ap (λ (xs : List Rewrite). xs ++ map as_rewrite (present_fusions (λ n. n) kids.rewrites))
+        first;
     last = λ n. ap (λ (f : ℕ → ℕ). after_kids kids.rewrites f n) same;
   }
 
@@ -285,10 +287,10 @@ module _ (b : Blocked) (fu : IsFusible b) where
   order_whole =
       subst Ascend
       (sym (ap (λ (rs : List Fusion). with_formers (λ n. n)
-      (map as_rewrite rs ++ map as_rewrite (present (λ n. n) kids.rewrites)))
+      (map as_rewrite rs ++ map as_rewrite (present_fusions (λ n. n) kids.rewrites)))
       (siblings_present (λ n. n) siblings.rewrites siblings.all)
       ∙ siblings_shown (λ n. n) siblings.rewrites
-      (map as_rewrite (present (λ n. n) kids.rewrites)) siblings.all))
+      (map as_rewrite (present_fusions (λ n. n) kids.rewrites)) siblings.all))
       (both_order siblings.rewrites kids.rewrites siblings.order siblings.all kids.order kids.all)
 
   pub fusion_is : (old mid new : Trace) (l m : ℕ → ℕ) → old.graph ≡ b.graph

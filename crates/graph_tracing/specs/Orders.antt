@@ -1,6 +1,7 @@
 -- In which order rewrites are written: siblings before kids, in both ascending by the number that
 -- the Pdo that goes had before all kids, and marks ascending by their nodes and then by outputs.
--- Merges and sinks stand in the order in which they were made, and so do lifts.
+-- Merges, sinks and lifts may stand anywhere among them: of the order of sinking's rewrites speaks
+-- `IsSinking`.
 use Rattle.std.specs.Prelude.{◌≡◌, ◌⊎◌, ℕ, ◌<◌, ltb, cond, List, [], ◌∷◌}
 use Rattle.std.specs.List.{AllByRecursion}
 use Rattle.pass_rewrites.specs.of_fuse_chain.Numbers.{other_of_two}

@@ -3,14 +3,14 @@ use Rattle.std.specs.Prelude.{◌≡◌, ℕ, List}
 use Rattle.std.specs.List.{AllByRecursion}
 use Rattle.exec_graph.specs.declared.graph.Graph.{Graph}
 use Rattle.fusion_blocks.specs.Blocks.{unmarked}
-use Rattle.graph_rewrites.specs.Replays.{Leads, group_of}
+use Rattle.graph_rewrites.specs.Replays.{Leads, rewrite_group}
 use Rattle.graph_rewrites.specs.declared.rewrite.Rewrite.{Rewrite}
 use Rattle.pardo_fuse.specs.Renumbering.{renumbered_graph}
 use Rattle.graph_tracing.specs.declared.trace.Trace.{Trace}
 
 -- Rewrites of that group lead from g to h.
 pub record IsTrace (group : ℕ) (g : Graph) (rs : List Rewrite) (h : Graph) : Type 0 where
-  pub all : AllByRecursion (λ r. group_of r ≡ group) rs
+  pub all : AllByRecursion (λ r. rewrite_group r ≡ group) rs
   pub leads : Leads group rs (unmarked g) (unmarked h)
 
 -- What was led to before is led to now, by some rewrites of that group more.

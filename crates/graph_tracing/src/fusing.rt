@@ -62,7 +62,7 @@ fn after_kid(alloc: Global, kids: KidTrace, kid: Kid) -> Result<KidTrace, AllocE
         ++ rewrite.Kid (number_in kids.numbers kid.keeper) kid.output
         (number_in kids.numbers kid.reader) ∷ []) }
     ensures numbers { IfOk result (λ t. (n : ℕ) → number_in t.numbers n
-        ≡ after.after_kid (number_in kids.numbers) kid.keeper kid.reader n) }
+        ≡ after.numbers_after_kid (number_in kids.numbers) kid.keeper kid.reader n) }
 {
     let KidTrace { trace, mut numbers } = kids;
     let Trace {

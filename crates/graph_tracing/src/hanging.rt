@@ -133,7 +133,7 @@ fn after_named_kid(
         ++ rewrite.Kid (number_in kids.numbers kid.keeper) kid.output
         (number_in kids.numbers kid.reader) ∷ []) }
     ensures numbers { IfOk result (λ t. (n : ℕ) → number_in t.numbers n
-        ≡ after.after_kid (number_in kids.numbers) kid.keeper kid.reader n) }
+        ≡ after.numbers_after_kid (number_in kids.numbers) kid.keeper kid.reader n) }
 {
     let NamedKids {
         trace,

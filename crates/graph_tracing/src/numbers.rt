@@ -1,7 +1,7 @@
 // The numbers that nodes have where what comes of two takes the lesser one.
 ghost use Rattle.std.specs.Prelude.{◌≡◌, ◌≢◌, ◌==◌, ◌++◌, ◌∷◌, [], ℕ, cond, OnOk};
 ghost use Rattle.graph_rewrites.specs.declared.rewrite.Rewrite.TheVariants as rewrite;
-ghost use Rattle.pass_rewrites.specs.of_fuse_chain.Numbers.{after_kid};
+ghost use Rattle.pass_rewrites.specs.of_fuse_chain.Numbers.{numbers_after_kid};
 ghost use Rattle.graph_tracing.specs.inner.Numbers.{KeepsAll, number_in};
 
 use flume_value::Pile;
@@ -33,7 +33,7 @@ pub(crate) fn note_kid(
         ++ rewrite.Kid (number_in numbers.old kid.keeper) kid.output
         (number_in numbers.old kid.reader) ∷ []) }
     ensures numbers { OnOk result ((n : ℕ) → number_in numbers.new n
-        ≡ after_kid (number_in numbers.old) kid.keeper kid.reader n) }
+        ≡ numbers_after_kid (number_in numbers.old) kid.keeper kid.reader n) }
 {
     rewrites.push(Rewrite::Kid {
         keeper: number_of(kid.keeper, numbers),
@@ -49,7 +49,7 @@ fn take_lesser(keeper: u32, reader: u32, numbers: &mut HashMap<u32, u32>) -> Res
     requires keeps { KeepsAll (number_in numbers.old) }
     requires apart { keeper ≢ reader }
     ensures { OnOk result ((n : ℕ) → number_in numbers.new n
-        ≡ after_kid (number_in numbers.old) keeper reader n) }
+        ≡ numbers_after_kid (number_in numbers.old) keeper reader n) }
 {
     let stays = number_of(keeper, numbers);
     let goes = number_of(reader, numbers);

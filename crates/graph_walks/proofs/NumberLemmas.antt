@@ -1,7 +1,7 @@
 -- Outputs numbered one behind the other, as the steps are held.
 use Rattle.std.proofs.Common.{◌≡◌, ℕ, suc, ◌+◌, List, [], ◌∷◌, ◌++◌, length, Option, Some, None, refl, sym, ap, ap₂, ◌∙◌, arith, append_assoc, length-append}
 use Rattle.std.specs.List.{flat_map}
-use Rattle.graph_laws.specs.of_exec_graph.Forests.{Branch, Forest, Bare, Grow, Twig, after, after_out, grown, label_at, limb, new_label, numbered, twigs}
+use Rattle.graph_laws.specs.of_exec_graph.Forests.{Branch, Forest, Bare, Grow, Twig, next_after, after_out, grown, label_at, limb, new_label, numbered, twigs}
 use Rattle.graph_walks.specs.Outs.{out_list, outs}
 use Rattle.graph_walks.specs.inner.Numbering.{after_branch, after_twig, after_twigs, branch_outs, branches_outs, numbered_branch, numbered_branches, numbered_twigs, twig_outs, twigs_outs}
 
@@ -45,12 +45,12 @@ pub out_count : (n : ℕ) (o : Option ℕ) → after_out n o ≡ n + length (out
 out_count n None = omega arith
 out_count n (Some j) = refl
 
-pub after_count : (n : ℕ) (f : Forest) → after n f ≡ n + length (outs f)
+pub after_count : (n : ℕ) (f : Forest) → next_after n f ≡ n + length (outs f)
 after_count n Bare = omega arith
 after_count n (Grow l kids rest) =
     let a = out_count n l.out in
     let b = after_count (after_out n l.out) kids in
-    let c = after_count (after (after_out n l.out) kids) rest in
+    let c = after_count (next_after (after_out n l.out) kids) rest in
     let d = length-append (out_list l.out) (outs kids ++ outs rest) in
     let e = length-append (outs kids) (outs rest) in
     omega arith

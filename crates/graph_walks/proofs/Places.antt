@@ -2,9 +2,9 @@
 use Rattle.std.proofs.Common.{◌≡◌, ℕ, suc, ◌+◌, Bool, true, false, cond, eqb, ◌||◌, List, [], ◌∷◌, ◌++◌, length, Option, Some, None, refl, sym, ap, ◌∙◌, arith}
 use Rattle.std.proofs.lemmas.Bool.{false≢true}
 use Rattle.std.specs.List.{list_any}
-use Rattle.graph_laws.specs.of_exec_graph.Forests.{Forest, Bare, Grow, after, after_out}
+use Rattle.graph_laws.specs.of_exec_graph.Forests.{Forest, Bare, Grow, next_after, after_out}
 use Rattle.graph_laws.specs.of_exec_graph.Meaning.{has_out, is_out}
-use Rattle.graph_laws.specs.Kids.{number_in}
+use Rattle.graph_laws.specs.Kids.{number_after}
 use Rattle.graph_walks.specs.Outs.{out_list, outs, place_of}
 use Rattle.graph_walks.proofs.NumberLemmas.{after_count}
 
@@ -56,11 +56,11 @@ place_out : (o : Option ℕ) (j : ℕ) → is_out o j ≡ true → place_of (out
 place_out None j h = absurd (false≢true h)
 place_out (Some i) j h = rw h refl
 
-pub number_place : (n : ℕ) (f : Forest) (j : ℕ) → number_in n f j ≡ n + place_of (outs f) j
+pub number_place : (n : ℕ) (f : Forest) (j : ℕ) → number_after n f j ≡ n + place_of (outs f) j
 number_place n Bare j = omega arith
 number_place n (Grow l kids rest) j =
     by (is_out l.out j) (has_out j kids) refl (number_place (after_out n l.out) kids j)
-    (number_place (after (after_out n l.out) kids) rest j)
+    (number_place (next_after (after_out n l.out) kids) rest j)
     ∙ ap (λ m. n + m) (sym (place_append (out_list l.out) (outs kids ++ outs rest) j
     ∙ ap (λ b. cond b (place_of (out_list l.out) j)
     (length (out_list l.out) + place_of (outs kids ++ outs rest) j)) (holds_out l.out j)
@@ -74,11 +74,11 @@ number_place n (Grow l kids rest) j =
         [ None ↦ omega arith | Some i ↦ refl ]
 
     by : (a b : Bool) → is_out l.out j ≡ a
-        → number_in (after_out n l.out) kids j ≡ after_out n l.out + place_of (outs kids) j
-        → number_in (after (after_out n l.out) kids) rest j
-        ≡ after (after_out n l.out) kids + place_of (outs rest) j
-        → cond a n (cond b (number_in (after_out n l.out) kids j)
-        (number_in (after (after_out n l.out) kids) rest j))
+        → number_after (after_out n l.out) kids j ≡ after_out n l.out + place_of (outs kids) j
+        → number_after (next_after (after_out n l.out) kids) rest j
+        ≡ next_after (after_out n l.out) kids + place_of (outs rest) j
+        → cond a n (cond b (number_after (after_out n l.out) kids j)
+        (number_after (next_after (after_out n l.out) kids) rest j))
         ≡ n + cond a (place_of (out_list l.out) j) (length (out_list l.out)
         + cond b (place_of (outs kids) j) (length (outs kids) + place_of (outs rest) j))
     by true b i k r = let e = place_out l.out j i in omega arith

@@ -14,7 +14,7 @@ use Rattle.outside.specs.Cause.{Rose, RoseBy, raised}
 use Rattle.script_program.specs.Script.{Script}
 use Rattle.value_reading.specs.Written.{IsCanonical}
 use Rattle.saved_meaning.proofs.of_direct_meaning.PlaceLemmas.{zip_more}
-use Rattle.saved_meaning.specs.Found.{chosen}
+use Rattle.saved_meaning.specs.Found.{marked_ones}
 use Rattle.kept_results.specs.Kept.{AreFound, AreKept, Finds, FindsBut, FindsEach, FindsUnlessFailed, IsFound, IsKeptOf}
 use Rattle.kept_results.proofs.SameLemmas.{saved_same}
 
@@ -201,12 +201,13 @@ looks_end first last script asked i told looked past so_far =
 
 -- ---- the next rows
 
-none_left : {X : Type 0} (marks : List Bool) (xs : List X) → xs ≡ [] → chosen marks xs ≡ []
+none_left : {X : Type 0} (marks : List Bool) (xs : List X) → xs ≡ [] → marked_ones marks xs ≡ []
 none_left [] xs e = refl
 none_left (mark ∷ marks) [] e = refl
 none_left (mark ∷ marks) (x ∷ xs) e = cc
 
 pub none_given : {X : Type 0} (needed : Bool) (marks : List Bool) (old before rest : List X)
-    → before ≡ [] → rest ≡ [] → old ++ chosen marks rest ≡ old ++ chosen (needed ∷ marks) before
+    → before ≡ [] → rest ≡ []
+    → old ++ marked_ones marks rest ≡ old ++ marked_ones (needed ∷ marks) before
 none_given needed marks old before rest a b =
     ap (λ l. old ++ l) (none_left marks rest b ∙ sym (none_left (needed ∷ marks) before a))

@@ -18,7 +18,7 @@ use Rattle.saved_results.specs.declared.saved.Size.{Size}
 use Rattle.script_program.specs.Rested.{rested_names}
 use Rattle.script_program.specs.Script.{Node, Script}
 use Rattle.saved_meaning.proofs.of_direct_meaning.PlaceLemmas.{mapped}
-use Rattle.kept_results.specs.Kept.{AreMembersOf, IsKeptOf}
+use Rattle.kept_results.specs.Kept.{AreMembersFor, IsKeptOf}
 use Rattle.kept_results.specs.inner.Named.{are_named}
 use Rattle.kept_results.proofs.NameLemmas.{equal-named, named-equal}
 
@@ -30,27 +30,27 @@ typed-all type members all =
 -- a test of members that fails
 module _ (node : Node) (members : List Value) (value : Bool) (none : value ≡ false) where
   untyped : (typed : Bool) → typed ≡ list_all (λ x. has_type x node.type) members
-      → typed ≡ false → AreMembersOf node members → value ≡ true
+      → typed ≡ false → AreMembersFor node members → value ≡ true
   untyped typed same no_ are =
       let holds : typed ≡ true = same ∙ typed-all node.type members are.typed in
       cc
 
-  never : value ≡ true → AreMembersOf node members
+  never : value ≡ true → AreMembersFor node members
   never holds = let clash : true ≡ false = sym holds ∙ none in cc
 
   pub untyped_tells : (typed : Bool) → typed ≡ list_all (λ x. has_type x node.type) members
-      → typed ≡ false → IsTrue value ↔ AreMembersOf node members
+      → typed ≡ false → IsTrue value ↔ AreMembersFor node members
   untyped_tells typed same no_ = (never, untyped typed same no_)
 
   pub unsorted_tells : (ascending : Bool) → (IsTrue ascending ↔ IsSorted value_cmp members)
-      → value ≡ ascending → IsTrue value ↔ AreMembersOf node members
+      → value ≡ ascending → IsTrue value ↔ AreMembersFor node members
   unsorted_tells ascending sorted is = (never, λ are. is ∙ sorted.1 are.ascending)
 
 module _ (script : Script) (number : ℕ) (node : Node) (saved : Saved)
     (at : option_map (λ (entry : List ℕ × Node). entry.1) (slice_get script.nodes number)
     ≡ Some node) (counts : All (λ (size : Size). size.members < 2 ^ 64) saved.sizes) where
   keeps : (named fits : Bool) → named ≡ are_named saved.sizes (rested_names script number)
-      → (IsTrue fits ↔ AreMembersOf node saved.members) → (named && fits) ≡ true
+      → (IsTrue fits ↔ AreMembersFor node saved.members) → (named && fits) ≡ true
       → IsKeptOf script number saved
   keeps named fits same members both =
       let parts = both_true named fits both in
@@ -59,14 +59,14 @@ module _ (script : Script) (number : ℕ) (node : Node) (saved : Saved)
       record {
         entry = found.0;
         at = found.1;
-        members = subst (λ (n : Node). AreMembersOf n saved.members) (sym found.2)
+        members = subst (λ (n : Node). AreMembersFor n saved.members) (sym found.2)
             (members.0 parts.1);
         names = named-equal saved.sizes (rested_names script number) (sym same ∙ parts.0);
         counts = recursion_from_All (λ (size : Size). size.members < 2 ^ 64) saved.sizes counts;
       }
 
   kept : (named fits : Bool) → named ≡ are_named saved.sizes (rested_names script number)
-      → (IsTrue fits ↔ AreMembersOf node saved.members) → IsKeptOf script number saved
+      → (IsTrue fits ↔ AreMembersFor node saved.members) → IsKeptOf script number saved
       → (named && fits) ≡ true
   kept named fits same members own =
       let one : Some own.entry.1 ≡ Some node =
@@ -74,9 +74,9 @@ module _ (script : Script) (number : ℕ) (node : Node) (saved : Saved)
       let is : own.entry.1 ≡ node = cc in
       and_both named fits
       (same ∙ equal-named saved.sizes (rested_names script number) own.names)
-      (members.1 (subst (λ (n : Node). AreMembersOf n saved.members) is own.members))
+      (members.1 (subst (λ (n : Node). AreMembersFor n saved.members) is own.members))
 
   pub tells : (named fits : Bool) → named ≡ are_named saved.sizes (rested_names script number)
-      → (IsTrue fits ↔ AreMembersOf node saved.members)
+      → (IsTrue fits ↔ AreMembersFor node saved.members)
       → IsTrue (named && fits) ↔ IsKeptOf script number saved
   tells named fits same members = (keeps named fits same members, kept named fits same members)

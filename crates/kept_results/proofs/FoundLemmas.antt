@@ -20,10 +20,10 @@ use Rattle.saved_meaning.proofs.of_script_laws.SavedLemmas.{saved-well}
 use Rattle.flume_collection.specs.Collection.{Collection}
 use Rattle.saved_meaning.specs.of_direct_meaning.Direct.{made_at}
 use Rattle.saved_meaning.specs.of_direct_meaning.Inputs.{IsListOf}
-use Rattle.saved_meaning.specs.Found.{IsKeptList, members_of}
+use Rattle.saved_meaning.specs.Found.{IsKeptList, bag_or_none}
 use Rattle.kept_results.specs.Asked.{asked_as, asked_nodes, name_read}
 use Rattle.kept_results.specs.Kept.{AreKept, IsKeptOf}
-use Rattle.kept_results.specs.Lists.{found_of, kept_at, kept_table}
+use Rattle.kept_results.specs.Lists.{found_of, found_at_number, kept_table}
 use Rattle.kept_results.proofs.ListLemmas.{AreRight, AscendFrom, Found, as_made, lower, numbers_of}
 use Rattle.kept_results.proofs.ListLemmas.{other_number, table_from}
 use Rattle.kept_results.proofs.Steps.{asked_from}
@@ -133,26 +133,26 @@ all_above n (it ∷ found) all = (
 )
 
 kept_here : (n : ℕ) (found : Found) → AscendFrom n found
-    → Each (λ it. kept_at found it.0 ≡ as_made it.1.members) found
+    → Each (λ it. found_at_number found it.0 ≡ as_made it.1.members) found
 kept_here n [] all = tt
 kept_here n (it ∷ found) all = (
-  (λ i. if eq-eqb it.0 it.0 refl i then as_made it.1.members else kept_at found it.0),
-  Each-both (λ (x : ℕ × Saved). kept_at found x.0 ≡ as_made x.1.members)
+  (λ i. if eq-eqb it.0 it.0 refl i then as_made it.1.members else found_at_number found it.0),
+  Each-both (λ (x : ℕ × Saved). found_at_number found x.0 ≡ as_made x.1.members)
       (λ (x : ℕ × Saved). suc it.0 ≤ x.0)
-      (λ (x : ℕ × Saved). kept_at (it ∷ found) x.0 ≡ as_made x.1.members)
+      (λ (x : ℕ × Saved). found_at_number (it ∷ found) x.0 ≡ as_made x.1.members)
       (λ x own more. (λ i. if other_number it.0 x.0 more i then as_made it.1.members
-      else kept_at found x.0) ∙ own)
+      else found_at_number found x.0) ∙ own)
       found (kept_here (suc it.0) found all.1) (all_above (suc it.0) found all.1),
 )
 
 kept_at_number : (script : Script) (found : Found) (it : ℕ × Saved) → it.0 < length script.nodes
-    → kept_at found it.0 ≡ as_made it.1.members
+    → found_at_number found it.0 ≡ as_made it.1.members
     → made_at (kept_table script found) it.0 ≡ as_made it.1.members
 kept_at_number script found it below same =
-    table_from found 0 it.0 script.nodes below ∙ ap (kept_at found) (zero-add it.0) ∙ same
+    table_from found 0 it.0 script.nodes below ∙ ap (found_at_number found) (zero-add it.0) ∙ same
 
 kept_list : (script : Script) (table : List (Option Collection)) (it : ℕ × Saved)
-    → members_of (made_at table it.0) ≡ it.1.members → IsKeptOf script it.0 it.1
+    → bag_or_none (made_at table it.0) ≡ it.1.members → IsKeptOf script it.0 it.1
     → IsKeptList script table it.0
 kept_list script table it same kept = λ entry there.
     let both : Some kept.entry ≡ Some entry = sym kept.at ∙ there in
@@ -187,19 +187,19 @@ module _ (script : Script) (well : IsWellFormed script) (asked : List (ℕ × Li
   all_kept_of = found_kept script asked looked kept
 
   -- the table of what is found has its members
-  pub own : Each (λ it. members_of (made_at (kept_table script found) it.0) ≡ it.1.members) found
+  pub own : Each (λ it. bag_or_none (made_at (kept_table script found) it.0) ≡ it.1.members) found
   own =
-      Each-both (λ (it : ℕ × Saved). kept_at found it.0 ≡ as_made it.1.members)
+      Each-both (λ (it : ℕ × Saved). found_at_number found it.0 ≡ as_made it.1.members)
       (λ (it : ℕ × Saved). IsKeptOf script it.0 it.1)
-      (λ (it : ℕ × Saved). members_of (made_at (kept_table script found) it.0) ≡ it.1.members)
+      (λ (it : ℕ × Saved). bag_or_none (made_at (kept_table script found) it.0) ≡ it.1.members)
       (λ it same mine.
-      ap members_of
+      ap bag_or_none
       (kept_at_number script found it
       (slice_get_within script.nodes it.0 mine.entry mine.at) same))
       found (kept_here 0 found ascend) all_kept_of
 
   module _ (table : List (Option Collection))
-      (has : Each (λ it. members_of (made_at table it.0) ≡ it.1.members) found) where
+      (has : Each (λ it. bag_or_none (made_at table it.0) ≡ it.1.members) found) where
     placed : Each (λ it. (it.0 < length script.nodes)
         × (is_needed (with_saved (numbers_of found) script) it.0 ≡ true)) found
     placed =
@@ -220,16 +220,16 @@ module _ (script : Script) (well : IsWellFormed script) (asked : List (ℕ × Li
         Each-both
         (λ (it : ℕ × Saved). (it.0 < length script.nodes)
         × (is_needed (with_saved (numbers_of found) script) it.0 ≡ true))
-        (λ (it : ℕ × Saved). members_of (made_at table it.0) ≡ it.1.members)
+        (λ (it : ℕ × Saved). bag_or_none (made_at table it.0) ≡ it.1.members)
         (λ (it : ℕ × Saved). (it.0 < length script.nodes)
         × (is_needed (with_saved (numbers_of found) script) it.0 ≡ true)
-        × (members_of (made_at table it.0) ≡ it.1.members))
+        × (bag_or_none (made_at table it.0) ≡ it.1.members))
         (λ it here mine. (here.0, here.1, mine)) found placed has
 
     pub lists : Each (IsKeptList script table) (numbers_of found)
     lists =
         Each-map (IsKeptList script table) (λ (it : ℕ × Saved). it.0) found
-        (Each-both (λ (it : ℕ × Saved). members_of (made_at table it.0) ≡ it.1.members)
+        (Each-both (λ (it : ℕ × Saved). bag_or_none (made_at table it.0) ≡ it.1.members)
         (λ (it : ℕ × Saved). IsKeptOf script it.0 it.1)
         (λ (it : ℕ × Saved). IsKeptList script table it.0)
         (λ it same mine. kept_list script table it same mine) found has all_kept_of)

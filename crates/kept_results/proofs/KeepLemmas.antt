@@ -4,7 +4,7 @@ use Rattle.std.proofs.Common.{if◌then◌else◌, refl, sym, ap, ◌∙◌, sub
 use Rattle.std.proofs.lemmas.List.{drop_all, drop_more}
 use Rattle.std.specs.Prelude.{IfSome, is_ok, is_some}
 use Rattle.std.specs.Option.{option_map}
-use Rattle.cache_store.specs.Entries.{with_entries, with_entry}
+use Rattle.cache_store.specs.Entries.{with_entries, with_cache_entry}
 use Rattle.cache_store.specs.declared.entry.CacheEntry.{CacheEntry}
 use Rattle.outside.specs.Cause.{HasCause, Rose, RoseBy}
 use Rattle.kept_results.specs.Keeping.{KeptUnlessFailed, WereKept}
@@ -15,7 +15,8 @@ Told = Option (List CacheEntry)
 -- what a cache tells behind a call that went through or not
 abbrev pub after_keep : Told → Bool → CacheEntry → Told
 after_keep told went entry =
-    if went then option_map (λ entries. with_entry entries entry.key entry.value) told else told
+    if went then option_map (λ entries. with_cache_entry entries entry.key entry.value) told else
+    told
 
 pub told_same : (told : Told) (went : Bool) (entry : CacheEntry)
     → is_some (after_keep told went entry) ≡ is_some told

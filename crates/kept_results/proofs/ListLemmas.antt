@@ -10,14 +10,14 @@ use Rattle.saved_results.specs.declared.saved.Saved.{Saved}
 use Rattle.written_types.specs.Named.{Named}
 use Rattle.script_program.specs.declared.made.Made.{Made}
 use Rattle.script_program.specs.declared.made.Made.TheVariants as made
-use Rattle.script_program.specs.Needed.{has, is_needed, needed_nodes, numbered}
-use Rattle.script_program.specs.Saved.{HasNoSaved, IsUnsaved, saved_from, saved_node, with_saved}
+use Rattle.script_program.specs.Needed.{holds_number, is_needed, needed_nodes, collections_numbered}
+use Rattle.script_program.specs.Saved.{HasNoSaved, IsUnsaved, saved_among, saved_node, with_saved}
 use Rattle.script_program.specs.Script.{Node, Script}
 use Rattle.saved_meaning.proofs.of_direct_meaning.PlainLemmas.{flat-if, more_if}
 use Rattle.saved_meaning.specs.of_direct_meaning.Direct.{made_at}
-use Rattle.saved_meaning.specs.Found.{all_kept, members_kept, members_of, needed_too, needs_input}
+use Rattle.saved_meaning.specs.Found.{all_kept, members_kept, bag_or_none, needed_too, needs_input}
 use Rattle.saved_meaning.specs.Found.{still_needed}
-use Rattle.kept_results.specs.Lists.{input_numbers, kept_at, number_of_input}
+use Rattle.kept_results.specs.Lists.{input_numbers, found_at_number, number_of_input}
 
 -- ---- rows
 
@@ -62,7 +62,8 @@ lower n m (it ∷ found) less all = (omega (arith, less, all.0), all.1)
 
 -- the same numbers are among both, from one on
 abbrev Agree : ℕ → Found → Found → Type 0
-Agree n found rest = (m : ℕ) → n ≤ m → has (numbers_of found) m ≡ has (numbers_of rest) m
+Agree n found rest =
+    (m : ℕ) → n ≤ m → holds_number (numbers_of found) m ≡ holds_number (numbers_of rest) m
 
 pub other_number : (x m : ℕ) → suc x ≤ m → eqb x m ≡ false
 other_number x m less = by (eqb x m) refl
@@ -77,10 +78,10 @@ apart_less n x less is = let other : x ≢ n = eqb-false x n is in omega (arith,
 
 -- a number below those is not among them
 none_below : (n : ℕ) (found : Found) → AscendFrom (suc n) found
-    → has (numbers_of found) n ≡ false
+    → holds_number (numbers_of found) n ≡ false
 none_below n [] all = refl
 none_below n (it ∷ found) all =
-    (λ i. above i || has (numbers_of found) n)
+    (λ i. above i || holds_number (numbers_of found) n)
     ∙ none_below n found (lower (suc n) (suc it.0) found (omega (arith, all.0)) all.1)
   where
     above : eqb it.0 n ≡ false
@@ -99,7 +100,7 @@ on_behind : (n : ℕ) (found : Found) (it : ℕ × Saved) (rest : Found) → it.
     → Agree n found (it ∷ rest) → Agree (suc n) found rest
 on_behind n found it rest is agree = λ m less.
     agree m (omega (arith, less))
-    ∙ (λ i. other_number it.0 m (omega (arith, less, is)) i || has (numbers_of rest) m)
+    ∙ (λ i. other_number it.0 m (omega (arith, less, is)) i || holds_number (numbers_of rest) m)
 
 -- ---- by the table
 
@@ -109,14 +110,16 @@ front_made None table = refl
 front_made (Some c) table = refl
 
 pub table_from : (found : Found) (n k : ℕ) (nodes : Named Node) → k < length nodes
-    → made_at (map (λ it. kept_at found it.0) (numbered n nodes)) k ≡ kept_at found (n + k)
+    → made_at (map (λ it. found_at_number found it.0) (collections_numbered n nodes)) k
+    ≡ found_at_number found (n + k)
 table_from found n k [] below = absurd (omega arith)
 table_from found n zero (entry ∷ nodes) below =
-    front_made (kept_at found n) (map (λ it. kept_at found it.0) (numbered (suc n) nodes))
-    ∙ ap (kept_at found) (sym (add-zero n))
+    front_made (found_at_number found n) (map (λ it. found_at_number found it.0)
+    (collections_numbered (suc n) nodes))
+    ∙ ap (found_at_number found) (sym (add-zero n))
 table_from found n (suc k) (entry ∷ nodes) below =
     let e : suc n + k ≡ n + suc k = omega arith in
-    table_from found (suc n) k nodes (omega (arith, below)) ∙ ap (kept_at found) e
+    table_from found (suc n) k nodes (omega (arith, below)) ∙ ap (found_at_number found) e
 
 no_members : (table : List (Option Collection)) (n : ℕ) (how : Made) → IsUnsaved how
     → members_kept table n how ≡ []
@@ -133,7 +136,7 @@ module _ (table : List (Option Collection)) (n : ℕ) (entry : List ℕ × Node)
       (members_kept table n (if kept then (entry.0, saved_node entry.1) else entry).1.made) others
 
   cell_kept : (needed kept : Bool) (members : List Value) → needed ≡ true → kept ≡ true
-      → members_of (made_at table n) ≡ members → Cell needed kept ≡ members ∷ others
+      → bag_or_none (made_at table n) ≡ members → Cell needed kept ≡ members ∷ others
   cell_kept true true members is also same = ap (λ l. l ∷ others) same
   cell_kept true false members is also same = cc
   cell_kept false kept members is also same = cc
@@ -154,7 +157,7 @@ module _ (script : Script) (found : Found) (table : List (Option Collection)) wh
   abbrev lists_from : ℕ → Named Node → List (List Value)
   lists_from n nodes =
       flat_map (λ it. members_kept table it.0 it.1.1.made)
-      (filter (λ it. is_needed later it.0) (numbered n nodes))
+      (filter (λ it. is_needed later it.0) (collections_numbered n nodes))
 
   abbrev members : Found → List (List Value)
   members rest = map (λ it. it.1.members) rest
@@ -164,28 +167,28 @@ module _ (script : Script) (found : Found) (table : List (Option Collection)) wh
   AreRight rest =
       Each
       (λ it. (it.0 < length script.nodes) × (is_needed later it.0 ≡ true)
-      × (members_of (made_at table it.0) ≡ it.1.members))
+      × (bag_or_none (made_at table it.0) ≡ it.1.members))
       rest
 
   abbrev Goes : Named Node → Type 0
   Goes nodes = (n : ℕ) (rest : Found) → n + length nodes ≡ length script.nodes
       → Each (λ entry. IsUnsaved entry.1.made) nodes → AscendFrom n rest → AreRight rest
       → Agree n found rest
-      → lists_from n (saved_from (numbers_of found) n nodes) ≡ members rest
+      → lists_from n (saved_among (numbers_of found) n nodes) ≡ members rest
 
   module _ (entry : List ℕ × Node) (nodes : Named Node) (goes : Goes nodes) (n : ℕ)
       (long : suc n + length nodes ≡ length script.nodes) (un : IsUnsaved entry.1.made)
       (uns : Each (λ entry. IsUnsaved entry.1.made) nodes) where
     abbrev others : List (List Value)
-    others = lists_from (suc n) (saved_from (numbers_of found) (suc n) nodes)
+    others = lists_from (suc n) (saved_among (numbers_of found) (suc n) nodes)
 
     abbrev here : List (List Value)
-    here = Cell table n entry others (is_needed later n) (has (numbers_of found) n)
+    here = Cell table n entry others (is_needed later n) (holds_number (numbers_of found) n)
 
-    passes : (rest : Found) → has (numbers_of rest) n ≡ false → AscendFrom (suc n) rest
+    passes : (rest : Found) → holds_number (numbers_of rest) n ≡ false → AscendFrom (suc n) rest
         → AreRight rest → Agree n found rest → here ≡ members rest
     passes rest none ascend right agree =
-        cell_plain table n entry others (is_needed later n) (has (numbers_of found) n)
+        cell_plain table n entry others (is_needed later n) (holds_number (numbers_of found) n)
         (agree n (omega arith) ∙ none) un
         ∙ goes (suc n) rest long uns ascend right (λ m less. agree m (omega (arith, less)))
 
@@ -194,11 +197,12 @@ module _ (script : Script) (found : Found) (table : List (Option Collection)) wh
         → here ≡ members (it ∷ rest)
     takes it rest true is ascend right agree =
         let same : it.0 ≡ n = eqb-true it.0 n is in
-        let there : has (numbers_of found) n ≡ true =
-        agree n (omega arith) ∙ (λ i. is i || has (numbers_of rest) n) in
-        let own : members_of (made_at table n) ≡ it.1.members =
-        ap (λ k. members_of (made_at table k)) (sym same) ∙ right.0.2 in
-        cell_kept table n entry others (is_needed later n) (has (numbers_of found) n) it.1.members
+        let there : holds_number (numbers_of found) n ≡ true =
+        agree n (omega arith) ∙ (λ i. is i || holds_number (numbers_of rest) n) in
+        let own : bag_or_none (made_at table n) ≡ it.1.members =
+        ap (λ k. bag_or_none (made_at table k)) (sym same) ∙ right.0.2 in
+        cell_kept table n entry others (is_needed later n) (holds_number (numbers_of found) n)
+        it.1.members
         (ap (is_needed later) (sym same) ∙ right.0.1) there own
         ∙ ap (λ l. it.1.members ∷ l)
         (goes (suc n) rest long uns (lower (suc n) (suc it.0) rest (omega (arith, same)) ascend.1)
@@ -221,9 +225,9 @@ module _ (script : Script) (found : Found) (table : List (Option Collection)) wh
   goes_all (entry ∷ nodes) n rest long un ascend right agree =
       flat-if (λ (x : ℕ × (List ℕ × Node)). members_kept table x.0 x.1.1.made)
       (is_needed later n)
-      (n, if has (numbers_of found) n then (entry.0, saved_node entry.1) else entry)
+      (n, if holds_number (numbers_of found) n then (entry.0, saved_node entry.1) else entry)
       (filter (λ it. is_needed later it.0)
-      (numbered (suc n) (saved_from (numbers_of found) (suc n) nodes)))
+      (collections_numbered (suc n) (saved_among (numbers_of found) (suc n) nodes)))
       ∙ one entry nodes (goes_all nodes) n (omega (arith, long)) un.0 un.1 rest ascend right agree
 
   -- the lists of what is kept are the members of what is found, in order

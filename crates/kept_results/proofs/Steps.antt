@@ -8,7 +8,7 @@ use Rattle.std.proofs.lemmas.List.{drop_all, get_or_read}
 use Rattle.written_types.specs.Named.{Named}
 use Rattle.script_program.specs.declared.made.Output.{Output}
 use Rattle.script_program.proofs.SourceSteps.{found_below, head_of}
-use Rattle.script_program.specs.Needed.{numbered}
+use Rattle.script_program.specs.Needed.{collections_numbered}
 use Rattle.script_program.specs.Script.{Node, Script}
 use Rattle.kept_results.specs.Asked.{asked_as, asked_nodes, name_read}
 
@@ -45,7 +45,7 @@ map_if f false x xs = refl
 
 module _ {X : Type 0} (nodes : Named Node) (p : ℕ → Bool) (f : ℕ × (List ℕ × Node) → X) where
   abbrev pub told_from : ℕ → Named Node → List X
-  told_from number rest = map f (filter (λ it. p it.0) (numbered number rest))
+  told_from number rest = map f (filter (λ it. p it.0) (collections_numbered number rest))
 
   pub told_next : (old new whole : List X) (number : ℕ) (flag : Bool) → number < length nodes
       → flag ≡ p number
@@ -59,7 +59,7 @@ module _ {X : Type 0} (nodes : Named Node) (p : ℕ → Bool) (f : ℕ × (List 
       number
       (ap (told_from number) (head_of nodes number entry found)
       ∙ map_if f (p number) (number, entry)
-      (filter (λ it. p it.0) (numbered (suc number) (drop (suc number) nodes))))
+      (filter (λ it. p it.0) (collections_numbered (suc number) (drop (suc number) nodes))))
       (pushed entry found
       ∙ ap (λ b. old ++ (if b then f (number, entry) ∷ [] else [])) same) h
 
@@ -91,7 +91,7 @@ flat_if g false x xs = refl
 module _ {X : Type 0} (nodes : Named Node) (p : ℕ → Bool)
     (g : ℕ × (List ℕ × Node) → List X) where
   abbrev pub gathered_from : ℕ → Named Node → List X
-  gathered_from number rest = flat_map g (filter (λ it. p it.0) (numbered number rest))
+  gathered_from number rest = flat_map g (filter (λ it. p it.0) (collections_numbered number rest))
 
   pub gathered_next : (old new whole : List X) (number : ℕ) → number < length nodes
       → ((entry : List ℕ × Node) → slice_get nodes number ≡ Some entry
@@ -103,7 +103,7 @@ module _ {X : Type 0} (nodes : Named Node) (p : ℕ → Bool)
       one_more nodes gathered_from old new (if p number then g (number, entry) else []) whole number
       (ap (gathered_from number) (head_of nodes number entry found)
       ∙ flat_if g (p number) (number, entry)
-      (filter (λ it. p it.0) (numbered (suc number) (drop (suc number) nodes))))
+      (filter (λ it. p it.0) (collections_numbered (suc number) (drop (suc number) nodes))))
       (pushed entry found) h
 
   pub gathered_all : (done whole : List X) (number : ℕ) → length nodes ≤ number
@@ -114,7 +114,7 @@ module _ {X : Type 0} (nodes : Named Node) (p : ℕ → Bool)
 
 abbrev pub asked_from : Named Output → ℕ → Named Node → List (ℕ × List ℕ)
 asked_from outputs number nodes =
-    flat_map (λ it. asked_as it.0 (name_read outputs it.0)) (numbered number nodes)
+    flat_map (λ it. asked_as it.0 (name_read outputs it.0)) (collections_numbered number nodes)
 
 pub asked_next : (script : Script) (old new : List (ℕ × List ℕ)) (number : ℕ)
     → number < length script.nodes

@@ -3,7 +3,7 @@ use Rattle.std.specs.Prelude.{◌==◌, ℕ, List, [], ◌∷◌, Option, Some, 
 use Rattle.std.specs.List.{flat_map}
 use Rattle.written_types.specs.Named.{Named}
 use Rattle.script_program.specs.declared.made.Output.{Output}
-use Rattle.script_program.specs.Needed.{numbered}
+use Rattle.script_program.specs.Needed.{collections_numbered}
 use Rattle.script_program.specs.Script.{Script}
 
 -- the name under which the first of these outputs reads the collection of that number
@@ -19,4 +19,5 @@ asked_as number (Some name) = (number, name) ∷ []
 -- their numbers, in order of the script, each once, with the name under which it is read
 abbrev pub asked_nodes : Script → List (ℕ × List ℕ)
 asked_nodes script =
-    flat_map (λ it. asked_as it.0 (name_read script.outputs it.0)) (numbered 0 script.nodes)
+    flat_map (λ it. asked_as it.0 (name_read script.outputs it.0))
+    (collections_numbered 0 script.nodes)

@@ -16,7 +16,7 @@ use Rattle.script_program.specs.Script.{Node, Script}
 use Rattle.value_reading.specs.Written.{IsCanonical}
 
 -- these have the collection's type and ascend, and of an object there is just one
-pub record AreMembersOf (node : Node) (members : List Value) : Type 0 where
+pub record AreMembersFor (node : Node) (members : List Value) : Type 0 where
   pub typed : AllHave node.type members
   pub ascending : IsSorted value_cmp members
   pub one : gives_object node.made ≡ true → length members ≡ 1
@@ -26,7 +26,7 @@ pub record AreMembersOf (node : Node) (members : List Value) : Type 0 where
 pub record IsKeptOf (script : Script) (number : ℕ) (saved : Saved) : Type 0 where
   pub entry : List ℕ × Node
   pub at : slice_get script.nodes number ≡ Some entry
-  pub members : AreMembersOf entry.1 saved.members
+  pub members : AreMembersFor entry.1 saved.members
   pub names : map (λ size. size.name) saved.sizes ≡ rested_names script number
   pub counts : AreCounts saved
 

@@ -26,22 +26,22 @@ nodes_needed script = map named_only (needed_nodes script)
 -- ---- sizes by number
 
 -- sizes beside the numbers of these collections
-abbrev pub beside : List (ℕ × List ℕ) → List ℕ → List (ℕ × ℕ)
-beside [] sizes = []
-beside (it ∷ nodes) [] = []
-beside (it ∷ nodes) (size ∷ sizes) = (it.0, size) ∷ beside nodes sizes
+abbrev pub size_pairs : List (ℕ × List ℕ) → List ℕ → List (ℕ × ℕ)
+size_pairs [] sizes = []
+size_pairs (it ∷ nodes) [] = []
+size_pairs (it ∷ nodes) (size ∷ sizes) = (it.0, size) ∷ size_pairs nodes sizes
 
 -- what was kept with what was found
 abbrev pub sizes_kept : Script → List (ℕ × Saved) → List (ℕ × ℕ)
 sizes_kept script found =
     flat_map
-    (λ it. beside (rested_nodes script it.0) (map (λ size. size.members) it.1.sizes)) found
+    (λ it. size_pairs (rested_nodes script it.0) (map (λ size. size.members) it.1.sizes)) found
 
 -- and behind that what a run of the script has counted in which that is kept
 abbrev pub sizes_known : Script → List (ℕ × Saved) → List (List ℕ × ℕ) → List (ℕ × ℕ)
 sizes_known script found ran =
     sizes_kept script found
-    ++ beside (nodes_needed (later_of script found)) (map (λ line. line.1) ran)
+    ++ size_pairs (nodes_needed (later_of script found)) (map (λ line. line.1) ran)
 
 -- the first size beside a number; 0 where there is none
 abbrev pub size_at : List (ℕ × ℕ) → ℕ → ℕ
@@ -54,10 +54,10 @@ size_at (it ∷ known) number = if it.0 == number then it.1 else size_at known n
 abbrev pub sizes_told : List (ℕ × ℕ) → List (ℕ × List ℕ) → List (List ℕ × ℕ)
 sizes_told known nodes = map (λ it. (it.1, size_at known it.0)) nodes
 
-abbrev pub size_line : List (ℕ × ℕ) → ℕ × List ℕ → Size
-size_line known it = record { name = it.1; members = size_at known it.0 }
+abbrev pub size_entry : List (ℕ × ℕ) → ℕ × List ℕ → Size
+size_entry known it = record { name = it.1; members = size_at known it.0 }
 
 -- what is kept of a collection that rests on these: its members, and their sizes
 abbrev pub to_keep : List (ℕ × ℕ) → List (ℕ × List ℕ) → List Value → Saved
 to_keep known nodes members =
-    record { members = members; sizes = map (size_line known) nodes }
+    record { members = members; sizes = map (size_entry known) nodes }

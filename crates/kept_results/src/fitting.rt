@@ -2,7 +2,7 @@
 ghost use Rattle.std.specs.Prelude.{◌≡◌, ◌↔◌, ◌<◌, IfOk, IsTrue, length, true};
 ghost use Rattle.std.specs.List.Sorted.{IsSorted};
 ghost use Rattle.flume_value.specs.Order.{value_cmp};
-ghost use Rattle.kept_results.specs.Kept.{AreMembersOf, IsKeptOf};
+ghost use Rattle.kept_results.specs.Kept.{AreMembersFor, IsKeptOf};
 ghost use Rattle.script_program.specs.Kinds.{gives_object};
 ghost use Rattle.script_program.specs.Program.{node_in};
 
@@ -36,7 +36,7 @@ pub fn is_kept_of(
 // Whether these may be the members of a collection.
 fn are_members_of(types: &Types, node: &Node, members: &[Value]) -> bool
     requires { node.now.ty < length types.now }
-    ensures { IsTrue result ↔ AreMembersOf (node_in types.now node.now) members.now }
+    ensures { IsTrue result ↔ AreMembersFor (node_in types.now node.now) members.now }
 {
     all_have(members, types, node.ty) && ascend(members) && is_one(node, members)
 }

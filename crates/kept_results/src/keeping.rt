@@ -1,7 +1,7 @@
 // What is kept of collections that were not found.
 ghost use Rattle.std.specs.Prelude.{◌≡◌, ◌≤◌, IfOk, IfSome, OnOk, Some, if◌then◌else◌, is_ok, is_some};
 ghost use Rattle.std.specs.Option.{option_map};
-ghost use Rattle.cache_store.specs.Entries.{with_entries, with_entry};
+ghost use Rattle.cache_store.specs.Entries.{with_entries, with_cache_entry};
 ghost use Rattle.flume_value.specs.Canonical.{canonical};
 ghost use Rattle.flume_value.specs.Ranges.{IsHeld};
 ghost use Rattle.outside.specs.Cause.{HasCause, Rose};
@@ -51,7 +51,7 @@ pub fn keep_each<C: Cache>(kept: &[CacheEntry], cache: &mut C)
 // Keeps one of them.
 fn keep_one<C: Cache>(entry: &CacheEntry, cache: &mut C) -> Result<(), Failed>
     ensures entries { (C.seen cache.new).entries ≡ (if is_ok result
-        then option_map (λ entries. with_entry entries entry.now.key entry.now.value)
+        then option_map (λ entries. with_cache_entry entries entry.now.key entry.now.value)
         (C.seen cache.old).entries else (C.seen cache.old).entries) }
     ensures cause { HasCause (C.seen cache.old).faults (C.seen cache.new).faults result }
 {

@@ -11,7 +11,7 @@ ghost use Rattle.script_program.specs.Saved.{HasNoSaved};
 ghost use Rattle.script_program.specs.Script.{Script};
 ghost use Rattle.kept_results.specs.Asked.{asked_nodes};
 ghost use Rattle.kept_results.specs.Kept.{AreKept};
-ghost use Rattle.kept_results.specs.Lists.{HasMembers, found_of, given_to, later_of};
+ghost use Rattle.kept_results.specs.Lists.{HasMembers, found_of, rows_for_script, later_of};
 
 use saved_meaning::lists_law;
 
@@ -24,14 +24,14 @@ pub fn given_law()
         map (λ it. it.0) asked ≡ map (λ it. it.0) (asked_nodes script) →
         AreKept script asked looked → AreInputs script rows →
         AreInputs (later_of script (found_of asked looked))
-        (given_to script (found_of asked looked) rows) }
+        (rows_for_script script (found_of asked looked) rows) }
     ensures meant { (script : Script) (asked : List (ℕ × List ℕ)) (looked : List (Option Saved))
         (rows : List (List Value)) (table : List (Option Collection)) →
         IsWellFormed script → HasNoSaved script →
         map (λ it. it.0) asked ≡ map (λ it. it.0) (asked_nodes script) →
         AreKept script asked looked →
         AllByRecursion (HasMembers table) (found_of asked looked) →
-        given_to script (found_of asked looked) rows
+        rows_for_script script (found_of asked looked) rows
         ≡ lists_for script (later_of script (found_of asked looked)) rows table }
 {
     lists_law();

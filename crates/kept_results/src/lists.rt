@@ -1,7 +1,7 @@
 // What is given to a run that reuses what earlier runs have kept.
 ghost use Rattle.std.specs.Prelude.{◌≡◌, ◌<◌, ◌++◌, ◌∷◌, [], All, Bool, IfOk, List, OnOk, Some, ℕ, if◌then◌else◌, length, map, slice_get};
 ghost use Rattle.std.specs.Vec.Iter.{into_iter_items};
-ghost use Rattle.saved_meaning.specs.Found.{chosen, needs_input};
+ghost use Rattle.saved_meaning.specs.Found.{marked_ones, needs_input};
 ghost use Rattle.script_program.specs.Needed.{is_needed};
 ghost use Rattle.script_program.specs.Script.{Node};
 ghost use Rattle.kept_results.specs.Lists as spec;
@@ -59,7 +59,7 @@ pub fn given_lists(
 ) -> Result<Pile<Items>, AllocError>
     requires { All (λ number. number < length later.now.script.nodes) inputs.now }
     ensures { IfOk result (λ lists.
-        lists ≡ spec.given_lists later.now.script inputs.now rows kept.items) }
+        lists ≡ spec.rows_given later.now.script inputs.now rows kept.items) }
 {
     let mut lists = rows_needed(alloc, later, inputs, rows)?;
     lists.append(&mut kept)?;
@@ -75,7 +75,7 @@ fn rows_needed(
 ) -> Result<Vec<Items>, AllocError>
     requires { All (λ number. number < length later.now.script.nodes) inputs.now }
     ensures { IfOk result (λ lists. lists.items
-        ≡ chosen (map (needs_input later.now.script) inputs.now) rows) }
+        ≡ marked_ones (map (needs_input later.now.script) inputs.now) rows) }
 {
     let mut rows = rows.into_vec().into_iter();
     let mut lists = Vec::new(alloc);
@@ -94,9 +94,9 @@ fn push_next(
 ) -> Result<(), AllocError>
     requires { number < length later.now.script.nodes }
     ensures { OnOk result ((marks : List Bool) →
-        lists.new.items ++ chosen marks (into_iter_items rows.new)
+        lists.new.items ++ marked_ones marks (into_iter_items rows.new)
         ≡ lists.old.items
-        ++ chosen (needs_input later.now.script number ∷ marks) (into_iter_items rows.old)) }
+        ++ marked_ones (needs_input later.now.script number ∷ marks) (into_iter_items rows.old)) }
 {
     match rows.next() {
         Some(own) => {

@@ -13,7 +13,7 @@ pub fn push_kept(
     known: &mut Vec<(u32, u64)>,
 ) -> Result<(), AllocError>
     ensures { OnOk result (known.new.items ≡ known.old.items
-        ++ spec.beside nodes.now (map (λ size. size.members) sizes.now)) }
+        ++ spec.size_pairs nodes.now (map (λ size. size.members) sizes.now)) }
 {
     for place in 0..nodes.len() {
         let Some(size) = sizes.get(place) else {
@@ -31,7 +31,7 @@ pub fn push_counted(
     known: &mut Vec<(u32, u64)>,
 ) -> Result<(), AllocError>
     ensures { OnOk result (known.new.items ≡ known.old.items
-        ++ spec.beside nodes.now (map (λ line. line.1) ran.now)) }
+        ++ spec.size_pairs nodes.now (map (λ line. line.1) ran.now)) }
 {
     for place in 0..nodes.len() {
         let Some((_, size)) = ran.get(place) else {

@@ -4,7 +4,7 @@ ghost use Rattle.std.specs.List.{list_all};
 ghost use Rattle.flume_types.specs.declared.types.Ty.{Ty};
 ghost use Rattle.flume_types.specs.Typing.{each_has as each_fits, has_type as has, layer_has};
 ghost use Rattle.flume_value.specs.declared.value.Value.{Value-F};
-ghost use Rattle.type_table.specs.Table.{AreWithin, field_at, level, type_at};
+ghost use Rattle.type_table.specs.Table.{AreWithin, field_at, shape_layer, type_at};
 
 use flume_value::Value;
 use type_table::{Part, Shape, TypeId, Types};
@@ -72,21 +72,21 @@ fn each_has(items: &[Value], types: &Types, parts: &[Part]) -> bool
 
 fn is_int(shape: &Shape) -> bool
     ensures { (types : List Ty) (n : ℤ) → result
-        ≡ layer_has has (Value-F.Int n) (level types shape.now) }
+        ≡ layer_has has (Value-F.Int n) (shape_layer types shape.now) }
 {
     matches!(shape, Shape::Int)
 }
 
 fn is_bool(shape: &Shape) -> bool
     ensures { (types : List Ty) (b : Bool) → result
-        ≡ layer_has has (Value-F.Bool b) (level types shape.now) }
+        ≡ layer_has has (Value-F.Bool b) (shape_layer types shape.now) }
 {
     matches!(shape, Shape::Bool)
 }
 
 fn is_text(shape: &Shape) -> bool
     ensures { (types : List Ty) (text : List ℕ) → result
-        ≡ layer_has has (Value-F.Text text) (level types shape.now) }
+        ≡ layer_has has (Value-F.Text text) (shape_layer types shape.now) }
 {
     matches!(shape, Shape::Text)
 }

@@ -12,8 +12,8 @@ use Rattle.flume_grammar.specs.declared.fault.ScriptKind.TheVariants.{Mistyped}
 use Rattle.flume_types.specs.declared.types.Ty.{Ty}
 use Rattle.written_types.specs.Answer.{unless}
 use Rattle.written_types.specs.Named.{Named, find}
-use Rattle.script_keys.specs.Outlines.{callees, operands}
-use Rattle.script_keys.specs.Rests.{has}
+use Rattle.script_keys.specs.Outlines.{callees, operand_names}
+use Rattle.script_keys.specs.Rests.{holds_name}
 use Rattle.script_keys.specs.declared.rests.Names.{Names}
 use Rattle.script_program.specs.declared.made.Made.{Made}
 use Rattle.script_program.specs.declared.made.Made.TheVariants as made
@@ -166,7 +166,7 @@ module _ (SameFile : List ℕ → Type 0) (names : Names) (pairs : Pairs) (s r :
       (length s.nodes + j, length r.nodes + j)
       (along_at (length s.nodes) (length r.nodes) many j below)
 
-  met : (name : List ℕ) → has names.collections name ≡ true → (b : Bool)
+  met : (name : List ℕ) → holds_name names.collections name ≡ true → (b : Bool)
       → list_any (bytes_eq name) own ≡ b
       → Meet all_pairs
       (stands name (s.names ++ standing own makings (length s.nodes)))
@@ -267,13 +267,13 @@ module _ (SameFile : List ℕ → Type 0) (names : Names) (pairs : Pairs) (s r :
 module _ (SameFile : List ℕ → Type 0) (names : Names) where
   abbrev pub Asked : Operation → Type 0
   Asked by =
-      Each (λ name. has names.collections name ≡ true) (operands by)
-      × Each (λ name. has names.functions name ≡ true) (callees by)
+      Each (λ name. holds_name names.collections name ≡ true) (operand_names by)
+      × Each (λ name. holds_name names.functions name ≡ true) (callees by)
 
   pub named_added : (pairs : Pairs) (s r : State) → IsAlike SameFile names pairs s r
       → (line other : ℕ) (own : List (List ℕ)) (by : Operation) → Asked by
-      → (after behind_ : State) → spec.named line own by s ≡ Ok after
-      → spec.named other own by r ≡ Ok behind_ → Added SameFile names pairs s r after behind_
+      → (after behind_ : State) → spec.let_rule line own by s ≡ Ok after
+      → spec.let_rule other own by r ≡ Ok behind_ → Added SameFile names pairs s r after behind_
   named_added pairs s r alike line other own by asked after behind_ e f =
       let new = both (spec.all_fresh line (keys_of s.names) own) _ after e in
       let new_ = both (spec.all_fresh other (keys_of r.names) own) _ behind_ f in
@@ -347,13 +347,13 @@ module _ (SameFile : List ℕ → Type 0) (names : Names) where
   all_added [] (other ∷ others) same asked pairs s r alike after behind_ e f = absurd same
   all_added (it ∷ lets) [] same asked pairs s r alike after behind_ e f = absurd same
   all_added (it ∷ lets) (other ∷ others) same asked pairs s r alike after behind_ e f =
-      let next = both (spec.named it.line it.names it.by s) _ after e in
-      let next_ = both (spec.named other.line other.names other.by r) _ behind_ f in
+      let next = both (spec.let_rule it.line it.names it.by s) _ after e in
+      let next_ = both (spec.let_rule other.line other.names other.by r) _ behind_ f in
       let first =
       named_added pairs s r alike it.line other.line it.names it.by asked.0 next.part next_.part
       next.first
-      (subst (λ ns. spec.named other.line ns it.by r ≡ Ok next_.part) (sym same.0.names)
-      (subst (λ b. spec.named other.line other.names b r ≡ Ok next_.part) (sym same.0.by)
+      (subst (λ ns. spec.let_rule other.line ns it.by r ≡ Ok next_.part) (sym same.0.names)
+      (subst (λ b. spec.let_rule other.line other.names b r ≡ Ok next_.part) (sym same.0.by)
       next_.first)) in
       then_added pairs s r next.part next_.part after behind_ first
       (all_added lets others same.1 asked.1

@@ -7,7 +7,7 @@ use Rattle.flume_grammar.specs.declared.tree.Form.{Form}
 use Rattle.flume_grammar.specs.declared.tree.Form.TheVariants as form
 use Rattle.flume_grammar.specs.declared.tree.Statement.{Statement}
 use Rattle.script_keys.specs.Outlines.{outline_of}
-use Rattle.script_keys.specs.Rests.{belongs, belongs_by, defines, has, is_defined, is_named, names_before, only, rested_on, with_named}
+use Rattle.script_keys.specs.Rests.{belongs, belongs_by, defines, holds_name, is_defined, is_named, names_before, name_alone, rested_on, with_named}
 use Rattle.script_keys.specs.declared.outline.Outline.{Outline}
 use Rattle.script_keys.specs.declared.outline.Outline.TheVariants as outline
 use Rattle.script_keys.specs.declared.rests.Names.{Names}
@@ -71,9 +71,10 @@ away_names names found it away =
 
 -- more names
 pub record IsWider (names more : Names) : Type 0 where
-  pub collections : (own : List ℕ) → has names.collections own ≡ true
-      → has more.collections own ≡ true
-  pub functions : (own : List ℕ) → has names.functions own ≡ true → has more.functions own ≡ true
+  pub collections : (own : List ℕ) → holds_name names.collections own ≡ true
+      → holds_name more.collections own ≡ true
+  pub functions : (own : List ℕ) → holds_name names.functions own ≡ true
+      → holds_name more.functions own ≡ true
 
 wider_by : (names : Names) (it : Outline) (b : Bool)
     → IsWider names (if b then with_named names it else names)
@@ -89,31 +90,32 @@ wider names it = wider_by names it (is_named names it)
 
 module _ (name : List ℕ) where
   -- the collection itself is always among the names
-  has_itself : (others : List Outline) → has (rested_on name others).collections name ≡ true
+  has_itself : (others : List Outline) → holds_name (rested_on name others).collections name ≡ true
   has_itself [] = λ i. bytes_itself name i || false
   has_itself (it ∷ others) =
       (wider (rested_on name others) it).collections name (has_itself others)
 
-  some_defined : (names own : List (List ℕ)) → has names name ≡ true → has own name ≡ true
-      → list_any (has names) own ≡ true
+  some_defined : (names own : List (List ℕ)) → holds_name names name ≡ true
+      → holds_name own name ≡ true
+      → list_any (holds_name names) own ≡ true
   some_defined names [] is among = cc
   some_defined names (first ∷ own) is among =
       by (some_defined names own is) (bytes_eq first name) refl among
     where
-      by : (has own name ≡ true → list_any (has names) own ≡ true) → (b : Bool)
-          → bytes_eq first name ≡ b → (b || has own name) ≡ true
-          → (has names first || list_any (has names) own) ≡ true
+      by : (holds_name own name ≡ true → list_any (holds_name names) own ≡ true) → (b : Bool)
+          → bytes_eq first name ≡ b → (b || holds_name own name) ≡ true
+          → (holds_name names first || list_any (holds_name names) own) ≡ true
       by further true same later =
-          (λ i. has names (same_bytes first name same i) || list_any (has names) own)
-          ∙ (λ i. is i || list_any (has names) own)
+          (λ i. holds_name names (same_bytes first name same i) || list_any (holds_name names) own)
+          ∙ (λ i. is i || list_any (holds_name names) own)
       by further false same later =
-          or-later (has names first) (list_any (has names) own) (further later)
+          or-later (holds_name names first) (list_any (holds_name names) own) (further later)
 
-  defined_named : (names : Names) (it : Outline) → has names.collections name ≡ true
+  defined_named : (names : Names) (it : Outline) → holds_name names.collections name ≡ true
       → defines it name ≡ true → is_named names it ≡ true
   defined_named names outline.Type is it = cc
   defined_named names (outline.Input own file) is it =
-      ap (has names.collections) (same_bytes own name it) ∙ is
+      ap (holds_name names.collections) (same_bytes own name it) ∙ is
   defined_named names (outline.Function own) is it = cc
   defined_named names (outline.Let own reads calls) is it =
       some_defined names.collections own is it
@@ -132,21 +134,21 @@ module _ (name : List ℕ) where
           let e : true ≡ false = sym named ∙ none in
           cc
 
-  only_defined : (own : List (List ℕ)) → list_any (has (name ∷ [])) own ≡ true
-      → has own name ≡ true
+  only_defined : (own : List (List ℕ)) → list_any (holds_name (name ∷ [])) own ≡ true
+      → holds_name own name ≡ true
   only_defined [] is = cc
   only_defined (first ∷ own) is =
       by (only_defined own) (bytes_eq name first) refl is
     where
-      by : (list_any (has (name ∷ [])) own ≡ true → has own name ≡ true) → (b : Bool)
+      by : (list_any (holds_name (name ∷ [])) own ≡ true → holds_name own name ≡ true) → (b : Bool)
           → bytes_eq name first ≡ b
-          → ((b || false) || list_any (has (name ∷ [])) own) ≡ true
-          → (bytes_eq first name || has own name) ≡ true
+          → ((b || false) || list_any (holds_name (name ∷ [])) own) ≡ true
+          → (bytes_eq first name || holds_name own name) ≡ true
       by further true same later =
           λ i. (ap (λ n. bytes_eq first n) (same_bytes name first same) ∙ bytes_itself first) i
-          || has own name
+          || holds_name own name
       by further false same later =
-          or-later (bytes_eq first name) (has own name) (further later)
+          or-later (bytes_eq first name) (holds_name own name) (further later)
 
   one_defined : (own : List ℕ) → (bytes_eq name own || false) ≡ true → bytes_eq own name ≡ true
   one_defined own is = by (bytes_eq name own) refl is
@@ -156,7 +158,7 @@ module _ (name : List ℕ) where
       by false same later = cc
 
   -- among itself alone
-  named_defined : (it : Outline) → is_named (only name) it ≡ true → defines it name ≡ true
+  named_defined : (it : Outline) → is_named (name_alone name) it ≡ true → defines it name ≡ true
   named_defined outline.Type is = cc
   named_defined (outline.Input own file) is = one_defined own is
   named_defined (outline.Function own) is = cc
@@ -165,15 +167,15 @@ module _ (name : List ℕ) where
 
   -- behind it nothing else is rested on
   not_yet : (others : List Outline) → is_defined name others ≡ false
-      → rested_on name others ≡ only name
+      → rested_on name others ≡ name_alone name
   not_yet [] none = refl
   not_yet (it ∷ others) none =
       let both_ = neither (defines it name) (is_defined name others) none in
       ap (λ ns. names_before ns it) (not_yet others both_.1)
-      ∙ if_false (is_named (only name) it) (with_named (only name) it) (only name)
-      (by (is_named (only name) it) refl both_.0)
+      ∙ if_false (is_named (name_alone name) it) (with_named (name_alone name) it) (name_alone name)
+      (by (is_named (name_alone name) it) refl both_.0)
     where
-      by : (b : Bool) → is_named (only name) it ≡ b → defines it name ≡ false → b ≡ false
+      by : (b : Bool) → is_named (name_alone name) it ≡ b → defines it name ≡ false → b ≡ false
       by false is away = refl
       by true is away =
           let e : true ≡ false = sym (named_defined it is) ∙ away in

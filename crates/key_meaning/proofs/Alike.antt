@@ -5,9 +5,9 @@ use Rattle.std.specs.List.{AllZip, Contains}
 use Rattle.combine_table.specs.declared.comb.Comb.{Comb}
 use Rattle.flume_types.specs.declared.column.Column.{Column}
 use Rattle.statement_law.specs.Lineless.{body_lineless}
-use Rattle.script_keys.specs.Rests.{has}
+use Rattle.script_keys.specs.Rests.{holds_name}
 use Rattle.script_keys.specs.declared.rests.Names.{Names}
-use Rattle.direct_meaning.specs.of_script_rules.Repeats.{renumbered}
+use Rattle.direct_meaning.specs.of_script_rules.Repeats.{made_from_others}
 use Rattle.script_program.specs.Kinds.{gives_object}
 use Rattle.script_program.specs.Needed.{operands}
 use Rattle.script_program.specs.declared.made.Made.{Made}
@@ -123,9 +123,9 @@ Meet pairs (Some a) (Some b) = Paired pairs a b
 -- the same.
 pub record IsAlike (SameFile : List ℕ → Type 0) (names : Names) (pairs : Pairs) (s r : State)
     : Type 0 where
-  pub collections : (name : List ℕ) → has names.collections name ≡ true
+  pub collections : (name : List ℕ) → holds_name names.collections name ≡ true
       → Meet pairs (stands name s.names) (stands name r.names)
-  pub functions : (name : List ℕ) → has names.functions name ≡ true
+  pub functions : (name : List ℕ) → holds_name names.functions name ≡ true
       → FunctionsMeet (find name s.functions) (find name r.functions)
   pub paired : (a b : ℕ) → Paired pairs a b
       → NodeAlike SameFile pairs s.functions r.functions s.nodes r.nodes a b
@@ -213,7 +213,8 @@ module _ (SameFile : List ℕ → Type 0) (pairs more : Pairs) (functions others
   zip_moved (x ∷ xs) (y ∷ ys) zipped = (sub x y zipped.0, zip_moved xs ys zipped.1)
 
   pub made_moved : {how other : Made} → MadeAlike SameFile pairs functions others how other
-      → MadeAlike SameFile more functions others (renumbered to how) (renumbered back other)
+      → MadeAlike SameFile more functions others (made_from_others to how)
+      (made_from_others back other)
   made_moved (input file) = input file
   made_moved (do_ {a} {b} reads by) = do_ (sub a b reads) by
   made_moved (group {a} {b} reads) = group (sub a b reads)

@@ -10,12 +10,12 @@ use Rattle.dofn_eval.specs.Operations.{chosen}
 use Rattle.dofn_eval.proofs.MeaningLemmas.{then_same}
 use Rattle.written_types.specs.Named.{Named}
 use Rattle.expression_check.specs.Given.{Thing, valued}
-use Rattle.body_check.specs.Call.{Emits, NameState, after, block, by_side, emitted_by, emitted_in, for_each}
+use Rattle.body_check.specs.Call.{Emits, NameState, after, block, by_side, emitted_behind, emitted_in, for_each}
 use Rattle.body_check.specs.Call.{layer_emitted, run_all, state}
 use Rattle.body_check.proofs.FormLemmas.{emitted_in-step}
 use Rattle.statement_law.specs.Lineless.{body_lineless, layer_lineless}
 use Rattle.script_program.specs.Script.{Function}
-use Rattle.direct_meaning.specs.Calls.{answer_of, answered}
+use Rattle.direct_meaning.specs.Calls.{answer_of, call_answered}
 use Rattle.key_meaning.proofs.Alike.{SameFunction}
 use Rattle.key_meaning.proofs.Values.{same_value}
 
@@ -58,7 +58,7 @@ module _ (known : Named Ty) where
       (same_value line 0 known e s.env)
       ∙ sym (at_form (body.Let 0 name e) (Body-F.Let 0 name e) s (body.outs-Let 0 name e))
   by_body (Body-F.Emit line to e) s =
-      ap (λ (o : Outcome Thing). after s.env (then o (λ x. emitted_by to x.1 s.out)))
+      ap (λ (o : Outcome Thing). after s.env (then o (λ x. emitted_behind to x.1 s.out)))
       (same_value line 0 known e s.env)
       ∙ sym (at_form (body.Emit 0 to e) (Body-F.Emit 0 to e) s (body.outs-Emit 0 to e))
   by_body (Body-F.If line e a b) s =
@@ -110,10 +110,10 @@ module _ (known : Named Ty) where
 pub same_answer : (f g : Function) → SameFunction f g → (x : Value) → answer_of f x ≡ answer_of g x
 unfolding answer_of
 same_answer f g same x =
-    ap (λ (e : Emits). answered x (e ((f.argument, (f.signature.takes, x)) ∷ [])
+    ap (λ (e : Emits). call_answered x (e ((f.argument, (f.signature.takes, x)) ∷ [])
     (replicate (length f.signature.gives) []))) (bodies_same f.types f.body)
-    ∙ (λ i. answered x (block (emitted_in (same.types i)) (same.body i)
+    ∙ (λ i. call_answered x (block (emitted_in (same.types i)) (same.body i)
     ((same.argument i, ((same.signature i).takes, x)) ∷ [])
     (replicate (length (same.signature i).gives) [])))
-    ∙ ap (λ (e : Emits). answered x (e ((g.argument, (g.signature.takes, x)) ∷ [])
+    ∙ ap (λ (e : Emits). call_answered x (e ((g.argument, (g.signature.takes, x)) ∷ [])
     (replicate (length g.signature.gives) []))) (sym (bodies_same g.types g.body))

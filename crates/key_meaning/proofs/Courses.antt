@@ -7,8 +7,8 @@ use Rattle.flume_grammar.specs.declared.tree.Operation.{Operation}
 use Rattle.flume_grammar.specs.declared.tree.Repeat.{Repeat}
 use Rattle.flume_grammar.specs.declared.tree.Statement.{Statement}
 use Rattle.flume_grammar.specs.declared.tree.TurnLet.{TurnLet}
-use Rattle.script_keys.specs.Outlines.{called_in, callees, operands, outline_of, read_in}
-use Rattle.script_keys.specs.Rests.{belongs_by, defines, has, is_defined, is_named, names_before, only, rested_on, with_named}
+use Rattle.script_keys.specs.Outlines.{called_in, callees, operand_names, outline_of, read_in}
+use Rattle.script_keys.specs.Rests.{belongs_by, defines, holds_name, is_defined, is_named, names_before, name_alone, rested_on, with_named}
 use Rattle.script_keys.specs.declared.outline.Outline.{Outline}
 use Rattle.script_keys.specs.declared.rests.Names.{Names}
 use Rattle.script_program.specs.Script.{State, with_statement}
@@ -46,37 +46,37 @@ rises_more m n (more {pairs} {k} {l} {m = a} {n = b} {above} {above_} j rises x 
 asked_by : (SameFile : List ℕ → Type 0) (names : Names) (by : Operation)
     → Asked SameFile
     (record {
-      collections = names.collections ++ operands by;
+      collections = names.collections ++ operand_names by;
       functions = names.functions ++ callees by;
     }) by
 asked_by SameFile names by = (
-  each_more (operands by) (names.collections ++ operands by) (operands by)
-      (has_right names.collections (operands by)) (each_itself (operands by)),
+  each_more (operand_names by) (names.collections ++ operand_names by) (operand_names by)
+      (has_right names.collections (operand_names by)) (each_itself (operand_names by)),
   each_more (callees by) (names.functions ++ callees by) (callees by)
       (has_right names.functions (callees by)) (each_itself (callees by)),
 )
 
 each_of : (lets : List TurnLet) (all calls : List (List ℕ))
-    → ((name : List ℕ) → has (flat_map (λ own. operands own.by) lets) name ≡ true
-    → has all name ≡ true)
-    → ((name : List ℕ) → has (flat_map (λ own. callees own.by) lets) name ≡ true
-    → has calls name ≡ true)
-    → Each (λ (it : TurnLet). Each (λ name. has all name ≡ true) (operands it.by)
-    × Each (λ name. has calls name ≡ true) (callees it.by)) lets
+    → ((name : List ℕ) → holds_name (flat_map (λ own. operand_names own.by) lets) name ≡ true
+    → holds_name all name ≡ true)
+    → ((name : List ℕ) → holds_name (flat_map (λ own. callees own.by) lets) name ≡ true
+    → holds_name calls name ≡ true)
+    → Each (λ (it : TurnLet). Each (λ name. holds_name all name ≡ true) (operand_names it.by)
+    × Each (λ name. holds_name calls name ≡ true) (callees it.by)) lets
 each_of [] all calls wide wide_ = tt
 each_of (it ∷ lets) all calls wide wide_ =
-    let reads = flat_map (λ (own : TurnLet). operands own.by) lets in
+    let reads = flat_map (λ (own : TurnLet). operand_names own.by) lets in
     let called = flat_map (λ (own : TurnLet). callees own.by) lets in (
       (
-        each_more (operands it.by) all (operands it.by)
-            (λ name is. wide name (has_left (operands it.by) reads name is))
-            (each_itself (operands it.by)),
+        each_more (operand_names it.by) all (operand_names it.by)
+            (λ name is. wide name (has_left (operand_names it.by) reads name is))
+            (each_itself (operand_names it.by)),
         each_more (callees it.by) calls (callees it.by)
             (λ name is. wide_ name (has_left (callees it.by) called name is))
             (each_itself (callees it.by)),
       ),
       each_of lets all calls
-          (λ name is. wide name (has_right (operands it.by) reads name is))
+          (λ name is. wide name (has_right (operand_names it.by) reads name is))
           (λ name is. wide_ name (has_right (callees it.by) called name is)),
     )
 
@@ -124,7 +124,7 @@ module _ (SameFile : List ℕ → Type 0) (pairs : Pairs) (s r : State) (types :
       → spec.rule_repeat other own (with_lets w lets) r ≡ Ok behind
       → Grows (outline_of (form.Repeat own w))
   repeat_by own w lets same is alike e h =
-      let reads = flat_map (λ (own_ : TurnLet). operands own_.by) w.lets in
+      let reads = flat_map (λ (own_ : TurnLet). operand_names own_.by) w.lets in
       let before = with_named names (outline_of (form.Repeat own w)) in
       -- what a repeat reads is among these
       let wide = has_right names.collections (read_in w) in
@@ -173,7 +173,7 @@ module _ (SameFile : List ℕ → Type 0) (pairs : Pairs) (s r : State) (types :
 
 pub record Meets (SameFile : List ℕ → Type 0) (name : List ℕ) (s r : State) : Type 0 where
   pub pairs : Pairs
-  pub alike : IsAlike SameFile (only name) pairs s r
+  pub alike : IsAlike SameFile (name_alone name) pairs s r
   pub rises : Rises pairs (length s.nodes) (length r.nodes)
 
 module _ (SameFile : List ℕ → Type 0) (name : List ℕ) where

@@ -10,7 +10,7 @@ use Rattle.outside.specs.declared.file.File.{File}
 use Rattle.written_types.specs.Named.{Named}
 use Rattle.script_program.specs.declared.made.Made.{Made}
 use Rattle.script_program.specs.declared.made.Made.TheVariants as made
-use Rattle.script_program.specs.Needed.{is_needed, numbered}
+use Rattle.script_program.specs.Needed.{is_needed, collections_numbered}
 use Rattle.script_program.specs.Script.{Node, Script}
 use Rattle.direct_meaning.proofs.GrowLemmas.{Begins, begun_end, grows, longer, next, shorter}
 use Rattle.direct_meaning.specs.Direct.{collections, inputs_behind, made_as, made_at}
@@ -34,14 +34,15 @@ module _ (script : Script) (files : List File) where
   abbrev pub wanted_from : ℕ → Named Node → List Wanted
   wanted_from n nodes =
       flat_map (λ it. wanted_by it.1.1.made it.1.1.type)
-      (filter (λ it. is_needed script it.0) (numbered n nodes))
+      (filter (λ it. is_needed script it.0) (collections_numbered n nodes))
 
   -- the same, where the first is needed or not
   abbrev wanted_if : Bool → ℕ → List ℕ × Node → Named Node → List Wanted
   wanted_if needed n entry nodes =
       flat_map (λ it. wanted_by it.1.1.made it.1.1.type)
-      (cond needed ((n, entry) ∷ filter (λ it. is_needed script it.0) (numbered (suc n) nodes))
-      (filter (λ it. is_needed script it.0) (numbered (suc n) nodes)))
+      (cond needed ((n, entry) ∷ filter (λ it. is_needed script it.0)
+      (collections_numbered (suc n) nodes))
+      (filter (λ it. is_needed script it.0) (collections_numbered (suc n) nodes)))
 
   rows_here : (how : Made) (type : Ty) (more : List Wanted) (inputs : Lists)
       → AllHaveRowsIn files (wanted_by how type ++ more) inputs → (file : List ℕ)

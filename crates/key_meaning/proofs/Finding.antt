@@ -7,13 +7,13 @@ use Rattle.flume_grammar.specs.declared.fault.ScriptKind.{ScriptKind}
 use Rattle.flume_grammar.specs.declared.fault.ScriptKind.TheVariants.{Unknown}
 use Rattle.written_types.specs.Answer.{or_fault}
 use Rattle.written_types.specs.Named.{Named, find}
-use Rattle.script_keys.specs.Rests.{has}
+use Rattle.script_keys.specs.Rests.{holds_name}
 use Rattle.script_keys.specs.declared.rests.Names.{Names}
 use Rattle.script_program.specs.Kinds.{gives_object}
 use Rattle.script_program.specs.declared.made.Standing.{Standing}
 use Rattle.script_program.specs.declared.made.Standing.TheVariants.{Collection, Hidden}
 use Rattle.script_program.specs.Script.{Callee, Function, Node, Operand, State, operand_of, name_place}
-use Rattle.direct_meaning.specs.of_script_rules.Operations.{callee, collection, collections_behind, numbers}
+use Rattle.direct_meaning.specs.of_script_rules.Operations.{callee, operand_named, collections_behind, operand_numbers}
 use Rattle.direct_meaning.proofs.of_script_rules.CheckedLemmas.{both, ok-same, there}
 use Rattle.direct_meaning.specs.of_script_laws.WellFormed.{function_at}
 use Rattle.direct_meaning.proofs.of_script_laws.PlaceLemmas.{found-at}
@@ -68,7 +68,7 @@ standing-read nodes names name one (Some (Collection number)) is e =
 standing-read nodes names name one (Some Hidden) is e = cc
 
 pub is_read : (line : ℕ) (s : State) (name : List ℕ) (one : Operand)
-    → collection line name s ≡ Ok one → Read s.nodes s.names name one
+    → operand_named line name s ≡ Ok one → Read s.nodes s.names name one
 is_read line s name one e =
     standing-read s.nodes s.names name one (find name s.names) refl (there line Unknown _ one e)
 
@@ -134,8 +134,8 @@ pub record CalleeAlike (functions others : Named Function) (one other : Callee) 
 
 module _ (SameFile : List ℕ → Type 0) (names : Names) (pairs : Pairs) (s r : State)
     (alike : IsAlike SameFile names pairs s r) (line other : ℕ) where
-  pub found_alike : (name : List ℕ) → has names.collections name ≡ true → (one two : Operand)
-      → collection line name s ≡ Ok one → collection other name r ≡ Ok two
+  pub found_alike : (name : List ℕ) → holds_name names.collections name ≡ true → (one two : Operand)
+      → operand_named line name s ≡ Ok one → operand_named other name r ≡ Ok two
       → OperandAlike pairs one two
   found_alike name is one two e f =
       let here = is_read line s name one e in
@@ -160,7 +160,7 @@ module _ (SameFile : List ℕ → Type 0) (names : Names) (pairs : Pairs) (s r :
             ∙ sym (ap (λ (x : List ℕ × Node). gives_object x.1.made) second) ∙ there_.kind;
       }
 
-  pub called_alike : (name : List ℕ) → has names.functions name ≡ true → (one two : Callee)
+  pub called_alike : (name : List ℕ) → holds_name names.functions name ≡ true → (one two : Callee)
       → callee line name s ≡ Ok one → callee other name r ≡ Ok two
       → CalleeAlike s.functions r.functions one two
   called_alike name is one two e f =
@@ -182,7 +182,8 @@ module _ (SameFile : List ℕ → Type 0) (names : Names) (pairs : Pairs) (s r :
       }
 
   -- several, behind those so far
-  pub all_alike : (asked : List (List ℕ)) → Each (λ name. has names.collections name ≡ true) asked
+  pub all_alike : (asked : List (List ℕ))
+      → Each (λ name. holds_name names.collections name ≡ true) asked
       → (found others : List Operand) → AllZip (OperandAlike pairs) found others
       → (all more : List Operand) → collections_behind line found asked s ≡ Ok all
       → collections_behind other others asked r ≡ Ok more
@@ -191,15 +192,15 @@ module _ (SameFile : List ℕ → Type 0) (names : Names) (pairs : Pairs) (s r :
       subst (λ l. AllZip (OperandAlike pairs) l more) (ok-same found all e)
       (subst (λ l. AllZip (OperandAlike pairs) found l) (ok-same others more f) zipped)
   all_alike (name ∷ asked) are found others zipped all more e f =
-      let one = both (collection line name s) _ all e in
-      let two = both (collection other name r) _ more f in
+      let one = both (operand_named line name s) _ all e in
+      let two = both (operand_named other name r) _ more f in
       all_alike asked are.1 (found ++ one.part ∷ []) (others ++ two.part ∷ [])
       (zip_more (OperandAlike pairs) found others one.part two.part zipped
       (found_alike name are.0 one.part two.part one.first two.first)) all more one.then two.then
 
 pub numbers_alike : (pairs : Pairs) (all more : List Operand)
     → AllZip (OperandAlike pairs) all more
-    → AllZip (Paired pairs) (numbers all) (numbers more)
+    → AllZip (Paired pairs) (operand_numbers all) (operand_numbers more)
 numbers_alike pairs [] [] zipped = tt
 numbers_alike pairs [] (two ∷ more) zipped = absurd zipped
 numbers_alike pairs (one ∷ all) [] zipped = absurd zipped

@@ -9,7 +9,7 @@ use Rattle.expression_check.specs.Numbers.{number_within}
 use Rattle.written_types.specs.Answer.{◌>>=◌, unless}
 use Rattle.written_types.specs.Named.{Named, find, fresh}
 use Rattle.written_types.specs.Written.{whole_type}
-use Rattle.script_keys.specs.Rests.{has}
+use Rattle.script_keys.specs.Rests.{holds_name}
 use Rattle.script_keys.specs.declared.rests.Names.{Names}
 use Rattle.script_program.specs.Limits.{most_functions, most_outputs}
 use Rattle.script_program.specs.Script.{Function, Signature, State, function_from, with_function}
@@ -54,7 +54,8 @@ module _ (SameFile : List ℕ → Type 0) (names : Names) (pairs : Pairs) (s r :
       (unless other TooMany (nat_le (length all) most_outputs)) (λ few. Ok all) (λ few. Ok all)
       (found_test line other TooMany (nat_le (length all) most_outputs)) (λ few. refl))
 
-  found_scale : (o : Option (List ℕ)) → found (spec.scale_of line o) ≡ found (spec.scale_of other o)
+  found_scale : (o : Option (List ℕ))
+      → found (spec.scale_written line o) ≡ found (spec.scale_written other o)
   found_scale None = refl
   found_scale (Some digits) = found_option line other BadNumber (number_within 0 10000 digits)
 
@@ -70,8 +71,8 @@ module _ (SameFile : List ℕ → Type 0) (names : Names) (pairs : Pairs) (s r :
       let takes_ = both (whole_type other function.takes r.types) _ y new_.then in
       let gives = both (spec.types_given line function s.types) _ x takes.then in
       let gives_ = both (spec.types_given other function r.types) _ y takes_.then in
-      let scale = both (spec.scale_of line function.scale) _ x gives.then in
-      let scale_ = both (spec.scale_of other function.scale) _ y gives_.then in
+      let scale = both (spec.scale_written line function.scale) _ x gives.then in
+      let scale_ = both (spec.scale_written other function.scale) _ y gives_.then in
       let one =
       same_type SameFile names pairs s r alike types line other function.takes takes.part
       takes_.part takes.first takes_.first in
@@ -81,7 +82,7 @@ module _ (SameFile : List ℕ → Type 0) (names : Names) (pairs : Pairs) (s r :
       (ap (λ known. found (spec.types_given line function known)) types
       ∙ found_given function r.types) gives.first gives_.first in
       let many =
-      found_same (spec.scale_of line function.scale) (spec.scale_of other function.scale)
+      found_same (spec.scale_written line function.scale) (spec.scale_written other function.scale)
       scale.part scale_.part (found_scale function.scale) scale.first scale_.first in
       let here : Signature =
       record { takes = takes.part; gives = gives.part; scale = scale.part } in
@@ -92,7 +93,7 @@ module _ (SameFile : List ℕ → Type 0) (names : Names) (pairs : Pairs) (s r :
 
   functions_more : (own : List ℕ) (f g : Function) → SameFunction f g
       → find own s.functions ≡ None → find own r.functions ≡ None
-      → (name : List ℕ) → has names.functions name ≡ true
+      → (name : List ℕ) → holds_name names.functions name ≡ true
       → FunctionsMeet (find name (s.functions ++ (own, f) ∷ []))
       (find name (r.functions ++ (own, g) ∷ []))
   functions_more own f g same none none_ name is = by (bytes_eq name own) refl

@@ -13,11 +13,11 @@ use Rattle.flume_grammar.specs.declared.fault.ScriptKind.TheVariants.{NotFlat, T
 use Rattle.written_types.specs.Answer.{or_fault}
 use Rattle.written_types.specs.Named.{Named, find, fresh}
 use Rattle.written_types.specs.Written.{whole_type}
-use Rattle.script_keys.specs.Rests.{has}
+use Rattle.script_keys.specs.Rests.{holds_name}
 use Rattle.script_keys.specs.declared.rests.Names.{Names}
 use Rattle.script_program.specs.Limits.{most_collections}
 use Rattle.script_program.specs.declared.made.Made.TheVariants as made
-use Rattle.script_program.specs.Script.{Making, State, with_node, with_statement, with_type}
+use Rattle.script_program.specs.Script.{Making, State, with_node, with_statement, with_named_type}
 use Rattle.direct_meaning.specs.of_script_rules.Rules as spec
 use Rattle.direct_meaning.proofs.of_script_rules.CheckedLemmas.{both, holds, ok-same}
 use Rattle.key_meaning.proofs.Adding.{Added, Asked, named_added, nodes_added}
@@ -29,17 +29,17 @@ use Rattle.key_meaning.proofs.Standing.{same_bytes}
 
 -- ---- names, and more of them
 
-pub has_left : (names more : List (List ℕ)) (name : List ℕ) → has names name ≡ true
-    → has (names ++ more) name ≡ true
+pub has_left : (names more : List (List ℕ)) (name : List ℕ) → holds_name names name ≡ true
+    → holds_name (names ++ more) name ≡ true
 has_left names more name is =
-    list_any-append (λ own. bytes_eq own name) names more ∙ (λ i. is i || has more name)
+    list_any-append (λ own. bytes_eq own name) names more ∙ (λ i. is i || holds_name more name)
 
-pub has_right : (names more : List (List ℕ)) (name : List ℕ) → has more name ≡ true
-    → has (names ++ more) name ≡ true
+pub has_right : (names more : List (List ℕ)) (name : List ℕ) → holds_name more name ≡ true
+    → holds_name (names ++ more) name ≡ true
 has_right names more name is =
-    list_any-append (λ own. bytes_eq own name) names more ∙ by (has names name) is
+    list_any-append (λ own. bytes_eq own name) names more ∙ by (holds_name names name) is
   where
-    by : (b : Bool) → has more name ≡ true → (b || has more name) ≡ true
+    by : (b : Bool) → holds_name more name ≡ true → (b || holds_name more name) ≡ true
     by true e = refl
     by false e = e
 
@@ -47,25 +47,28 @@ pub bytes_itself : (name : List ℕ) → bytes_eq name name ≡ true
 bytes_itself name = (bytes_eq-Decides name name).1 refl
 
 pub each_more : (names more own : List (List ℕ))
-    → ((name : List ℕ) → has names name ≡ true → has more name ≡ true)
-    → Each (λ name. has names name ≡ true) own → Each (λ name. has more name ≡ true) own
+    → ((name : List ℕ) → holds_name names name ≡ true → holds_name more name ≡ true)
+    → Each (λ name. holds_name names name ≡ true) own
+    → Each (λ name. holds_name more name ≡ true) own
 each_more names more [] wider each = tt
 each_more names more (name ∷ own) wider each =
     (wider name each.0, each_more names more own wider each.1)
 
 -- each is among them
-pub each_itself : (names : List (List ℕ)) → Each (λ name. has names name ≡ true) names
+pub each_itself : (names : List (List ℕ)) → Each (λ name. holds_name names name ≡ true) names
 each_itself [] = tt
 each_itself (name ∷ names) = (
-  (λ i. bytes_itself name i || has names name),
+  (λ i. bytes_itself name i || holds_name names name),
   each_more names (name ∷ names) names (λ own is. has_right (name ∷ []) names own is)
       (each_itself names),
 )
 
 -- for fewer names
 pub alike_fewer : (SameFile : List ℕ → Type 0) (names fewer : Names) (pairs : Pairs) (s r : State)
-    → ((name : List ℕ) → has fewer.collections name ≡ true → has names.collections name ≡ true)
-    → ((name : List ℕ) → has fewer.functions name ≡ true → has names.functions name ≡ true)
+    → ((name : List ℕ) → holds_name fewer.collections name ≡ true → holds_name names.collections
+    name ≡ true)
+    → ((name : List ℕ) → holds_name fewer.functions name ≡ true → holds_name names.functions name ≡
+    true)
     → IsAlike SameFile names pairs s r → IsAlike SameFile fewer pairs s r
 alike_fewer SameFile names fewer pairs s r wider wider_functions alike = record {
   collections = λ name is. alike.collections name (wider name is);
@@ -123,8 +126,8 @@ module _ (SameFile : List ℕ → Type 0) (names : Names) (pairs : Pairs) (s r :
       let new_ = both (fresh other name r.types) _ behind f in
       let t = both (whole_type line type s.types) _ after new.then in
       let u = both (whole_type other type r.types) _ behind new_.then in
-      let here = with_type name t.part s in
-      let there = with_type name u.part r in
+      let here = with_named_type name t.part s in
+      let there = with_named_type name u.part r in
       let alike_ : IsAlike SameFile names pairs here there = record {
         collections = alike.collections;
         functions = alike.functions;

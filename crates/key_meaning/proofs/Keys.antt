@@ -8,7 +8,7 @@ use Rattle.flume_grammar.specs.declared.tree.Form.{Form}
 use Rattle.flume_grammar.specs.declared.tree.Statement.{Statement}
 use Rattle.outside.specs.Files.{bytes_of}
 use Rattle.outside.specs.declared.file.File.{File}
-use Rattle.script_keys.specs.Keys.{key_of, part_bytes, parts_from, parts_of, piece}
+use Rattle.script_keys.specs.Keys.{collection_key, part_bytes, key_parts_from, key_parts_of, piece}
 use Rattle.script_keys.specs.Outlines.{outline_of}
 use Rattle.script_keys.specs.Rests.{belongs}
 use Rattle.script_keys.specs.declared.outline.Outline.{Outline}
@@ -29,7 +29,7 @@ content files (part.Text text) = text
 content files (part.File name) = unwrap_or (bytes_of files name) []
 
 abbrev pub contents : List File → List ℕ → List Outline → List (List ℕ) → List (List ℕ)
-contents files name outlines texts = map (content files) (parts_from name outlines texts)
+contents files name outlines texts = map (content files) (key_parts_from name outlines texts)
 
 as_pieces : (files : List File) (parts : List KeyPart)
     → flat_map (part_bytes files) parts ≡ flat_map piece (map (content files) parts)
@@ -40,7 +40,7 @@ as_pieces files (part.File name ∷ parts) =
 
 -- behind the beginning of each key
 key_pieces : (files : List File) (parts : List KeyPart) (name : List ℕ)
-    → key_of files parts name
+    → collection_key files parts name
     ≡ codes "FLUME1" ++ flat_map piece (map (content files) parts ++ name ∷ [])
 key_pieces files parts name =
     append_assoc (codes "FLUME1") (flat_map (part_bytes files) parts) (piece name)
@@ -74,7 +74,7 @@ module _ (files : List File) (short : Each (λ (file : File). HasKeyLength file.
     (name : List ℕ) where
   parts_short : (it : Outline) (text : List ℕ) (rest : List KeyPart) → HasKeyLength text
       → Each HasKeyLength (map (content files) rest)
-      → Each HasKeyLength (map (content files) (parts_of it text ++ rest))
+      → Each HasKeyLength (map (content files) (key_parts_of it text ++ rest))
   parts_short (outline.Input own file) text rest here others =
       (here, (file_short files short file, others))
   parts_short outline.Type text rest here others = (here, others)
@@ -92,8 +92,8 @@ module _ (files : List File) (short : Each (λ (file : File). HasKeyLength file.
       by : Each HasKeyLength (contents files name others texts) → (b : Bool)
           → Each HasKeyLength
           (map (content files)
-          ((if b then parts_of it text else []) ++ parts_from name others texts))
-      by later true = parts_short it text (parts_from name others texts) here.0 later
+          ((if b then key_parts_of it text else []) ++ key_parts_from name others texts))
+      by later true = parts_short it text (key_parts_from name others texts) here.0 later
       by later false = later
 
 -- ---- statements with the same texts
@@ -115,7 +115,7 @@ module _ (files others : List File) (name : List ℕ) where
   SameFile = SameBytes files others
 
   first_text : (all : List File) (it : Outline) (text : List ℕ) (rest : List KeyPart)
-      → get_or (map (content all) (parts_of it text ++ rest) ++ name ∷ []) 0 [] ≡ text
+      → get_or (map (content all) (key_parts_of it text ++ rest) ++ name ∷ []) 0 [] ≡ text
   first_text all (outline.Input own file) text rest = refl
   first_text all outline.Type text rest = refl
   first_text all (outline.Function own) text rest = refl
@@ -129,7 +129,7 @@ module _ (files others : List File) (name : List ℕ) where
 
   -- a statement that belongs gives something
   some_parts : (all : List File) (it : Outline) (text : List ℕ) (rest : List KeyPart)
-      → name ∷ [] ≡ map (content all) (parts_of it text ++ rest) ++ name ∷ [] → ⊥
+      → name ∷ [] ≡ map (content all) (key_parts_of it text ++ rest) ++ name ∷ [] → ⊥
   some_parts all (outline.Input own file) text rest e =
       long text (unwrap_or (bytes_of all file) [] ∷ map (content all) rest) e
   some_parts all outline.Type text rest e = long text (map (content all) rest) e
@@ -140,8 +140,8 @@ module _ (files others : List File) (name : List ℕ) where
 
   -- of two that are the same: the same file, and the same behind them
   same_parts : {f g : Form} → SameForm f g → (t u : List ℕ) (rest more : List KeyPart)
-      → map (content files) (parts_of (outline_of f) t ++ rest) ++ name ∷ []
-      ≡ map (content others) (parts_of (outline_of g) u ++ more) ++ name ∷ []
+      → map (content files) (key_parts_of (outline_of f) t ++ rest) ++ name ∷ []
+      ≡ map (content others) (key_parts_of (outline_of g) u ++ more) ++ name ∷ []
       → HasSameFile SameFile f
       × (map (content files) rest ++ name ∷ [] ≡ map (content others) more ++ name ∷ [])
   same_parts type_ t u rest more e = (tt, ap (drop 1) e)
@@ -161,7 +161,7 @@ module _ (files others : List File) (name : List ℕ) where
   -- the parts of a first statement, which belongs or not
   abbrev parts_by : List File → Bool → Outline → List ℕ → List KeyPart → List (List ℕ)
   parts_by all b it text rest =
-      map (content all) ((if b then parts_of it text else []) ++ rest) ++ name ∷ []
+      map (content all) ((if b then key_parts_of it text else []) ++ rest) ++ name ∷ []
 
   abbrev Align : List Statement → List (List ℕ) → Type 0
   Align ss ts =
@@ -179,11 +179,11 @@ module _ (files others : List File) (name : List ℕ) where
       by : (name ∷ [] ≡ right_parts rs us → Aligned SameFile name [] rs) → (b : Bool)
           → is_kept name rs r ≡ b
           → name ∷ []
-          ≡ parts_by others b (outline_of r.form) u (parts_from name (outlines_of rs) us)
+          ≡ parts_by others b (outline_of r.form) u (key_parts_from name (outlines_of rs) us)
           → Aligned SameFile name [] (r ∷ rs)
       by further true is e =
           absurd
-          (some_parts others (outline_of r.form) u (parts_from name (outlines_of rs) us) e)
+          (some_parts others (outline_of r.form) u (key_parts_from name (outlines_of rs) us) e)
       by further false is e = right_ is (further e)
 
   module _ (s : Statement) (ss : List Statement) (t : List ℕ) (ts : List (List ℕ))
@@ -191,7 +191,7 @@ module _ (files others : List File) (name : List ℕ) where
     abbrev first_parts : List (List ℕ)
     first_parts =
         map (content files)
-        (parts_of (outline_of s.form) t ++ parts_from name (outlines_of ss) ts)
+        (key_parts_of (outline_of s.form) t ++ key_parts_from name (outlines_of ss) ts)
         ++ name ∷ []
 
     kept_align : (rs : List Statement) (us : List (List ℕ)) → length us ≡ length rs
@@ -199,7 +199,7 @@ module _ (files others : List File) (name : List ℕ) where
         → Aligned SameFile name (s ∷ ss) rs
     kept_align [] us many tells e =
         absurd
-        (some_parts files (outline_of s.form) t (parts_from name (outlines_of ss) ts) (sym e))
+        (some_parts files (outline_of s.form) t (key_parts_from name (outlines_of ss) ts) (sym e))
     kept_align (r ∷ rs) [] many tells e = absurd (omega (arith, many))
     kept_align (r ∷ rs) (u ∷ us) many tells e =
         by (kept_align rs us (omega (arith, many)) (λ j k. tells j (suc k)))
@@ -208,17 +208,17 @@ module _ (files others : List File) (name : List ℕ) where
         by : (first_parts ≡ right_parts rs us → Aligned SameFile name (s ∷ ss) rs) → (b : Bool)
             → is_kept name rs r ≡ b
             → first_parts
-            ≡ parts_by others b (outline_of r.form) u (parts_from name (outlines_of rs) us)
+            ≡ parts_by others b (outline_of r.form) u (key_parts_from name (outlines_of rs) us)
             → Aligned SameFile name (s ∷ ss) (r ∷ rs)
         by further true also e =
-            let more = parts_from name (outlines_of rs) us in
+            let more = key_parts_from name (outlines_of rs) us in
             let text : t ≡ u =
-            sym (first_text files (outline_of s.form) t (parts_from name (outlines_of ss) ts))
+            sym (first_text files (outline_of s.form) t (key_parts_from name (outlines_of ss) ts))
             ∙ ap (λ l. get_or l 0 []) e ∙ first_text others (outline_of r.form) u more in
             let same = tells 0 0 s r t refl refl (ap Some (sym text)) refl in
             let both =
             same_parts (same_form s.form r.form (ap (λ (x : Statement). x.form) same)) t u
-            (parts_from name (outlines_of ss) ts) more e in
+            (key_parts_from name (outlines_of ss) ts) more e in
             kept is same both.0
             (behind rs us (omega (arith, many)) (λ j k. tells (suc j) (suc k)) both.1)
         by further false also e = right_ also (further e)
@@ -230,7 +230,7 @@ module _ (files others : List File) (name : List ℕ) where
       by (align ss ts (omega (arith, many))) (is_kept name ss s) refl e
     where
       by : Align ss ts → (b : Bool) → is_kept name ss s ≡ b
-          → parts_by files b (outline_of s.form) t (parts_from name (outlines_of ss) ts)
+          → parts_by files b (outline_of s.form) t (key_parts_from name (outlines_of ss) ts)
           ≡ right_parts rs us
           → Aligned SameFile name (s ∷ ss) rs
       by behind true is e = kept_align s ss t ts behind is rs us count tells e
@@ -243,7 +243,8 @@ pub same_keys : (files others : List File) → Each (λ (file : File). HasKeyLen
     → Each (λ (file : File). HasKeyLength file.bytes) others → (n m : List ℕ) → HasKeyLength n
     → HasKeyLength m → (os ps : List Outline) (ts us : List (List ℕ)) → Each HasKeyLength ts
     → Each HasKeyLength us
-    → key_of files (parts_from n os ts) n ≡ key_of others (parts_from m ps us) m
+    → collection_key files (key_parts_from n os ts) n
+    ≡ collection_key others (key_parts_from m ps us) m
     → contents files n os ts ++ n ∷ [] ≡ contents others m ps us ++ m ∷ []
 same_keys files others short short_ n m name_short name_short_ os ps ts us here there e =
     let first = contents files n os ts ++ n ∷ [] in
@@ -255,5 +256,5 @@ same_keys files others short short_ n m name_short name_short_ os ps ts us here 
     (contents_short others short_ m ps us there) (name_short_, tt))
     (split_alike (codes "FLUME1") (codes "FLUME1") (flat_map piece first) (flat_map piece second)
     refl
-    (sym (key_pieces files (parts_from n os ts) n) ∙ e
-    ∙ key_pieces others (parts_from m ps us) m)).1
+    (sym (key_pieces files (key_parts_from n os ts) n) ∙ e
+    ∙ key_pieces others (key_parts_from m ps us) m)).1

@@ -12,7 +12,7 @@ use Rattle.script_program.specs.Needed.{operands}
 use Rattle.script_program.specs.Script.{Function, Script}
 use Rattle.direct_meaning.specs.of_script_laws.WellFormed.{function_at}
 use Rattle.direct_meaning.specs.Calls.{answer_of}
-use Rattle.direct_meaning.specs.Direct.{all_made, combined_by, counted_by, done_at, done_beside_at, done_by, joined_by, made_as, made_at, operated_at, top_by}
+use Rattle.direct_meaning.specs.Direct.{all_made, combined_by, counted_by, done_at, done_beside_at, done_by, joined_collections, made_as, made_at, operated_at, top_by}
 use Rattle.direct_meaning.specs.Objects.{combined_whole, done_beside, operated_by}
 use Rattle.key_meaning.proofs.Alike.{MadeAlike, Paired, Pairs, SameCallee, SameFunction, combine, count, do_, do_with, flatten, group, input, join, operate, place_of, top, whole}
 use Rattle.key_meaning.proofs.Ways.{CollectionAlike, ListsAlike, OptionAlike, Table, beside_alike, by_one, combined_alike, counts_alike, done_alike, if_any, joined_alike, key_alike, none_or_both, operated_alike, together_alike, top_alike, wholes_alike}
@@ -93,9 +93,9 @@ module _ (pairs : Pairs) where
           alike.bag)
           (made_at here x) (made_at there y) reads.0
       makes_alike (join {a = x} {b = y} {c = v} {d = w} is also) inputs first own reads =
-          if_any pairs (λ c. option_map (joined_by c) (made_at here v))
-          (λ c. option_map (joined_by c) (made_at there w))
-          (λ c d alike. by_one pairs (joined_by c) (joined_by d)
+          if_any pairs (λ c. option_map (joined_collections c) (made_at here v))
+          (λ c. option_map (joined_collections c) (made_at there w))
+          (λ c d alike. by_one pairs (joined_collections c) (joined_collections d)
           (λ e f beside. joined_alike pairs c d e f alike beside) (made_at here v) (made_at there w)
           reads.1.0)
           (made_at here x) (made_at there y) reads.0

@@ -8,8 +8,8 @@ use Rattle.flume_grammar.specs.declared.tree.Operation.TheVariants as operation
 use Rattle.flume_grammar.specs.declared.fault.ScriptKind.TheVariants.{BadNumber}
 use Rattle.expression_check.specs.Numbers.{number_within}
 use Rattle.written_types.specs.Answer.{Checked, ◌>>=◌}
-use Rattle.script_keys.specs.Outlines.{callees, operands}
-use Rattle.script_keys.specs.Rests.{has}
+use Rattle.script_keys.specs.Outlines.{callees, operand_names}
+use Rattle.script_keys.specs.Rests.{holds_name}
 use Rattle.script_keys.specs.declared.rests.Names.{Names}
 use Rattle.script_program.specs.Script.{Making, Operand, State}
 use Rattle.direct_meaning.specs.of_script_rules.Operations as spec
@@ -26,17 +26,17 @@ module _ (SameFile : List ℕ → Type 0) (names : Names) (pairs : Pairs) (s r :
   Makes = MakingAlike SameFile pairs s.functions r.functions
 
   abbrev Asked : List ℕ → Type 0
-  Asked name = has names.collections name ≡ true
+  Asked name = holds_name names.collections name ≡ true
 
   abbrev AskedBy : List ℕ → Type 0
-  AskedBy name = has names.functions name ≡ true
+  AskedBy name = holds_name names.functions name ≡ true
 
   done : (source function : List ℕ) → Asked source → AskedBy function → (ms ns : List Making)
       → spec.done line source function s ≡ Ok ms → spec.done other source function r ≡ Ok ns
       → AllZip Makes ms ns
   done source function reads by ms ns e h =
-      let one = both (spec.collection line source s) _ ms e in
-      let two = both (spec.collection other source r) _ ns h in
+      let one = both (spec.operand_named line source s) _ ms e in
+      let two = both (spec.operand_named other source r) _ ns h in
       let f = both (spec.callee line function s) _ ms one.then in
       let g = both (spec.callee other function r) _ ns two.then in
       do_alike SameFile pairs s.functions r.functions line other one.part two.part f.part g.part
@@ -46,10 +46,10 @@ module _ (SameFile : List ℕ → Type 0) (names : Names) (pairs : Pairs) (s r :
       g.first) ms ns f.then g.then
 
   grouped : (source : List ℕ) → Asked source → (m n : Making)
-      → spec.grouped line source s ≡ Ok m → spec.grouped other source r ≡ Ok n → Makes m n
+      → spec.group_rule line source s ≡ Ok m → spec.group_rule other source r ≡ Ok n → Makes m n
   grouped source reads m n e h =
-      let one = both (spec.collection line source s) _ m e in
-      let two = both (spec.collection other source r) _ n h in
+      let one = both (spec.operand_named line source s) _ m e in
+      let two = both (spec.operand_named other source r) _ n h in
       group_alike SameFile pairs s.functions r.functions line other one.part two.part
       (found_alike SameFile names pairs s r alike line other source reads one.part two.part
       one.first two.first) m n one.then two.then
@@ -59,14 +59,15 @@ module _ (SameFile : List ℕ → Type 0) (names : Names) (pairs : Pairs) (s r :
       → ((one two : Operand) (x y : Comb) → OperandAlike pairs one two → x ≡ y → (m n : Making)
       → of line one x ≡ Ok m → of other two y ≡ Ok n → Makes m n)
       → (source : List ℕ) (by : Combiner) → Asked source → (m n : Making)
-      → (spec.collection line source s >>= (λ one. spec.comb_of line by >>= of line one)) ≡ Ok m
-      → (spec.collection other source r >>= (λ two. spec.comb_of other by >>= of other two)) ≡ Ok n
+      → (spec.operand_named line source s >>= (λ one. spec.comb_for line by >>= of line one)) ≡ Ok m
+      → (spec.operand_named other source r >>= (λ two. spec.comb_for other by >>= of other two))
+      ≡ Ok n
       → Makes m n
   combined of alike_of source by reads m n e h =
-      let one = both (spec.collection line source s) _ m e in
-      let two = both (spec.collection other source r) _ n h in
-      let x = both (spec.comb_of line by) _ m one.then in
-      let y = both (spec.comb_of other by) _ n two.then in
+      let one = both (spec.operand_named line source s) _ m e in
+      let two = both (spec.operand_named other source r) _ n h in
+      let x = both (spec.comb_for line by) _ m one.then in
+      let y = both (spec.comb_for other by) _ n two.then in
       alike_of one.part two.part x.part y.part
       (found_alike SameFile names pairs s r alike line other source reads one.part two.part
       one.first two.first) (same_comb line other by x.part y.part x.first y.first) m n x.then
@@ -82,10 +83,10 @@ module _ (SameFile : List ℕ → Type 0) (names : Names) (pairs : Pairs) (s r :
       more.part all.first more.first) m n all.then more.then
 
   counted : (source : List ℕ) → Asked source → (m n : Making)
-      → spec.counted line source s ≡ Ok m → spec.counted other source r ≡ Ok n → Makes m n
+      → spec.count_rule line source s ≡ Ok m → spec.count_rule other source r ≡ Ok n → Makes m n
   counted source reads m n e h =
-      let one = both (spec.collection line source s) _ m e in
-      let two = both (spec.collection other source r) _ n h in
+      let one = both (spec.operand_named line source s) _ m e in
+      let two = both (spec.operand_named other source r) _ n h in
       let plain = both (spec.plain line one.part) _ m one.then in
       let plain_ = both (spec.plain other two.part) _ n two.then in
       as_same SameFile pairs s.functions r.functions line other _ _ m n
@@ -95,13 +96,13 @@ module _ (SameFile : List ℕ → Type 0) (names : Names) (pairs : Pairs) (s r :
       one.first two.first))
 
   joined : (left right_ : List ℕ) → Asked left → Asked right_ → (m n : Making)
-      → spec.joined line left right_ s ≡ Ok m → spec.joined other left right_ r ≡ Ok n
+      → spec.join_rule line left right_ s ≡ Ok m → spec.join_rule other left right_ r ≡ Ok n
       → Makes m n
   joined left right_ reads beside m n e h =
-      let one = both (spec.collection line left s) _ m e in
-      let two = both (spec.collection other left r) _ n h in
-      let more = both (spec.collection line right_ s) _ m one.then in
-      let more_ = both (spec.collection other right_ r) _ n two.then in
+      let one = both (spec.operand_named line left s) _ m e in
+      let two = both (spec.operand_named other left r) _ n h in
+      let more = both (spec.operand_named line right_ s) _ m one.then in
+      let more_ = both (spec.operand_named other right_ r) _ n two.then in
       join_alike SameFile pairs s.functions r.functions line other one.part two.part more.part
       more_.part
       (found_alike SameFile names pairs s r alike line other left reads one.part two.part
@@ -110,11 +111,11 @@ module _ (SameFile : List ℕ → Type 0) (names : Names) (pairs : Pairs) (s r :
       more.first more_.first) m n more.then more_.then
 
   greatest : (digits source : List ℕ) → Asked source → (m n : Making)
-      → spec.greatest line digits source s ≡ Ok m → spec.greatest other digits source r ≡ Ok n
+      → spec.top_rule line digits source s ≡ Ok m → spec.top_rule other digits source r ≡ Ok n
       → Makes m n
   greatest digits source reads m n e h =
-      let one = both (spec.collection line source s) _ m e in
-      let two = both (spec.collection other source r) _ n h in
+      let one = both (spec.operand_named line source s) _ m e in
+      let two = both (spec.operand_named other source r) _ n h in
       let number = both (spec.top_number line digits) _ m one.then in
       let number_ = both (spec.top_number other digits) _ n two.then in
       let plain = both (spec.plain line one.part) _ m number.then in
@@ -130,8 +131,8 @@ module _ (SameFile : List ℕ → Type 0) (names : Names) (pairs : Pairs) (s r :
       one.first two.first))
 
   operated : (objects : List (List ℕ)) (function : List ℕ) → Each Asked objects
-      → AskedBy function → (m n : Making) → spec.operated line objects function s ≡ Ok m
-      → spec.operated other objects function r ≡ Ok n → Makes m n
+      → AskedBy function → (m n : Making) → spec.operate_rule line objects function s ≡ Ok m
+      → spec.operate_rule other objects function r ≡ Ok n → Makes m n
   operated objects function reads by m n e h =
       let all = both (spec.collections_behind line [] objects s) _ m e in
       let more = both (spec.collections_behind other [] objects r) _ n h in
@@ -145,15 +146,15 @@ module _ (SameFile : List ℕ → Type 0) (names : Names) (pairs : Pairs) (s r :
       g.first) m n f.then g.then
 
   done_beside : (source function object : List ℕ) → Asked source → AskedBy function
-      → Asked object → (m n : Making) → spec.done_beside line source function object s ≡ Ok m
-      → spec.done_beside other source function object r ≡ Ok n → Makes m n
+      → Asked object → (m n : Making) → spec.do_with_rule line source function object s ≡ Ok m
+      → spec.do_with_rule other source function object r ≡ Ok n → Makes m n
   done_beside source function object reads by beside m n e h =
-      let one = both (spec.collection line source s) _ m e in
-      let two = both (spec.collection other source r) _ n h in
+      let one = both (spec.operand_named line source s) _ m e in
+      let two = both (spec.operand_named other source r) _ n h in
       let f = both (spec.callee line function s) _ m one.then in
       let g = both (spec.callee other function r) _ n two.then in
-      let more = both (spec.collection line object s) _ m f.then in
-      let more_ = both (spec.collection other object r) _ n g.then in
+      let more = both (spec.operand_named line object s) _ m f.then in
+      let more_ = both (spec.operand_named other object r) _ n g.then in
       do_with_alike SameFile pairs s.functions r.functions line other one.part two.part
       more.part more_.part f.part g.part
       (found_alike SameFile names pairs s r alike line other source reads one.part two.part
@@ -164,20 +165,21 @@ module _ (SameFile : List ℕ → Type 0) (names : Names) (pairs : Pairs) (s r :
       more.first more_.first) m n more.then more_.then
 
   abbrev alone : (p q : Checked Making) → ((m n : Making) → p ≡ Ok m → q ≡ Ok n → Makes m n)
-      → (ms ns : List Making) → spec.alone p ≡ Ok ms → spec.alone q ≡ Ok ns
+      → (ms ns : List Making) → spec.one_making p ≡ Ok ms → spec.one_making q ≡ Ok ns
       → AllZip Makes ms ns
   alone = alone_alike SameFile pairs s.functions r.functions line other
 
-  pub makes_alike : (by : Operation) → Each Asked (operands by) → Each AskedBy (callees by)
+  pub makes_alike : (by : Operation) → Each Asked (operand_names by) → Each AskedBy (callees by)
       → (ms ns : List Making) → spec.made_by line by s ≡ Ok ms → spec.made_by other by r ≡ Ok ns
       → AllZip Makes ms ns
   makes_alike (operation.Do source function) reads calls ms ns e h =
       done source function reads.0 calls.0 ms ns e h
   makes_alike (operation.Group source) reads calls ms ns e h =
-      alone (spec.grouped line source s) (spec.grouped other source r) (grouped source reads.0)
+      alone (spec.group_rule line source s) (spec.group_rule other source r)
+      (grouped source reads.0)
       ms ns e h
   makes_alike (operation.Combine source by) reads calls ms ns e h =
-      alone (spec.combined line source by s) (spec.combined other source by r)
+      alone (spec.combine_rule line source by s) (spec.combine_rule other source by r)
       (combined spec.combine_of
       (combine_alike SameFile pairs s.functions r.functions line other) source by reads.0) ms ns
       e h
@@ -185,22 +187,23 @@ module _ (SameFile : List ℕ → Type 0) (names : Names) (pairs : Pairs) (s r :
       alone (spec.flattened line sources s) (spec.flattened other sources r)
       (flattened sources reads) ms ns e h
   makes_alike (operation.Count source) reads calls ms ns e h =
-      alone (spec.counted line source s) (spec.counted other source r) (counted source reads.0)
+      alone (spec.count_rule line source s) (spec.count_rule other source r)
+      (counted source reads.0)
       ms ns e h
   makes_alike (operation.Join left right_) reads calls ms ns e h =
-      alone (spec.joined line left right_ s) (spec.joined other left right_ r)
+      alone (spec.join_rule line left right_ s) (spec.join_rule other left right_ r)
       (joined left right_ reads.0 reads.1.0) ms ns e h
   makes_alike (operation.Top digits source) reads calls ms ns e h =
-      alone (spec.greatest line digits source s) (spec.greatest other digits source r)
+      alone (spec.top_rule line digits source s) (spec.top_rule other digits source r)
       (greatest digits source reads.0) ms ns e h
   makes_alike (operation.CombineAll source by) reads calls ms ns e h =
-      alone (spec.combined_whole line source by s) (spec.combined_whole other source by r)
+      alone (spec.combine_all_rule line source by s) (spec.combine_all_rule other source by r)
       (combined spec.combine_all_of
       (whole_alike SameFile pairs s.functions r.functions line other) source by reads.0) ms ns e h
   makes_alike (operation.Operate objects function) reads calls ms ns e h =
-      alone (spec.operated line objects function s) (spec.operated other objects function r)
+      alone (spec.operate_rule line objects function s) (spec.operate_rule other objects function r)
       (operated objects function reads calls.0) ms ns e h
   makes_alike (operation.DoWith source function object) reads calls ms ns e h =
-      alone (spec.done_beside line source function object s)
-      (spec.done_beside other source function object r)
+      alone (spec.do_with_rule line source function object s)
+      (spec.do_with_rule other source function object r)
       (done_beside source function object reads.0 calls.0 reads.1.0) ms ns e h

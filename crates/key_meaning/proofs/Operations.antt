@@ -25,7 +25,7 @@ use Rattle.key_meaning.proofs.Lines.{found, found_option, found_same, found_then
 
 -- a combiner is the same on each line
 found_comb : (line other : ℕ) (by : Combiner)
-    → found (spec.comb_of line by) ≡ found (spec.comb_of other by)
+    → found (spec.comb_for line by) ≡ found (spec.comb_for other by)
 found_comb line other combiner.Sum = refl
 found_comb line other combiner.Count = refl
 found_comb line other combiner.Min = refl
@@ -39,10 +39,10 @@ found_comb line other (combiner.Top digits) =
 found_comb line other combiner.Mean = refl
 found_comb line other combiner.Distinct = refl
 
-pub same_comb : (line other : ℕ) (by : Combiner) (x y : Comb) → spec.comb_of line by ≡ Ok x
-    → spec.comb_of other by ≡ Ok y → x ≡ y
+pub same_comb : (line other : ℕ) (by : Combiner) (x y : Comb) → spec.comb_for line by ≡ Ok x
+    → spec.comb_for other by ≡ Ok y → x ≡ y
 same_comb line other by x y e f =
-    found_same (spec.comb_of line by) (spec.comb_of other by) x y (found_comb line other by) e f
+    found_same (spec.comb_for line by) (spec.comb_for other by) x y (found_comb line other by) e f
 
 module _ (SameFile : List ℕ → Type 0) (pairs : Pairs) (functions others : Named Function)
     (line other : ℕ) where
@@ -71,8 +71,9 @@ module _ (SameFile : List ℕ → Type 0) (pairs : Pairs) (functions others : Na
   same_member : (t u x y : Ty) → t ≡ u → spec.member_of line t ≡ Ok x
       → spec.member_of other u ≡ Ok y → x ≡ y
   same_member t u x y same e f =
-      agree line other NotTable (spec.member_in (out-Ty t)) (spec.member_in (out-Ty u)) x y
-      (ap (λ v. spec.member_in (out-Ty v)) same) e f
+      agree line other NotTable (spec.member_type_in (out-Ty t)) (spec.member_type_in (out-Ty u)) x
+      y
+      (ap (λ v. spec.member_type_in (out-Ty v)) same) e f
 
   same_combined : (by by_ : Comb) (t u x y : Ty) → by ≡ by_ → t ≡ u
       → or_fault line Mistyped (spec.combined_type by t) ≡ Ok x
@@ -102,7 +103,7 @@ module _ (SameFile : List ℕ → Type 0) (pairs : Pairs) (functions others : Na
       (outputs_alike one.number two.number f.number g.number reads.number by.same 0 f.gives)
 
   pub group_alike : (one two : Operand) → OperandAlike pairs one two → (m n : Making)
-      → spec.group_of line one ≡ Ok m → spec.group_of other two ≡ Ok n → Same m n
+      → spec.group_making line one ≡ Ok m → spec.group_making other two ≡ Ok n → Same m n
   group_alike one two reads m n e f =
       let pair = both (spec.pair_of line one.type) _ m e in
       let again = both (spec.pair_of other two.type) _ n f in
@@ -165,7 +166,7 @@ module _ (SameFile : List ℕ → Type 0) (pairs : Pairs) (functions others : Na
       })
 
   pub count_alike : (one two : Operand) → OperandAlike pairs one two
-      → Same (spec.count_of one) (spec.count_of two)
+      → Same (spec.count_making one) (spec.count_making two)
   count_alike one two reads = record {
     type = ap (λ t. table_of t ty.Int) reads.type;
     how = count reads.number;
@@ -257,7 +258,7 @@ module _ (SameFile : List ℕ → Type 0) (pairs : Pairs) (functions others : Na
 
   pub alone_alike : (p q : Checked Making)
       → ((m n : Making) → p ≡ Ok m → q ≡ Ok n → Same m n) → (ms ns : List Making)
-      → spec.alone p ≡ Ok ms → spec.alone q ≡ Ok ns → AllSame ms ns
+      → spec.one_making p ≡ Ok ms → spec.one_making q ≡ Ok ns → AllSame ms ns
   alone_alike p q same ms ns e f =
       let one = both p _ ms e in
       let two = both q _ ns f in

@@ -12,8 +12,8 @@ use Rattle.written_types.specs.Answer.{unless}
 use Rattle.written_types.specs.Named.{Named, find}
 use Rattle.script_program.specs.declared.made.Standing.{Standing}
 use Rattle.script_program.specs.declared.made.Standing.TheVariants.{Hidden}
-use Rattle.script_program.specs.Script.{Operand, State, given, with_hidden, with_name}
-use Rattle.direct_meaning.specs.of_script_rules.Operations.{collections_behind, made_by, numbers}
+use Rattle.script_program.specs.Script.{Operand, State, given, with_hidden, with_standing}
+use Rattle.direct_meaning.specs.of_script_rules.Operations.{collections_behind, made_by, operand_numbers}
 use Rattle.direct_meaning.specs.of_script_rules.Repeats.{Repeat, gives_left, last_gives, turn_gives, turn_to}
 use Rattle.direct_meaning.specs.of_script_rules.Rules as spec
 use Rattle.direct_meaning.proofs.of_script_rules.CheckedLemmas.{both, ok-same}
@@ -27,12 +27,12 @@ pub names_hidden : (names : List (List ℕ)) (s : State)
     → (with_hidden names s).names ≡ s.names ++ hidden names
 names_hidden [] s = sym (append-nil s.names)
 names_hidden (name ∷ names) s =
-    names_hidden names (with_name name Hidden s)
+    names_hidden names (with_standing name Hidden s)
     ∙ append_assoc s.names ((name, Hidden) ∷ []) (hidden names)
 
 types_hidden : (names : List (List ℕ)) (s : State) → (with_hidden names s).types ≡ s.types
 types_hidden [] s = refl
-types_hidden (name ∷ names) s = types_hidden names (with_name name Hidden s)
+types_hidden (name ∷ names) s = types_hidden names (with_standing name Hidden s)
 
 -- names more, and the same types
 pub record More (s after : State) : Type 0 where
@@ -41,7 +41,7 @@ pub record More (s after : State) : Type 0 where
   pub types : after.types ≡ s.types
 
 pub named_more : (line : ℕ) (names : List (List ℕ)) (by : Operation) (s after : State)
-    → spec.named line names by s ≡ Ok after → More s after
+    → spec.let_rule line names by s ≡ Ok after → More s after
 named_more line names by s after e =
     let new = both (spec.all_fresh line (keys_of s.names) names) _ after e in
     let makings = both (made_by line by s) _ after new.then in
@@ -67,7 +67,7 @@ all_more [] s after e =
     subst (More s) (ok-same s after e)
     (record { rest = []; names = sym (append-nil s.names); types = refl })
 all_more (it ∷ lets) s after e =
-    let next = both (spec.named it.line it.names it.by s) _ after e in
+    let next = both (spec.let_rule it.line it.names it.by s) _ after e in
     then_more s next.part after (named_more it.line it.names it.by s next.part next.first)
     (all_more lets next.part after next.then)
 
@@ -82,7 +82,7 @@ module _ (line : ℕ) (names : List (List ℕ)) (written : WrittenRepeat) (s : S
     pub free : (name : List ℕ) → list_any (bytes_eq name) written.entering ≡ true
         → find name (with_hidden names s).names ≡ None
 
-  pub enters : (entry : spec.Entry) → spec.entry_of line names written s ≡ Ok entry
+  pub enters : (entry : spec.Entry) → spec.repeat_entry line names written s ≡ Ok entry
       → Enters entry
   enters entry e =
       let it = has-entry line names written s entry e in
@@ -96,15 +96,15 @@ module _ (line : ℕ) (names : List (List ℕ)) (written : WrittenRepeat) (s : S
   pub record Gives (from : List Operand) (body : State) (gives : List ℕ) : Type 0 where
     pub given : List Operand
     pub found : collections_behind line [] written.gives body ≡ Ok given
-    pub are : numbers given ≡ gives
+    pub are : operand_numbers given ≡ gives
     pub many : length gives ≡ length written.gives
 
   pub gives_found : (from : List Operand) (body : State) (gives : List ℕ)
-      → spec.gives_of line written.gives from body ≡ Ok gives → Gives from body gives
+      → spec.repeat_gives line written.gives from body ≡ Ok gives → Gives from body gives
   gives_found from body gives e =
       let given = both (collections_behind line [] written.gives body) _ gives e in
       let same = both (unless line Mistyped (spec.alike from given.part)) _ gives given.then in
-      let are = ok-same (numbers given.part) gives same.then in
+      let are = ok-same (operand_numbers given.part) gives same.then in
       record {
         given = given.part;
         found = given.first;
@@ -177,7 +177,7 @@ module _ (line : ℕ) (names : List (List ℕ)) (written : WrittenRepeat) (s : S
         many =
             ap (λ (r : Repeat). length (last_gives r)) (sym has.repeat)
             ∙ gives_long (own line names written s entry has.body has.gives) (length names)
-            entry.turns (numbers entry.from) (length s.nodes)
+            entry.turns (operand_numbers entry.from) (length s.nodes)
             (length-map entry.from (λ (one : Operand). one.number) ∙ enter.many)
             (gives.many ∙ enter.gives);
       }

@@ -6,7 +6,7 @@ use Rattle.flume_collection.specs.Collection.{Collection}
 use Rattle.written_types.specs.Named.{Named}
 use Rattle.script_program.specs.declared.made.Made.{Made}
 use Rattle.script_program.specs.declared.made.Output.{Output}
-use Rattle.script_program.specs.Needed.{IsNeeded, LeadsToOutput, is_needed, made_of, numbered, operands, outputs_read}
+use Rattle.script_program.specs.Needed.{IsNeeded, LeadsToOutput, is_needed, made_of, collections_numbered, operands, outputs_read}
 use Rattle.script_program.specs.Script.{Node, Script}
 use Rattle.direct_meaning.proofs.of_script_laws.MemberLemmas.{at_end, of_mapped}
 use Rattle.direct_meaning.proofs.of_script_laws.NeededLemmas.{needed_law}
@@ -19,7 +19,7 @@ use Rattle.key_meaning.proofs.Ways.{OptionAlike, Table}
 use Rattle.key_meaning.proofs.Sources.{alone, alone_well}
 use Rattle.key_meaning.proofs.Pairing.{Covers, by_left, by_right, gathered, left_of, right_of, rises_same, same_flat}
 use Rattle.script_program.specs.Rested.{rests}
-use Rattle.key_meaning.specs.Rested.{rested_sizes, sized}
+use Rattle.key_meaning.specs.Rested.{rested_sizes, name_sized}
 
 -- ---- what an output rests on
 
@@ -49,7 +49,7 @@ none_or false l found = inr refl
 
 abbrev sized_by : Option (List ℕ × Node) → Option Collection → List (List ℕ × ℕ)
 sized_by None c = []
-sized_by (Some entry) c = sized entry.0 c
+sized_by (Some entry) c = name_sized entry.0 c
 
 module _ (script : Script) (made_ : Table) (asked : ℕ) where
   abbrev pub sizes_at : ℕ → List (List ℕ × ℕ)
@@ -57,7 +57,7 @@ module _ (script : Script) (made_ : Table) (asked : ℕ) where
       if rests script asked n then sized_by (slice_get script.nodes n) (made_at made_ n) else []
 
   abbrev size_of_entry : ℕ × (List ℕ × Node) → List (List ℕ × ℕ)
-  size_of_entry it = sized it.1.0 (made_at made_ it.0)
+  size_of_entry it = name_sized it.1.0 (made_at made_ it.0)
 
   first_size : (b : Bool) (it : ℕ × (List ℕ × Node)) (rest : List (ℕ × (List ℕ × Node)))
       → flat_map size_of_entry (cond b (it ∷ rest) rest)
@@ -67,11 +67,12 @@ module _ (script : Script) (made_ : Table) (asked : ℕ) where
 
   sizes_from : (before nodes : Named Node) → before ++ nodes ≡ script.nodes → (n : ℕ)
       → length before ≡ n
-      → flat_map size_of_entry (filter (λ it. rests script asked it.0) (numbered n nodes))
+      → flat_map size_of_entry (filter (λ it. rests script asked it.0)
+      (collections_numbered n nodes))
       ≡ gathered sizes_at n (length nodes)
   sizes_from before [] split n long = refl
   sizes_from before (entry ∷ nodes) split n long =
-      let rest = filter (λ it. rests script asked it.0) (numbered (suc n) nodes) in
+      let rest = filter (λ it. rests script asked it.0) (collections_numbered (suc n) nodes) in
       let at : slice_get script.nodes n ≡ Some entry =
       ap (λ (l : Named Node). slice_get l n) (sym split)
       ∙ ap (slice_get (before ++ entry ∷ nodes)) (sym long) ∙ at_end before entry nodes in
@@ -247,7 +248,7 @@ module _ (SameFile : List ℕ → Type 0) (one other : Script) (well : IsWellFor
         (λ is. let it = partner_there q is in ((it.0, q), it.1.0, refl))
 
     sized_alike : (o p : Option Collection) (name other_name : List ℕ) → name ≡ other_name
-        → OptionAlike pairs o p → sized name o ≡ sized other_name p
+        → OptionAlike pairs o p → name_sized name o ≡ name_sized other_name p
     sized_alike None None name other_name same alike_ = refl
     sized_alike None (Some d) name other_name same alike_ = absurd alike_
     sized_alike (Some c) None name other_name same alike_ = absurd alike_

@@ -16,15 +16,15 @@ use Rattle.written_types.specs.Answer.{or_fault}
 use Rattle.written_types.specs.Named.{Named, find, fresh}
 use Rattle.written_types.specs.Written.{whole_type}
 use Rattle.script_keys.specs.Outlines.{outline_of}
-use Rattle.script_keys.specs.Rests.{has, is_named}
+use Rattle.script_keys.specs.Rests.{holds_name, is_named}
 use Rattle.script_keys.specs.declared.rests.Names.{Names}
 use Rattle.script_program.specs.Limits.{most_collections, most_files}
 use Rattle.script_program.specs.declared.made.Made.TheVariants as made
 use Rattle.script_program.specs.declared.made.Output.{Output}
 use Rattle.script_program.specs.declared.made.Standing.{Standing}
 use Rattle.script_program.specs.declared.made.Standing.TheVariants.{Collection}
-use Rattle.script_program.specs.Script.{Function, Making, Node, State, function_from, given, node_from, with_output, with_type}
-use Rattle.direct_meaning.specs.of_script_rules.Operations.{collection}
+use Rattle.script_program.specs.Script.{Function, Making, Node, State, function_from, given, node_from, with_output, with_named_type}
+use Rattle.direct_meaning.specs.of_script_rules.Operations.{operand_named}
 use Rattle.direct_meaning.specs.of_script_rules.Repeats.{last_gives, unrolled}
 use Rattle.direct_meaning.specs.of_script_rules.Rules as spec
 use Rattle.direct_meaning.proofs.of_script_rules.CheckedLemmas.{both, ok-same}
@@ -115,7 +115,7 @@ module _ (line : ℕ) (s after : State) where
       let new = both (fresh line name s.types) _ after e in
       let t = both (whole_type line type s.types) _ after new.then in
       subst (Adds (form.Type name type) s) (ok-same _ after t.then)
-      (same_adds (form.Type name type) s (with_type name t.part s) refl refl refl (λ is. cc)
+      (same_adds (form.Type name type) s (with_named_type name t.part s) refl refl refl (λ is. cc)
       (λ entry among. inl among))
 
   input_adds : (name : List ℕ) (type : tree.Type) (file : List ℕ)
@@ -208,7 +208,7 @@ module _ (line : ℕ) (s after : State) where
       → Adds (form.Output name file) s after
   output_adds name file e =
       let few = both (spec.room line 1 most_files s.outputs) _ after e in
-      let one = both (collection line name s) _ after few.then in
+      let one = both (operand_named line name s) _ after few.then in
       let columns = both (or_fault line NotFlat (columns_of one.part.type)) _ after one.then in
       let new = both (fresh line file s.outputs) _ after columns.then in
       let output : Output =
@@ -235,7 +235,7 @@ module _ (line : ℕ) (s after : State) where
 
 -- a name that is rested on is none of a statement that defines none of these
 pub not_own : (names : Names) (it : Form) → is_named names (outline_of it) ≡ false
-    → (name : List ℕ) → has names.collections name ≡ true
+    → (name : List ℕ) → holds_name names.collections name ≡ true
     → list_any (bytes_eq name) (own_names it) ≡ false
 not_own names (form.Type own type) away name is = refl
 not_own names (form.Input own type file) away name is =
@@ -247,7 +247,7 @@ not_own names (form.Repeat own written) away name is =
 not_own names (form.Output own file) away name is = refl
 
 not_function : (names : Names) (it : Form) → is_named names (outline_of it) ≡ false
-    → (name : List ℕ) → has names.functions name ≡ true
+    → (name : List ℕ) → holds_name names.functions name ≡ true
     → list_any (bytes_eq name) (own_functions it) ≡ false
 not_function names (form.Type own type) away name is = refl
 not_function names (form.Input own type file) away name is = refl
@@ -261,9 +261,9 @@ not_function names (form.Output own file) away name is = refl
 
 -- a state behind another, in which these names stand for what they stood for
 pub record Keeps (names : Names) (s after : State) : Type 0 where
-  pub collections : (name : List ℕ) → has names.collections name ≡ true
+  pub collections : (name : List ℕ) → holds_name names.collections name ≡ true
       → stands name after.names ≡ stands name s.names
-  pub functions : (name : List ℕ) → has names.functions name ≡ true
+  pub functions : (name : List ℕ) → holds_name names.functions name ≡ true
       → find name after.functions ≡ find name s.functions
   pub nodes : (k : ℕ) (entry : List ℕ × Node) → slice_get s.nodes k ≡ Some entry
       → slice_get after.nodes k ≡ Some entry
@@ -293,7 +293,7 @@ keeps_others names form s after away adds = record {
       ∙ mapped-kept (λ (entry : List ℕ × Function). entry.1) s.functions adds.added k function is;
 }
   where
-    by : (name : List ℕ) → has names.functions name ≡ true → (o : Option Function)
+    by : (name : List ℕ) → holds_name names.functions name ≡ true → (o : Option Function)
         → find name s.functions ≡ o
         → find name (s.functions ++ adds.added) ≡ find name s.functions
     by name own (Some x) is = found_first name s.functions adds.added x is ∙ sym is

@@ -9,7 +9,7 @@ use Rattle.std.proofs.lemmas.Slice.Eq.{bytes_eq-Decides}
 use Rattle.flume_grammar.specs.declared.fault.ScriptKind.TheVariants.{Twice}
 use Rattle.written_types.specs.Answer.{unless}
 use Rattle.written_types.specs.Named.{Named, find}
-use Rattle.script_keys.specs.Rests.{has}
+use Rattle.script_keys.specs.Rests.{holds_name}
 use Rattle.script_program.specs.declared.made.Standing.{Standing}
 use Rattle.script_program.specs.declared.made.Standing.TheVariants.{Collection, Hidden}
 use Rattle.script_program.specs.Script.{Making, State, given, node_from, with_node, with_nodes}
@@ -74,24 +74,24 @@ neither true b is = cc
 neither false b is = (refl, is)
 
 -- one that is among them is another than one that is not
-pub other_name : (names : List (List ℕ)) (name own : List ℕ) → has names name ≡ true
-    → has names own ≡ false → bytes_eq name own ≡ false
+pub other_name : (names : List (List ℕ)) (name own : List ℕ) → holds_name names name ≡ true
+    → holds_name names own ≡ false → bytes_eq name own ≡ false
 other_name names name own here away = by (bytes_eq name own) refl
   where
     by : (b : Bool) → bytes_eq name own ≡ b → b ≡ false
     by false is = refl
     by true is =
         let same : name ≡ own = same_bytes name own is in
-        let e : true ≡ false = sym here ∙ ap (has names) same ∙ away in
+        let e : true ≡ false = sym here ∙ ap (holds_name names) same ∙ away in
         cc
 
 -- the same of several
 pub other_names : (names : List (List ℕ)) (name : List ℕ) (own : List (List ℕ))
-    → has names name ≡ true → list_any (has names) own ≡ false
+    → holds_name names name ≡ true → list_any (holds_name names) own ≡ false
     → list_any (bytes_eq name) own ≡ false
 other_names names name [] here away = refl
 other_names names name (first ∷ own) here away =
-    let both_ = neither (has names first) (list_any (has names) own) away in
+    let both_ = neither (holds_name names first) (list_any (holds_name names) own) away in
     λ i. other_name names name first here both_.0 i || other_names names name own here both_.1 i
 
 pub none_found : {A : Type 0} (name : List ℕ) (names : Named A)

@@ -8,10 +8,10 @@ use Rattle.flume_grammar.specs.declared.tree.Repeat.{Repeat as WrittenRepeat}
 use Rattle.flume_grammar.specs.declared.tree.TurnLet.{TurnLet}
 use Rattle.expression_check.specs.Numbers.{number_within}
 use Rattle.written_types.specs.Named.{find}
-use Rattle.script_keys.specs.Rests.{has}
+use Rattle.script_keys.specs.Rests.{holds_name}
 use Rattle.script_keys.specs.declared.rests.Names.{Names}
 use Rattle.script_program.specs.Script.{Node, Operand, State, given, with_hidden}
-use Rattle.direct_meaning.specs.of_script_rules.Operations.{numbers}
+use Rattle.direct_meaning.specs.of_script_rules.Operations.{operand_numbers}
 use Rattle.direct_meaning.specs.of_script_rules.Repeats.{Repeat, last_gives, unrolled}
 use Rattle.direct_meaning.specs.of_script_rules.Rules as spec
 use Rattle.direct_meaning.proofs.of_script_rules.CheckedLemmas.{both, ok-same}
@@ -46,9 +46,9 @@ module _ (SameFile : List ℕ → Type 0) (names : Names) (pairs : Pairs) (s r :
     (alike : IsAlike SameFile names pairs s r) (types : s.types ≡ r.types) (line other : ℕ)
     (own_ : List (List ℕ)) (w : WrittenRepeat) (lets_there : List TurnLet)
     (same : AllZip SameLet w.lets lets_there)
-    (asked_from : Each (λ name. has names.collections name ≡ true) w.from)
+    (asked_from : Each (λ name. holds_name names.collections name ≡ true) w.from)
     (asked_lets : Each (λ (it : TurnLet). Asked SameFile names it.by) w.lets)
-    (asked_gives : Each (λ name. has names.collections name ≡ true) w.gives) where
+    (asked_gives : Each (λ name. holds_name names.collections name ≡ true) w.gives) where
   abbrev w_ : WrittenRepeat
   w_ = with_lets w lets_there
 
@@ -141,7 +141,7 @@ module _ (SameFile : List ℕ → Type 0) (names : Names) (pairs : Pairs) (s r :
     given_alike : AllZip (Paired inner) here.gives there.gives
     given_alike =
         subst (AllZip (Paired inner) here.gives) gives_.are
-        (subst (λ ns. AllZip (Paired inner) ns (numbers gives_.given)) gives.are
+        (subst (λ ns. AllZip (Paired inner) ns (operand_numbers gives_.given)) gives.are
         (numbers_alike inner gives.given gives_.given
         (all_alike SameFile names inner here.body there.body body.alike line other w.gives
         asked_gives [] [] tt gives.given gives_.given gives.found gives_.found)))
@@ -303,7 +303,7 @@ module _ (SameFile : List ℕ → Type 0) (names : Names) (pairs : Pairs) (s r :
     names_there : NamesBehind other own_ w_ r it_ f
     names_there = names_behind other own_ w_ r it_ f
 
-    met : (name : List ℕ) → has names.collections name ≡ true → (b : Bool)
+    met : (name : List ℕ) → holds_name names.collections name ≡ true → (b : Bool)
         → list_any (bytes_eq name) own_ ≡ b
         → Meet all
         (stands name (s.names ++ given (last_gives it.repeat) (hidden own_ ++ names_here.rest)))

@@ -7,14 +7,14 @@ use Rattle.written_types.specs.Named.{Named}
 use Rattle.script_program.specs.declared.made.Made.{Made}
 use Rattle.script_program.specs.declared.made.Made.TheVariants as made
 use Rattle.script_program.specs.Script.{Function, Node}
-use Rattle.direct_meaning.specs.of_script_rules.Repeats.{Repeat, copied, gives_left, in_turn, last_gives, nodes_left, renumbered, seen, turn_gives, turn_nodes, turn_to, unrolled}
+use Rattle.direct_meaning.specs.of_script_rules.Repeats.{Repeat, copied_let, gives_left, name_in_turn, last_gives, nodes_left, made_from_others, seen, turn_gives, turn_nodes, turn_to, unrolled}
 use Rattle.direct_meaning.proofs.of_script_laws.MemberLemmas.{in_mapped, within, zip_length}
 use Rattle.direct_meaning.proofs.of_script_laws.StandLemmas.{seen_entering, seen_let, stands_inside, stands_outside}
 use Rattle.key_meaning.proofs.Entries.{EntriesAlike, entries_append}
 use Rattle.key_meaning.proofs.Alike.{EntryAlike, MadeAlike, Paired, Pairs, made_moved, place_of, same_place, zip_moved, zip_more}
 use Rattle.key_meaning.proofs.Lists.{Behind, zip_at}
 
-place_moved : (to : ℕ → ℕ) (how : Made) → place_of (renumbered to how) ≡ place_of how
+place_moved : (to : ℕ → ℕ) (how : Made) → place_of (made_from_others to how) ≡ place_of how
 place_moved to (made.Do source called output) = refl
 place_moved to _ = refl
 
@@ -149,24 +149,25 @@ module _ (SameFile : List ℕ → Type 0) (functions others : Named Function) (p
 
       copy_alike : (turn i : ℕ) (entry more : List ℕ × Node) → i < n
           → slice_get repeat.body i ≡ Some entry → slice_get other.body i ≡ Some more
-          → EntryAlike SameFile all functions others (x + i) (y + i) (copied turn to entry)
-          (copied turn back more)
+          → EntryAlike SameFile all functions others (x + i) (y + i) (copied_let turn to entry)
+          (copied_let turn back more)
       copy_alike turn i entry more below at at_ =
           let it = are.lets i entry more at at_ in
           let output = place_of entry.1.made in
           let output_ = place_of more.1.made in
           let same : output ≡ output_ = same_place SameFile inner functions others it.how in
           let back_by = are.in_place i entry at in
-          let here : x + (i - output) ≡ x + i - place_of (renumbered to entry.1.made) =
+          let here : x + (i - output) ≡ x + i - place_of (made_from_others to entry.1.made) =
           omega (arith, back_by, place_moved to entry.1.made) in
-          let there : y + (i - output) ≡ y + i - place_of (renumbered back more.1.made) =
+          let there : y + (i - output) ≡ y + i - place_of (made_from_others back more.1.made) =
           omega (arith, back_by, place_moved back more.1.made, same) in
           record {
-            name = ap (in_turn turn) it.name;
+            name = ap (name_in_turn turn) it.name;
             type = it.type;
             how = made_moved SameFile inner all functions others to back moved it.how;
             first =
-                subst (λ p. Paired all p (y + i - place_of (renumbered back more.1.made))) here
+                subst (λ p. Paired all p (y + i - place_of (made_from_others back more.1.made)))
+                here
                 (subst (Paired all (x + (i - output))) there
                 (new (i - output) (omega (arith, below))));
           }
@@ -177,16 +178,17 @@ module _ (SameFile : List ℕ → Type 0) (functions others : Named Function) (p
       turn_alike turn =
           entries_from SameFile all functions others x y (turn_nodes repeat es x turn)
           (turn_nodes other fs y turn)
-          (length-map repeat.body (copied turn to)
+          (length-map repeat.body (copied_let turn to)
           ∙ are.body ∙ sym are.body_there
-          ∙ sym (length-map other.body (copied turn back)))
+          ∙ sym (length-map other.body (copied_let turn back)))
           (λ i entry more at at_.
-          let here = in_mapped (copied turn to) repeat.body i entry at in
-          let there = in_mapped (copied turn back) other.body i more at_ in
+          let here = in_mapped (copied_let turn to) repeat.body i entry at in
+          let there = in_mapped (copied_let turn back) other.body i more at_ in
           let below = within repeat.body i here.0 here.1 in
           subst (λ e. EntryAlike SameFile all functions others (x + i) (y + i) e more) here.2
           (subst
-          (λ e. EntryAlike SameFile all functions others (x + i) (y + i) (copied turn to here.0) e)
+          (λ e. EntryAlike SameFile all functions others (x + i) (y + i) (copied_let turn to here.0)
+          e)
           there.2
           (copy_alike turn i here.0 there.0 (omega (arith, below, are.body)) here.1 there.1)))
 
@@ -223,8 +225,8 @@ module _ (SameFile : List ℕ → Type 0) (functions others : Named Function) (p
     left_alike zero turn es fs x y zipped many new = tt
     left_alike (suc left) turn es fs x y zipped many new =
         let first = λ (j : ℕ) (below : j < n). new j (one_turn left j below) in
-        let long = length-map repeat.body (copied turn (turn_to repeat es x)) in
-        let long_ = length-map other.body (copied turn (turn_to other fs y)) in
+        let long = length-map repeat.body (copied_let turn (turn_to repeat es x)) in
+        let long_ = length-map other.body (copied_let turn (turn_to other fs y)) in
         entries_append SameFile all functions others x y (turn_nodes repeat es x turn)
         (turn_nodes other fs y turn)
         (nodes_left repeat left (suc turn) (turn_gives repeat es x) (x + length repeat.body))

@@ -12,10 +12,10 @@ use Rattle.dofn_eval.proofs.MeaningLemmas.{then_same}
 use Rattle.written_types.specs.Answer.{Checked}
 use Rattle.written_types.specs.Named.{Named}
 use Rattle.written_types.specs.Written.{whole_type}
-use Rattle.expression_types.specs.Operators.{concat, one, operator, side_of}
+use Rattle.expression_types.specs.Operators.{concat, unary_slot, operator, side_slot}
 use Rattle.expression_types.specs.Types.{either_of, index_type, unary_type}
-use Rattle.expression_check.specs.Given.{Environment, Thing, all_given, dotted, given_in, layer_given}
-use Rattle.expression_check.specs.Given.{listed, operated, recorded, tagged, typed, valued, with_type}
+use Rattle.expression_check.specs.Given.{Environment, Thing, all_given, dotted_thing, given_in, layer_given}
+use Rattle.expression_check.specs.Given.{list_of_things, operated_thing, recorded, tagged, typed, valued, with_type}
 use Rattle.key_meaning.proofs.Lines.{found, found_whole}
 
 with_found : (r q : Checked Ty) (f g : Ty → Outcome Thing) → found r ≡ found q
@@ -77,24 +77,25 @@ module _ (line other : ℕ) (known : Named Ty) where
       (found_whole line other written known) (λ t. refl)
   by_form (Expr-F.Unary op e) env =
       ap (λ (o : Outcome Thing).
-      then o (λ x. typed (unary_type op x.0) (of_one (one op) x.1))) (e.1 env)
-  by_form (Expr-F.Binary op a b) env = λ i. operated (operator op) (a.1 env i) (b.1 env i)
-  by_form (Expr-F.Field e name) env = ap (λ (o : Outcome Thing). then o (dotted name)) (e.1 env)
+      then o (λ x. typed (unary_type op x.0) (of_one (unary_slot op) x.1))) (e.1 env)
+  by_form (Expr-F.Binary op a b) env = λ i. operated_thing (operator op) (a.1 env i) (b.1 env i)
+  by_form (Expr-F.Field e name) env =
+      ap (λ (o : Outcome Thing). then o (dotted_thing name)) (e.1 env)
   by_form (Expr-F.Index a b) env =
       λ i. then_both (a.1 env i) (b.1 env i)
       (λ x y. typed (index_type x.0 y.0) (member_in x.1 y.1))
   by_form (Expr-F.Record names parts) env =
       ap (λ o. then o (recorded names)) (same_parts parts env [] [])
-  by_form (Expr-F.List parts) env = ap (λ o. then o listed) (same_parts parts env [] [])
+  by_form (Expr-F.List parts) env = ap (λ o. then o list_of_things) (same_parts parts env [] [])
   by_form (Expr-F.Side side written e) env =
       with_found (whole_type line written known) (whole_type other written known)
-      (λ t. then (here e.0 env) (λ x. tagged (either_of side t x.0) (of_one (side_of side) x.1)))
-      (λ t. then (there e.0 env) (λ x. tagged (either_of side t x.0) (of_one (side_of side) x.1)))
+      (λ t. then (here e.0 env) (λ x. tagged (either_of side t x.0) (of_one (side_slot side) x.1)))
+      (λ t. then (there e.0 env) (λ x. tagged (either_of side t x.0) (of_one (side_slot side) x.1)))
       (found_whole line other written known)
       (λ t. ap (λ (o : Outcome Thing).
-      then o (λ x. tagged (either_of side t x.0) (of_one (side_of side) x.1)))
+      then o (λ x. tagged (either_of side t x.0) (of_one (side_slot side) x.1)))
       (e.1 env))
-  by_form (Expr-F.Concat a b) env = λ i. operated concat (a.1 env i) (b.1 env i)
+  by_form (Expr-F.Concat a b) env = λ i. operated_thing concat (a.1 env i) (b.1 env i)
   by_form (Expr-F.Pick c a b) env =
       λ i. chosen (valued (c.1 env i)) (a.1 env i) (b.1 env i)
 

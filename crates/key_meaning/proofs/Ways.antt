@@ -20,9 +20,9 @@ use Rattle.flume_collection.specs.Collection.{Collection, by_key, together}
 use Rattle.flume_collection.specs.Traps.{trap_set}
 use Rattle.flume_collection.specs.declared.trap.Trap.{Trap}
 use Rattle.script_program.specs.Script.{Function}
-use Rattle.direct_meaning.specs.Calls.{answer_of, called_by, calls_on}
-use Rattle.direct_meaning.specs.Direct.{combined_by, counts_behind, done_by, joined_by, top_by}
-use Rattle.direct_meaning.specs.Objects.{answer_beside, answered_once, argument_of, called_once, done_beside, done_on, naming, nothing_behind, object_as, one_of, only, operated_by, operated_on, value_of, values_of, whole_behind}
+use Rattle.direct_meaning.specs.Calls.{answer_of, called_by, answers_on}
+use Rattle.direct_meaning.specs.Direct.{combined_by, counts_behind, done_by, joined_collections, top_by}
+use Rattle.direct_meaning.specs.Objects.{answer_beside, answered_once, argument_of, called_once, done_beside, done_on, naming, nothing_behind, object_as, emission_on, only, operated_by, operated_on, value_of, object_values, whole_behind}
 use Rattle.key_meaning.proofs.Alike.{Paired, Pairs, SameFunction}
 use Rattle.key_meaning.proofs.Calls.{same_answer}
 use Rattle.key_meaning.proofs.Traps.{TrapsAlike, append_alike, flat_alike, map_alike, no_traps, one_alike, set_alike, unless_alike}
@@ -32,7 +32,7 @@ Table = List (Option Collection)
 
 -- answers that are the same, called on each
 calls_same : (f g : Value → Option Called) → ((x : Value) → f x ≡ g x) → (bag : List Value)
-    → calls_on f bag ≡ calls_on g bag
+    → answers_on f bag ≡ answers_on g bag
 calls_same f g same [] = refl
 calls_same f g same (x ∷ bag) =
     λ i. option_and_then
@@ -103,7 +103,7 @@ module _ (pairs : Pairs) where
   }
 
   pub joined_alike : (a b c d : Collection) → CollectionAlike a b → CollectionAlike c d
-      → CollectionAlike (joined_by a c) (joined_by b d)
+      → CollectionAlike (joined_collections a c) (joined_collections b d)
   joined_alike a b c d first second =
       let both = append_alike pairs a.traps b.traps c.traps d.traps first.traps second.traps in
       record {
@@ -208,10 +208,10 @@ module _ (pairs : Pairs) where
     pub done_alike : (output : ℕ) (f g : Function) → SameFunction f g → (c d : Collection)
         → CollectionAlike c d → OptionAlike (done_by a output f c) (done_by b output g d)
     done_alike output f g same c d alike =
-        any_called output c.traps d.traps alike.traps (calls_on (answer_of f) c.bag)
-        (calls_on (answer_of g) d.bag)
+        any_called output c.traps d.traps alike.traps (answers_on (answer_of f) c.bag)
+        (answers_on (answer_of g) d.bag)
         (calls_same (answer_of f) (answer_of g) (same_answer f g same) c.bag
-        ∙ ap (calls_on (answer_of g)) alike.bag)
+        ∙ ap (answers_on (answer_of g)) alike.bag)
 
     -- ---- objects
 
@@ -220,7 +220,7 @@ module _ (pairs : Pairs) where
         ap only (unless_alike pairs c.traps d.traps alike.traps c.bag d.bag alike.bag)
 
     values_same : (cs ds : List Collection) → AllZip CollectionAlike cs ds
-        → values_of cs ≡ values_of ds
+        → object_values cs ≡ object_values ds
     values_same [] [] zipped = refl
     values_same [] (d ∷ ds) zipped = absurd zipped
     values_same (c ∷ cs) [] zipped = absurd zipped
@@ -243,7 +243,7 @@ module _ (pairs : Pairs) where
     answer_alike x (Ok outputs) = by (only (emissions 0 (Ok outputs)))
       where
         by : (o : Option Value)
-            → CollectionAlike (object_as (one_of a x o)) (object_as (one_of b x o))
+            → CollectionAlike (object_as (emission_on a x o)) (object_as (emission_on b x o))
         by (Some v) = record { bag = refl; traps = no_traps pairs }
         by None = record { bag = refl; traps = one_alike pairs a b first (kind.NotOne, x) }
     answer_alike x (Err trap) = record { bag = refl; traps = one_alike pairs a b first trap }
@@ -265,7 +265,7 @@ module _ (pairs : Pairs) where
         → AllZip CollectionAlike cs ds
         → OptionAlike (operated_by a (answer_of f) cs) (operated_by b (answer_of g) ds)
     operated_alike f g same cs ds zipped =
-        by (values_of cs) (values_of ds) (values_same cs ds zipped)
+        by (object_values cs) (object_values ds) (values_same cs ds zipped)
       where
         by : (o p : Option (List Value)) → o ≡ p
             → OptionAlike (operated_on a (answer_of f) o cs) (operated_on b (answer_of g) p ds)
@@ -299,12 +299,12 @@ module _ (pairs : Pairs) where
             (λ z. OptionAlike (done_on a (answer_of f) (Some v) c object)
             (done_on b (answer_of g) z d object_)) e
             (any_called 0 c.traps d.traps alike.traps
-            (calls_on (answer_beside (answer_of f) v) c.bag)
-            (calls_on (answer_beside (answer_of g) v) d.bag)
+            (answers_on (answer_beside (answer_of f) v) c.bag)
+            (answers_on (answer_beside (answer_of g) v) d.bag)
             (calls_same (answer_beside (answer_of f) v) (answer_beside (answer_of g) v)
             (λ x. ap (option_map (naming x)) (same_answer f g same (value.Rec (x ∷ v ∷ []))))
             c.bag
-            ∙ ap (calls_on (answer_beside (answer_of g) v)) alike.bag))
+            ∙ ap (answers_on (answer_beside (answer_of g) v)) alike.bag))
 
   pub together_alike : (cs ds : List Collection) → AllZip CollectionAlike cs ds
       → CollectionAlike (together cs) (together ds)

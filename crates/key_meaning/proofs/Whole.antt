@@ -9,12 +9,12 @@ use Rattle.flume_grammar.specs.declared.tree.Statement.{Statement}
 use Rattle.flume_grammar.specs.declared.fault.ScriptKind.TheVariants.{NoOutput}
 use Rattle.written_types.specs.Answer.{unless}
 use Rattle.written_types.specs.Named.{Named}
-use Rattle.script_keys.specs.Rests.{has, only}
+use Rattle.script_keys.specs.Rests.{holds_name, name_alone}
 use Rattle.script_keys.specs.declared.rests.Names.{Names}
 use Rattle.script_program.specs.Kinds.{gives_object}
 use Rattle.script_program.specs.Needed.{is_needed, outputs_read}
 use Rattle.script_program.specs.declared.made.Output.{Output}
-use Rattle.script_program.specs.Script.{Node, Script, State, nothing, script_from}
+use Rattle.script_program.specs.Script.{Node, Script, State, empty_state, script_from}
 use Rattle.direct_meaning.specs.of_script_rules.Rules as spec
 use Rattle.direct_meaning.proofs.of_script_rules.CheckedLemmas.{both, ok-same}
 use Rattle.direct_meaning.proofs.of_script_laws.NeededLemmas.{needed_law}
@@ -46,13 +46,13 @@ use Rattle.key_meaning.specs.Same.{AreAmong, IsSameCollection, IsSameTrap}
 
 record Defines (statements : List Statement) (script : Script) : Type 0 where
   pub state : State
-  pub defines : spec.defined statements nothing ≡ Ok state
+  pub defines : spec.defined statements empty_state ≡ Ok state
   pub script_is : script_from state ≡ script
 
 defines_of : (statements : List Statement) (script : Script)
     → spec.script_of statements ≡ Ok script → Defines statements script
 defines_of statements script e =
-    let s = both (spec.defined statements nothing) _ script e in
+    let s = both (spec.defined statements empty_state) _ script e in
     let some = both (unless 0 NoOutput (nat_lt 0 (length s.part.outputs))) _ script s.then in
     record {
       state = s.part;
@@ -60,12 +60,12 @@ defines_of statements script e =
       script_is = ok-same (script_from s.part) script some.then;
     }
 
-nothing_stands : OutputsStand nothing
+nothing_stands : OutputsStand empty_state
 nothing_stands entry among = absurd (not_in_none entry among)
 
 -- nothing is alike
 nothing_alike : (SameFile : List ℕ → Type 0) (names : Names)
-    → IsAlike SameFile names [] nothing nothing
+    → IsAlike SameFile names [] empty_state empty_state
 nothing_alike SameFile names = record {
   collections = λ name is. tt;
   functions = λ name is. tt;
@@ -230,12 +230,14 @@ module _ (one other : Keyed) (names : one.output.name ≡ other.output.name) whe
       let s = defines_of ss one.work.script one.work.checked in
       let r = defines_of rs other.work.script other.work.checked in
       let meets =
-      go_on Same one.output.name aligned [] nothing nothing (nothing_alike Same _) none (λ is. refl)
+      go_on Same one.output.name aligned [] empty_state empty_state (nothing_alike Same _) none
+      (λ is. refl)
       s.state r.state s.defines r.defines in
-      let stand = all_stand ss nothing s.state nothing_stands s.defines in
-      let stand_ = all_stand rs nothing r.state nothing_stands r.defines in
+      let stand = all_stand ss empty_state s.state nothing_stands s.defines in
+      let stand_ = all_stand rs empty_state r.state nothing_stands r.defines in
       let name = one.output.name in
-      let itself : has (only name).collections name ≡ true = λ i. bytes_itself name i || false in
+      let itself : holds_name (name_alone name).collections name ≡ true =
+      λ i. bytes_itself name i || false in
       let asked =
       subst (λ (script : Script). Contains script.outputs (one.file, one.output)) (sym s.script_is)
       one.asked in

@@ -18,7 +18,7 @@ use Rattle.direct_meaning.specs.of_script_rules.Rules.{script_of}
 use Rattle.direct_meaning.specs.of_script_laws.WellFormed.{members_at, object_at}
 use Rattle.direct_meaning.specs.Direct.{made_at, meaning}
 use Rattle.direct_meaning.specs.Inputs.{Wanted, inputs_of}
-use Rattle.script_keys.specs.Keys.{key_of, parts_from}
+use Rattle.script_keys.specs.Keys.{collection_key, key_parts_from}
 use Rattle.statement_law.specs.Outlined.{outlines_of}
 use Rattle.statement_texts.specs.Texts.{texts_of}
 use Rattle.key_meaning.specs.Rested.{rested_sizes}
@@ -74,8 +74,8 @@ pub record Keyed : Type 0 where
 -- the key of the collection that it reads
 abbrev pub key : Keyed → List ℕ
 key it =
-    key_of it.work.files
-    (parts_from it.output.name (outlines_of it.work.statements) (texts_of it.work.tokens.items))
+    collection_key it.work.files
+    (key_parts_from it.output.name (outlines_of it.work.statements) (texts_of it.work.tokens.items))
     it.output.name
 
 -- ---- when two are the same

@@ -31,7 +31,7 @@ use Rattle.bag_groups.proofs.PairLemmas.{Parts}
 use Rattle.combine_table.specs.declared.comb.Comb.{Comb}
 use Rattle.combine_table.specs.declared.comb.Comb.TheVariants as by
 use Rattle.combine_table.specs.Contents.{IsBool, IsInt, truth_of}
-use Rattle.combine_table.specs.Combinations.{Suits, combined, least, first_or_bad_index, total, wrapped, quotient, mean, distinct}
+use Rattle.combine_table.specs.Combinations.{Suits, combined, least, first_or_bad_index, int_total, wrapped, mean_quotient, mean, distinct}
 use Rattle.keyed_steps.specs.Keyed.{IsGroup}
 use Rattle.keyed_steps.specs.Types.{TakesType, gives_type}
 
@@ -139,7 +139,7 @@ is_what t v w h e = let same : v ≡ w = cc in subst (Has t) same h
 mean_has : (s c : ℤ) (w : Value) → mean s c ≡ Ok w → Has ty.Int w
 mean_has s (pos zero) w e = cc
 mean_has s (pos (suc n)) w e =
-    int_if (fits_int (quotient s (suc n))) (quotient s (suc n)) w e
+    int_if (fits_int (mean_quotient s (suc n))) (mean_quotient s (suc n)) w e
 mean_has s (negsuc n) w e = cc
 
 Each-once : (t : Ty) (b : List Value) → Each (Has t) b → Each (Has t) (distinct b)
@@ -149,7 +149,8 @@ Each-once t b h =
 
 combined_has : (comb : Comb) (t : Ty) (b : List Value) (w : Value) → Each (Has t) b
     → combined comb b ≡ Ok w → Has (gives_type comb t) w
-combined_has by.Sum t b w h e = int_if (fits_int (wrapped (total b))) (wrapped (total b)) w e
+combined_has by.Sum t b w h e =
+    int_if (fits_int (wrapped (int_total b))) (wrapped (int_total b)) w e
 combined_has by.Count t b w h e = int_if _ _ w e
 combined_has by.Min t b w h e = first_has t (least 1 b) w (Each-least t b h) e
 combined_has by.Max t b w h e =
@@ -161,7 +162,7 @@ combined_has by.Any t b w h e =
 combined_has (by.Top n) t b w h e =
     is_what (ty.List t) (variant.List (drop (length b - n) b)) w
     (has_list t (drop (length b - n) b) (Each-drop (Has t) (length b - n) b h)) e
-combined_has by.Mean t b w h e = mean_has (wrapped (total b)) (wrapped (pos (length b))) w e
+combined_has by.Mean t b w h e = mean_has (wrapped (int_total b)) (wrapped (pos (length b))) w e
 combined_has by.Distinct t b w h e =
     is_what (ty.List t) (variant.List (distinct b)) w (has_list t (distinct b) (Each-once t b h)) e
 

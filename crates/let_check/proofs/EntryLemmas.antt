@@ -52,7 +52,7 @@ nodes-more (name ∷ names) (making ∷ makings) s =
     omega (arith, nodes-more names makings next, one)
 
 named-more : (line : ℕ) (names : List (List ℕ)) (by : Operation) (s after : State)
-    → spec.named line names by s ≡ Ok after → length s.nodes ≤ length after.nodes
+    → spec.let_rule line names by s ≡ Ok after → length s.nodes ≤ length after.nodes
 named-more line names by s after e =
     let new = both (spec.all_fresh line (keys_of s.names) names) _ after e in
     let makings = both (made_by line by s) _ after new.then in
@@ -64,7 +64,7 @@ pub all-named-more : (lets : List TurnLet) (s after : State) → spec.all_named 
     → length s.nodes ≤ length after.nodes
 all-named-more [] s after e = omega (arith, ap (λ s. length s.nodes) (ok-same s after e))
 all-named-more (it ∷ lets) s after e =
-    let next = both (spec.named it.line it.names it.by s) _ after e in
+    let next = both (spec.let_rule it.line it.names it.by s) _ after e in
     omega (
       arith,
       named-more it.line it.names it.by s next.part next.first,

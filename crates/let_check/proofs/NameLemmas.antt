@@ -13,7 +13,7 @@ use Rattle.flume_types.specs.declared.types.Ty.{Ty}
 use Rattle.script_program.specs.declared.made.Making.{Making as HeldMaking}
 use Rattle.script_program.specs.Program.{making_in}
 use Rattle.script_program.specs.declared.made.Standing.TheVariants.{Hidden}
-use Rattle.script_program.specs.Script.{Making, State, with_name, with_node}
+use Rattle.script_program.specs.Script.{Making, State, with_standing, with_node}
 use Rattle.script_program.specs.Script.{with_nodes}
 use Rattle.script_rules.specs.Rules.{all_fresh}
 use Rattle.let_check.specs.inner.Names.{AreFree, AreNew}
@@ -57,7 +57,7 @@ are-free line [] s u e = tt
 are-free line (name ∷ names) s u e =
     let taken = list_any (bytes_eq name) (keys_of s.names) in
     let new = both (unless line Twice (not taken)) _ u e in
-    let next = with_name name Hidden s in (
+    let next = with_standing name Hidden s in (
       has-key name s.names ∙ not-true taken (holds line Twice _ new.part new.first),
       are-free line names next u
           (subst (λ keys. all_fresh line keys names ≡ Ok u) (sym (keys-push s.names name _))

@@ -6,7 +6,7 @@ use Rattle.std.proofs.Math.Nat.{suc-mul}
 use Rattle.std.proofs.lemmas.List.{append_assoc, append-nil, length-map}
 use Rattle.operation_check.specs.of_written_types.Named.{Named}
 use Rattle.script_program.specs.Script.{Node, State, with_copies}
-use Rattle.script_rules.specs.Repeats.{Repeat, copied, gives_left, nodes_left, turn_gives}
+use Rattle.script_rules.specs.Repeats.{Repeat, copied_let, gives_left, nodes_left, turn_gives}
 use Rattle.script_rules.specs.Repeats.{turn_nodes, turn_to}
 
 -- ---- collections more
@@ -67,7 +67,7 @@ module _ (repeat : Repeat) (entering : List ℕ) (turn left : ℕ) (s : State) w
   body = length repeat.body
 
   turn-length : length (turn_nodes repeat entering start turn) ≡ body
-  turn-length = length-map repeat.body (copied turn (turn_to repeat entering start))
+  turn-length = length-map repeat.body (copied_let turn (turn_to repeat entering start))
 
   turn-copies : (after : State) → after ≡ with_copies (turn_nodes repeat entering start turn) s
       → length after.nodes ≡ start + body

@@ -23,7 +23,7 @@ use type_table::Types;
 /// A let on its line, where there is room for what it names.
 pub fn add_let(alloc: Global, it: TurnLet, state: &mut State) -> Result<(), ScriptFault>
     ensures gives { Gives (λ _. state.new.state) result
-        (spec.named it.line it.names it.by state.old.state) }
+        (spec.let_rule it.line it.names it.by state.old.state) }
     ensures extends { Extends state.old.types state.new.types }
 {
     let TurnLet { line, names, by } = it;
@@ -43,7 +43,7 @@ fn makings_for(
 ) -> Result<Pile<Making>, ScriptFault>
     ensures gives { Gives (λ makings. with_nodes names.now
         (map (making_in state.new.types) makings) state.old.state) result
-        (spec.named line names.now by.now state.old.state) }
+        (spec.let_rule line names.now by.now state.old.state) }
     ensures new { IfOk result (λ makings. AreNew names.now
         (map (making_in state.new.types) makings) state.old.state) }
     ensures within { IfOk result (All (λ making. making.ty < length state.new.types)) }

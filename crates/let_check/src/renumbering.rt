@@ -15,7 +15,7 @@ pub fn renumbered(
     how: &Made,
 ) -> Result<Made, AllocError>
     ensures { IfOk result (λ made.
-        made ≡ spec.renumbered (spec.stands_for outside seen.now) how.now) }
+        made ≡ spec.made_from_others (spec.stands_for outside seen.now) how.now) }
 {
     match how {
         Made::Input { file, columns } => {

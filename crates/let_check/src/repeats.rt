@@ -91,7 +91,7 @@ fn entry_for(
     state: &mut State,
 ) -> Result<Entry, ScriptFault>
     ensures gives { Gives (entry_in state.new.types) result
-        (spec.entry_of line names.now written.now state.old.state) }
+        (spec.repeat_entry line names.now written.now state.old.state) }
     ensures new { OnOk result ((makings : List Meant) →
         AreNew written.now.entering makings state.new.state) }
     ensures within { IfOk result (λ entry.
@@ -292,7 +292,7 @@ fn gives_for(
     state: &State,
 ) -> Result<Pile<usize>, ScriptFault>
     requires { All (λ source. source.ty < length state.now.types) from.now }
-    ensures { Gives (λ gives. gives) result (spec.gives_of line names.now
+    ensures { Gives (λ gives. gives) result (spec.repeat_gives line names.now
         (map (operand_in state.now.types) from.now) state.now.state) }
 {
     let given = collections(alloc, line, names, state)?;

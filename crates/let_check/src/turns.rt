@@ -116,7 +116,7 @@ fn add_copies(
 ) -> Result<(), AllocError>
     requires { All (λ entry. entry.1.ty < length state.old.types) repeat.now.body }
     ensures state { OnOk result (state.new.state ≡ with_copies
-        (map (spec.copied turn (spec.stands_for repeat.now.outside seen.now))
+        (map (spec.copied_let turn (spec.stands_for repeat.now.outside seen.now))
         (map (node_of state.old.types) repeat.now.body)) state.old.state) }
     ensures types { state.new.types ≡ state.old.types }
 {
@@ -137,7 +137,7 @@ fn add_copy(
 ) -> Result<(), AllocError>
     requires { entry.now.1.ty < length state.old.types }
     ensures state { OnOk result (state.new.state ≡ with_copies
-        (spec.copied turn (spec.stands_for outside seen.now) (node_of state.old.types entry.now)
+        (spec.copied_let turn (spec.stands_for outside seen.now) (node_of state.old.types entry.now)
         ∷ []) state.old.state) }
     ensures types { state.new.types ≡ state.old.types }
 {
@@ -156,7 +156,7 @@ fn add_copy(
 
 /// The name of a let in a turn.
 fn in_turn(alloc: Global, name: &Str, turn: u32) -> Result<Str, AllocError>
-    ensures { IfOk result (λ text. text ≡ spec.in_turn turn name.now) }
+    ensures { IfOk result (λ text. text ≡ spec.name_in_turn turn name.now) }
 {
     let mut text = Vec::from_slice(alloc, name.as_bytes())?;
     text.push(b'@')?;

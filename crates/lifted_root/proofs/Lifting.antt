@@ -11,7 +11,7 @@ use Rattle.exec_graph.specs.declared.step.Does.TheVariants as does
 use Rattle.exec_graph.specs.Forests.{Branch, Bare, Grow, Twig, grown, label_at, limb, twigs}
 use Rattle.exec_graph.specs.Wellformed.{comb_of, root_comb}
 use Rattle.exec_graph.specs.World.{World}
-use Rattle.forest_steps.specs.Running.{Given, and_then, below, behind, run, run_answer, run_each}
+use Rattle.forest_steps.specs.Running.{Given, and_then, below, next_behind, run, run_answer, run_each}
 use Rattle.forest_steps.specs.Safety.{Safe}
 use Rattle.forest_steps.proofs.Twigging.{limb_run, limb_safe, then_alike}
 use Rattle.lifted_root.specs.Lifted.{partial_answer, run_called, run_partial, SafeCalled}
@@ -49,7 +49,7 @@ module _ (w : World) (sizes : List ℕ) (b : Branch) where
   called_run (Err trap) x g e =
       ap (λ c. and_then
       (run_answer b.origin 0 c b.first.out 0 (run w sizes (below 0) b.first.kids) g)
-      (run w sizes (behind sizes 0) (twigs b 1 b.more Bare) x)) e
+      (run w sizes (next_behind sizes 0) (twigs b 1 b.more Bare) x)) e
 
   -- ---- all keys
 

@@ -8,7 +8,7 @@ use Rattle.run_course.proofs.GivenUpLemmas.{risen_less}
 use Rattle.run_course.proofs.LeftLemmas.{begun_then, left_then, same_begun, same_left}
 use Rattle.run_course.specs.Lent.{lent}
 use Rattle.run_course.specs.Promises.{IsEnded}
-use Rattle.run_course.specs.World.{Keeps, World}
+use Rattle.run_course.specs.Outside.{Keeps, Outside}
 use Rattle.run_settings.specs.Settings.{standard}
 use Rattle.run_texts.specs.declared.status.Place.TheVariants.{File, Screen}
 use Rattle.run_texts.specs.declared.status.Status.{Status}
@@ -18,7 +18,7 @@ use Rattle.made_course.specs.Files.{files_for}
 use Rattle.made_course.specs.Makes.{CanEndMake, IsMakeAnswer, Makes}
 use Rattle.made_course.specs.Runs.{AsksHosts, WasGivenUp}
 
-only : (w : Workload) (before after : World) (status : Status) → Answers w before after status
+only : (w : Workload) (before after : Outside) (status : Status) → Answers w before after status
     → IsMakeAnswer status
 only w before after Done is = tt
 only w before after (WriteFault place) is = tt
@@ -36,7 +36,7 @@ not_given_up w olds news stage phase task it calm =
     calm (risen_less 2 lost.losses (lent standard olds) (lent standard news) (omega arith)
     lost.risen)
 
-complete : (w : Workload) (before after : World) (status : Status) → Answers w before after status
+complete : (w : Workload) (before after : Outside) (status : Status) → Answers w before after status
     → CanEndMake before after → (status ≡ WantOfMemory) ⊎ (status ≡ Done)
 complete w before after Done is can = inr refl
 complete w before after WantOfMemory is can = inl refl
@@ -46,7 +46,7 @@ complete w before after (GaveUp stage phase task) is can =
     absurd (not_given_up w before.hosts after.hosts stage phase task is.lost can.hosts)
 complete w before after _ is can = absurd is
 
-ended : (w : Workload) (before after : World) (status : Status) → before.shelf.begun ≡ false
+ended : (w : Workload) (before after : Outside) (status : Status) → before.shelf.begun ≡ false
     → Answers w before after status → IsEnded status after.shelf
 ended w before after Done none is =
     begun_then (files_for w) before.shelf after.shelf none is.files.begun
@@ -58,7 +58,7 @@ ended w before after (GaveUp stage phase task) none is =
     same_begun before.shelf after.shelf none is.refused.shelf
 ended w before after _ none is = absurd is
 
-left : (w : Workload) (before after : World) (status : Status) → before.shelf.begun ≡ false
+left : (w : Workload) (before after : Outside) (status : Status) → before.shelf.begun ≡ false
     → Answers w before after status → after.shelf.left ≡ before.shelf.left
 left w before after Done none is =
     left_then (files_for w) before.shelf after.shelf none is.files.left
@@ -71,7 +71,7 @@ left w before after (GaveUp stage phase task) none is =
     same_left before.shelf after.shelf is.refused.shelf
 left w before after _ none is = absurd is
 
-pub makes : (w : Workload) (before after : World) (status : Status)
+pub makes : (w : Workload) (before after : Outside) (status : Status)
     → Answers w before after status → Keeps before after → after.source ≡ before.source
     → AsksHosts w before.hosts after.hosts → Makes w before after status
 makes w before after status answers kept source hosts =

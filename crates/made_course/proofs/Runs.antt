@@ -23,7 +23,7 @@ use Rattle.run_course.specs.of_script_run.Runs.{AsksSomePhases, IsFirstTrap, IsR
 use Rattle.run_course.specs.of_script_run.declared.run.Ran.{Ran}
 use Rattle.made_rows.specs.Means.{MeansSums}
 use Rattle.made_rows.specs.Sums.{sums_script}
-use Rattle.made_course.specs.Files.{rows_of, sums_for}
+use Rattle.made_course.specs.Files.{workload_rows, sums_for}
 use Rattle.made_course.specs.Runs.{AsksHosts}
 use Rattle.made_course.specs.inner.Stops.{ComesTo}
 
@@ -35,16 +35,16 @@ some_is x y same = cc same
 -- what the script of the sums means over the rows of a workload is known
 module _ (w : Workload) (means : MeansSums w.start w.rows) where
   same_table : (made : List (Option Collection))
-      → meaning sums_script (rows_of w ∷ []) ≡ Some made → made ≡ means.table
+      → meaning sums_script (workload_rows w ∷ []) ≡ Some made → made ≡ means.table
   same_table made is = some_is made means.table (sym is ∙ means.means)
 
   no_traps : (made : List (Option Collection))
-      → meaning sums_script (rows_of w ∷ []) ≡ Some made → traps_of made ≡ []
+      → meaning sums_script (workload_rows w ∷ []) ≡ Some made → traps_of made ≡ []
   no_traps made is = ap traps_of (same_table made is) ∙ means.through
 
   -- so no trap is met
   no_first : (s : RunSettings) (plan : Plan) (olds news : List Account) (trap : Trap)
-      → IsFirstTrap s sums_script (rows_of w ∷ []) plan olds news trap → ⊥
+      → IsFirstTrap s sums_script (workload_rows w ∷ []) plan olds news trap → ⊥
   no_first s plan olds news trap it =
       not_in_none trap (subst (λ (l : List Trap). Contains l trap) (no_traps it.made it.means)
       it.among)
@@ -68,13 +68,13 @@ module _ (w : Workload) (means : MeansSums w.start w.rows) where
   first_output (members ∷ more ∷ lists) made same all = absurd all.1
 
   one_list : (s : RunSettings) (plan : Plan) (olds news : List Account) (it : Ran)
-      → IsRan s sums_script (rows_of w ∷ []) plan olds news it
+      → IsRan s sums_script (workload_rows w ∷ []) plan olds news it
       → it.outputs.items ≡ sums_for w ∷ []
   one_list s plan olds news it ran =
       first_output it.outputs.items ran.made (same_table ran.made ran.means) ran.written
 
   abbrev rows : List (List Value)
-  rows = rows_of w ∷ []
+  rows = workload_rows w ∷ []
 
   -- so it is what a run of the usual settings comes to
   usual_comes : (plan : Plan) (olds news : List Account) (r : Result Ran RunFault)
@@ -102,15 +102,15 @@ Ways = RunSettings × Script × List (List Value)
 -- what follows of a run by the usual settings, over the script of the sums and the rows of a
 -- workload, follows of one that goes so
 module _ (w : Workload) (s : RunSettings) (script : Script) (inputs : List (List Value))
-    (usual : s ≡ standard) (is : script ≡ sums_script) (are : inputs ≡ rows_of w ∷ []) where
-  by_usual : (P : Ways → Type 0) → P (standard, sums_script, rows_of w ∷ [])
+    (usual : s ≡ standard) (is : script ≡ sums_script) (are : inputs ≡ workload_rows w ∷ []) where
+  by_usual : (P : Ways → Type 0) → P (standard, sums_script, workload_rows w ∷ [])
       → P (s, script, inputs)
   by_usual P own =
-      let same : ◌≡◌ {A = Ways} (standard, sums_script, rows_of w ∷ []) (s, script, inputs)
+      let same : ◌≡◌ {A = Ways} (standard, sums_script, workload_rows w ∷ []) (s, script, inputs)
       = λ i. (sym usual i, sym is i, sym are i) in
       subst P same own
 
-  pub inputs_typed : AreInputs sums_script (rows_of w ∷ []) → AreInputs script inputs
+  pub inputs_typed : AreInputs sums_script (workload_rows w ∷ []) → AreInputs script inputs
   inputs_typed = by_usual (λ t. AreInputs t.1 t.2)
 
   pub comes : MeansSums w.start w.rows → (plan : Plan) (olds news : List Account)

@@ -7,7 +7,7 @@ use Rattle.outside.specs.declared.host.Phase.{Phase}
 use Rattle.run_course.specs.Answers.{IsRefused}
 use Rattle.run_course.specs.Lent.{lent}
 use Rattle.run_course.specs.Promises.{IsEnded}
-use Rattle.run_course.specs.World.{Keeps, World}
+use Rattle.run_course.specs.Outside.{Keeps, Outside}
 use Rattle.run_settings.specs.Settings.{standard}
 use Rattle.run_texts.specs.declared.status.Place.TheVariants.{File, Screen}
 use Rattle.run_texts.specs.declared.status.Status.{Status}
@@ -24,14 +24,14 @@ IsMakeAnswer WantOfMemory = ⊤
 IsMakeAnswer status = ⊥
 
 -- neither the shelf nor the screen fails, and the lent hosts are down less than twice
-pub record CanEndMake (before after : World) : Type 0 where
+pub record CanEndMake (before after : Outside) : Type 0 where
   pub shelf : Rose before.shelf.faults after.shelf.faults → ⊥
   pub screen : Rose before.screen.faults after.screen.faults → ⊥
   pub hosts : HaveRisen 2 (lent standard before.hosts) (lent standard after.hosts) → ⊥
 
 -- What is so after a call that was to make this workload, which found the one world and left the
 -- other, and answered so.
-pub record Makes (w : Workload) (before after : World) (status : Status) : Type 0 where
+pub record Makes (w : Workload) (before after : Outside) (status : Status) : Type 0 where
   -- both files are whole, ended and right, and so is the line of the screen
   pub done : status ≡ Done → IsDone w before after
   -- the cause of each other answer, want of memory aside, and what stands after it

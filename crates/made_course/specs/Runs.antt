@@ -12,13 +12,13 @@ use Rattle.run_settings.specs.Settings.{standard}
 use Rattle.run_course.specs.of_script_plans.Plans.{IsScriptPlan}
 use Rattle.run_course.specs.of_script_run.Runs.{AsksSomePhases, phases_of}
 use Rattle.made_rows.specs.Sums.{sums_script}
-use Rattle.made_course.specs.Files.{rows_of}
+use Rattle.made_course.specs.Files.{workload_rows}
 
 -- each task of the plan of the sums was run on the lent hosts, which were asked for nothing else
 abbrev pub WasSummed : Workload → List Account → List Account → Type 0
 WasSummed w olds news =
     (plan : Plan) × IsScriptPlan sums_script plan
-    × AllTasksRan standard sums_script (rows_of w ∷ []) plan (lent standard olds)
+    × AllTasksRan standard sums_script (workload_rows w ∷ []) plan (lent standard olds)
     (lent standard news)
 
 -- of this task of a phase of that plan no attempt has won: the losses of the lent hosts account for
@@ -26,8 +26,8 @@ WasSummed w olds news =
 abbrev pub WasGivenUp : Workload → List Account → List Account → ℕ → Phase → ℕ → Type 0
 WasGivenUp w olds news stage phase task =
     (plan : Plan) × IsScriptPlan sums_script plan
-    × IsGivenUp standard.tries standard.drill (script_world sums_script (rows_of w ∷ []))
-    (phases_of standard sums_script (rows_of w ∷ []) plan) (lent standard olds)
+    × IsGivenUp standard.tries standard.drill (script_world sums_script (workload_rows w ∷ []))
+    (phases_of standard sums_script (workload_rows w ∷ []) plan) (lent standard olds)
     (lent standard news) stage phase task
 
 -- of the phases of that plan some front was asked for, one phase behind the other: the lent hosts
@@ -35,7 +35,7 @@ WasGivenUp w olds news stage phase task =
 pub record AsksSums (w : Workload) (olds news : List Account) : Type 0 where
   pub plan : Plan
   pub is : IsScriptPlan sums_script plan
-  pub asked : AsksSomePhases standard (phases_of standard sums_script (rows_of w ∷ []) plan)
+  pub asked : AsksSomePhases standard (phases_of standard sums_script (workload_rows w ∷ []) plan)
       (lent standard olds) (lent standard news)
   pub others : drop standard.workers news ≡ drop standard.workers olds
 

@@ -11,7 +11,7 @@ ghost use Rattle.made_rows.specs.Rows.{made_text};
 ghost use Rattle.made_rows.specs.Sums.{sums_script};
 ghost use Rattle.outside.specs.Saves.{output_file};
 ghost use Rattle.outside.specs.Seen.{SeenSource};
-ghost use Rattle.run_course.specs.World.{world};
+ghost use Rattle.run_course.specs.Outside.{world};
 ghost use Rattle.run_settings.specs.Settings.{standard};
 
 use crate::summing::{sums_ready, sums_run};

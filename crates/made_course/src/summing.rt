@@ -3,7 +3,7 @@ ghost use Rattle.std.specs.Prelude.{◌≡◌, ◌∷◌, [], IfOk, drop, length
 ghost use Rattle.std.specs.List.{AllZip};
 ghost use Rattle.command_words.specs.Workloads.{IsWithinLimits};
 ghost use Rattle.crew.specs.Hosts.{Grew};
-ghost use Rattle.made_course.specs.Files.{rows_of};
+ghost use Rattle.made_course.specs.Files.{workload_rows};
 ghost use Rattle.made_course.specs.Runs.{AsksHosts};
 ghost use Rattle.made_course.specs.inner.Stops.{ComesTo};
 ghost use Rattle.made_rows.specs.Sums.{sums_script};
@@ -66,7 +66,7 @@ fn to_run(
     workload: Workload,
 ) -> Result<(Pile<Items>, Plan), AllocError>
     requires { IsWithinLimits workload }
-    ensures inputs { IfOk result (λ it. it.0 ≡ rows_of workload ∷ []) }
+    ensures inputs { IfOk result (λ it. it.0 ≡ workload_rows workload ∷ []) }
     ensures optimised { IfOk result (λ it. IsScriptPlan program.now.script it.1) }
     ensures of_script { IfOk result (λ it. IsPlanOf program.now.script it.1) }
 {

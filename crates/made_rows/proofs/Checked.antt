@@ -31,10 +31,10 @@ use Rattle.expression_check.specs.Types.{layer_type, type_of}
 use Rattle.expression_types.specs.Fields.{named_field, fields_layer}
 use Rattle.expression_types.specs.Sight.{Sight}
 use Rattle.expression_types.specs.Types.{place_under, record_type}
-use Rattle.direct_meaning.specs.of_script_rules.Operations.{combined_type, made_by, member_in, pair_in}
+use Rattle.direct_meaning.specs.of_script_rules.Operations.{combined_type, made_by, member_type_in, pair_in}
 use Rattle.direct_meaning.specs.of_script_rules.Rules.{all_fit, defined, rule, script_of}
 use Rattle.script_program.specs.Limits.{most_outputs}
-use Rattle.script_program.specs.Script.{Making, Script, Signature, State, nothing, script_from, with_function, with_node, with_nodes, with_output, with_statement, with_type}
+use Rattle.script_program.specs.Script.{Making, Script, Signature, State, empty_state, script_from, with_function, with_node, with_nodes, with_output, with_statement, with_named_type}
 use Rattle.script_program.specs.declared.made.Output.{Output}
 use Rattle.script_program.specs.declared.made.Made.TheVariants as made
 use Rattle.direct_meaning.proofs.of_script_laws.RuleLemmas.{well-formed}
@@ -43,7 +43,7 @@ use Rattle.written_types.specs.Answer.{Checked, Gives, ◌>>=◌, or_fault, unle
 use Rattle.written_types.specs.Named.{Named}
 use Rattle.written_types.specs.Written.{fields_behind, layer_written, shallow, whole_type, written}
 use Rattle.made_rows.proofs.Columns.{named, pair_fields, row_columns_are, row_fields, sum_columns_are}
-use Rattle.made_rows.specs.Sums.{field, fields, function_body, function_statement, input_statement, int_table, let_statement, output_statement, pairing, row_columns, row_type, sum_columns, sums_script, sums_statements, type_statement}
+use Rattle.made_rows.specs.Sums.{field_of_row, both_fields, function_body, function_statement, input_statement, int_table, let_statement, output_statement, pairing, row_columns, row_type, sum_columns, sums_script, sums_statements, type_statement}
 
 -- ---- types
 
@@ -136,7 +136,7 @@ abbrev start : Sight
 start = at_start known (codes "x") row_type
 
 abbrev record_made : Expr
-record_made = expr.Record (codes "key" ∷ codes "value" ∷ []) fields
+record_made = expr.Record (codes "key" ∷ codes "value" ∷ []) both_fields
 
 name_typed : type_of 3 (expr.Name (codes "x")) start ≡ Ok row_type
 name_typed =
@@ -144,9 +144,9 @@ name_typed =
     ∙ ap (λ y. layer_type 3 (type_of 3) y start) (expr.outs-Name (codes "x"))
 
 field_typed : (name : List ℕ) (at : ℕ) → named_field name 0 row_fields ≡ Some (at, ty.Int)
-    → type_of 3 (field name) start ≡ Ok ty.Int
+    → type_of 3 (field_of_row name) start ≡ Ok ty.Int
 field_typed name at there =
-    type_of-step 3 (field name) start
+    type_of-step 3 (field_of_row name) start
     ∙ ap (λ y. layer_type 3 (type_of 3) y start) (expr.outs-Field (expr.Name (codes "x")) name)
     ∙ ap (λ (r : Checked Ty). r >>= λ t. place_under 3 name t >>= λ place. Ok place.1) name_typed
     ∙ ap (λ (y : Ty-F Ty). (or_fault 3 Mistyped (fields_layer y) >>= λ all.
@@ -157,7 +157,7 @@ record_typed : type_of 3 record_made start ≡ Ok pair_type
 record_typed =
     type_of-step 3 record_made start
     ∙ ap (λ y. layer_type 3 (type_of 3) y start)
-    (expr.outs-Record (codes "key" ∷ codes "value" ∷ []) fields)
+    (expr.outs-Record (codes "key" ∷ codes "value" ∷ []) both_fields)
     ∙ ap₂ (λ (a b : Checked Ty).
     (a >>= λ t. ((b >>= λ u. Ok (u ∷ [])) >>= λ ts. Ok (t ∷ ts))) >>= λ types.
     record_type 3 (codes "key" ∷ codes "value" ∷ []) types)
@@ -177,7 +177,7 @@ body_kept =
 -- ---- the statements
 
 abbrev s1 : State
-s1 = with_statement (with_type (codes "r") row_type nothing)
+s1 = with_statement (with_named_type (codes "r") row_type empty_state)
 
 abbrev input_made : Making
 input_made = record { made = made.Input (codes "made.csv") row_columns; type = row_type }
@@ -212,8 +212,9 @@ output_columns columns = record { name = codes "s"; reads = 3; columns = columns
 abbrev s7 : State
 s7 = with_statement (with_output (codes "sums.csv") (output_columns sum_columns) s6)
 
-first : rule 1 type_statement.form nothing ≡ Ok (with_type (codes "r") row_type nothing)
-first = ap (λ (r : Checked Ty). r >>= λ t. Ok (with_type (codes "r") t nothing)) row_whole
+first : rule 1 type_statement.form empty_state
+    ≡ Ok (with_named_type (codes "r") row_type empty_state)
+first = ap (λ (r : Checked Ty). r >>= λ t. Ok (with_named_type (codes "r") t empty_state)) row_whole
 
 second : rule 2 input_statement.form s1 ≡ Ok (with_node (codes "made") input_made s1)
 second =
@@ -280,12 +281,12 @@ group_fields = named (codes "key") ty.Int ∷ named (codes "value") (ty.List ty.
 sums_are : made_by 6 (operation.Combine (codes "g") combiner.Sum) s5 ≡ Ok (sums_made ∷ [])
 sums_are =
     ap (λ (y : Ty-F Ty). (or_fault 6 NotTable (pair_in y) >>= λ pair.
-    or_fault 6 NotTable (member_in (out-Ty pair.value)) >>= λ member.
+    or_fault 6 NotTable (member_type_in (out-Ty pair.value)) >>= λ member.
     or_fault 6 Mistyped (combined_type comb.Sum member) >>= λ value.
     Ok (record { made = made.Combine 2 comb.Sum; type = table_of pair.key value }))
     >>= λ (one : Making). Ok (one ∷ []))
     (ty.outs-Rec group_fields)
-    ∙ ap (λ (y : Ty-F Ty). (or_fault 6 NotTable (member_in y) >>= λ member.
+    ∙ ap (λ (y : Ty-F Ty). (or_fault 6 NotTable (member_type_in y) >>= λ member.
     or_fault 6 Mistyped (combined_type comb.Sum member) >>= λ value.
     Ok (record { made = made.Combine 2 comb.Sum; type = table_of ty.Int value }))
     >>= λ (one : Making). Ok (one ∷ []))
@@ -331,9 +332,9 @@ last = groups_let ∷ sums_let ∷ output_statement ∷ []
 abbrev others : List Statement
 others = input_statement ∷ function_statement ∷ pairs_let ∷ last
 
-all_defined : defined sums_statements nothing ≡ Ok s7
+all_defined : defined sums_statements empty_state ≡ Ok s7
 all_defined =
-    step type_statement others nothing _ first
+    step type_statement others empty_state _ first
     ∙ step input_statement (function_statement ∷ pairs_let ∷ last) s1 _ second
     ∙ step function_statement (pairs_let ∷ last) s2 _ third ∙ step pairs_let last s3 _ fourth
     ∙ step groups_let (sums_let ∷ output_statement ∷ []) s4 _ fifth

@@ -1,6 +1,6 @@
 -- The columns of the rows and of the sums.
 use Rattle.std.proofs.Common.{◌≡◌, ◌∙◌, ℕ, List, [], ◌∷◌, codes, Some, ap, ap₂}
-use Rattle.flume_types.specs.Columns.{cell_column, columns_of, field_columns, flat_columns, input_at, input_columns_of, columns_and}
+use Rattle.flume_types.specs.Columns.{cell_column, columns_of, field_columns, flat_columns, columns_at, input_columns_of, columns_and}
 use Rattle.flume_types.specs.Tables.{table_of}
 use Rattle.flume_types.specs.declared.types.Field.{Field}
 use Rattle.flume_types.specs.declared.types.Ty.{Ty, Ty-F, out-Ty}
@@ -18,7 +18,7 @@ pair_fields = named (codes "key") ty.Int ∷ named (codes "value") ty.Int ∷ []
 
 pub row_columns_are : input_columns_of row_type ≡ Some row_columns
 row_columns_are =
-    ap input_at (ty.outs-Rec row_fields)
+    ap columns_at (ty.outs-Rec row_fields)
     ∙ ap₂ (λ (x y : Ty-F Ty).
     columns_and (cell_column (codes "k") x) (columns_and (cell_column (codes "v") y) (Some [])))
     ty.outs-Int

@@ -24,7 +24,7 @@ use Rattle.int_text.proofs.IntFacts.{lt-to, numeral-to, own}
 use Rattle.int_text.specs.Ints.{int_from, int_of_text, is_numeral, number_of}
 use Rattle.made_rows.proofs.Columns.{row_columns_are}
 use Rattle.made_rows.proofs.Numbers.{numbers_below}
-use Rattle.made_rows.specs.Rows.{key_of, line_of, made_numbers, made_rows, made_text, most_made, numbers_from, pair_line, row_of}
+use Rattle.made_rows.specs.Rows.{last_digit, number_line, made_numbers, made_rows, made_text, most_made, numbers_from, pair_line, made_row}
 use Rattle.made_rows.specs.Sums.{row_columns, row_type}
 
 -- ---- digits call for no quotes
@@ -88,31 +88,32 @@ int_shown n small =
 -- ---- the records of lines
 
 abbrev fields_of : ℕ → List (List ℕ)
-fields_of n = decimal (key_of n) ∷ decimal n ∷ []
+fields_of n = decimal (last_digit n) ∷ decimal n ∷ []
 
-key_small : (n : ℕ) → n < 2 ^ 63 → key_of n < 2 ^ 63
+key_small : (n : ℕ) → n < 2 ^ 63 → last_digit n < 2 ^ 63
 key_small n small = omega arith
 
 line_read : (n : ℕ) (tail : List ℕ) → n < 2 ^ 63
-    → next_record default_config st.StartRecord [] [] (line_of n ++ tail)
+    → next_record default_config st.StartRecord [] [] (number_line n ++ tail)
     ≡ Some (fields_of n, st.StartRecord, tail)
 line_read n tail small =
     subst (λ (t : List ℕ). next_record default_config st.StartRecord [] [] (t ++ tail)
     ≡ Some (fields_of n, st.StartRecord, tail))
-    (line_written (decimal (key_of n)) (decimal n) (shown_digits (key_of n) (key_small n small))
+    (line_written (decimal (last_digit n)) (decimal n) (shown_digits (last_digit n)
+    (key_small n small))
     (shown_digits n small))
-    (read-write-many (decimal (key_of n)) (decimal n) [] tail)
+    (read-write-many (decimal (last_digit n)) (decimal n) [] tail)
 
 ends : next_record default_config st.StartRecord [] [] [] ≡ None
 unfolding next_record
 ends = refl
 
 lines_read : (ns : List ℕ) → Each (λ n. n < 2 ^ 63) ns
-    → records_at st.StartRecord (flat_map line_of ns) ≡ map fields_of ns
+    → records_at st.StartRecord (flat_map number_line ns) ≡ map fields_of ns
 lines_read [] small = records_at-end st.StartRecord [] ends
 lines_read (n ∷ ns) small =
-    records_at-step st.StartRecord (line_of n ++ flat_map line_of ns) _
-    (line_read n (flat_map line_of ns) small.0)
+    records_at-step st.StartRecord (number_line n ++ flat_map number_line ns) _
+    (line_read n (flat_map number_line ns) small.0)
     ∙ ap (λ (r : List (List (List ℕ))). fields_of n ∷ r) (lines_read ns small.1)
 
 -- ---- and of the header
@@ -137,21 +138,21 @@ header_read tail =
     (read-write-many (codes "k") (codes "v") [] tail)
 
 all_read : (ns : List ℕ) → Each (λ n. n < 2 ^ 63) ns
-    → records_of (codes "k,v\n" ++ flat_map line_of ns) ≡ names ∷ map fields_of ns
+    → records_of (codes "k,v\n" ++ flat_map number_line ns) ≡ names ∷ map fields_of ns
 all_read ns small =
-    ap (records_at st.StartRecord) (no_mark (flat_map line_of ns))
-    ∙ (records_at-step st.StartRecord (codes "k,v\n" ++ flat_map line_of ns) _
-    (header_read (flat_map line_of ns))
+    ap (records_at st.StartRecord) (no_mark (flat_map number_line ns))
+    ∙ (records_at-step st.StartRecord (codes "k,v\n" ++ flat_map number_line ns) _
+    (header_read (flat_map number_line ns))
     ∙ ap (λ (r : List (List (List ℕ))). names ∷ r) (lines_read ns small))
 
 -- ---- the rows of these records
 
-row_decoded : (row n : ℕ) → n < 2 ^ 63 → row_at row row_columns (fields_of n) ≡ Ok (row_of n)
+row_decoded : (row n : ℕ) → n < 2 ^ 63 → row_at row row_columns (fields_of n) ≡ Ok (made_row n)
 row_decoded row n small =
-    rw (int_shown (key_of n) (key_small n small), int_shown n small) refl
+    rw (int_shown (last_digit n) (key_small n small), int_shown n small) refl
 
 rows_decoded : (row : ℕ) (ns : List ℕ) → Each (λ n. n < 2 ^ 63) ns
-    → rows_from row row_columns (map fields_of ns) ≡ Ok (map row_of ns)
+    → rows_from row row_columns (map fields_of ns) ≡ Ok (map made_row ns)
 rows_decoded row [] small = refl
 rows_decoded row (n ∷ ns) small =
     rw (row_decoded row n small.0, rows_decoded (row + 1) ns small.1) refl

@@ -8,7 +8,7 @@ use Rattle.bag_groups.specs.Combining.{combined_each, traps_of_each}
 use Rattle.bag_groups.specs.Groups.{grouped}
 use Rattle.combine_table.specs.Combinations.{combined}
 use Rattle.combine_table.specs.declared.comb.Comb.TheVariants as comb
-use Rattle.direct_meaning.specs.Calls.{answer_of, calls_on}
+use Rattle.direct_meaning.specs.Calls.{answer_of, answers_on}
 use Rattle.direct_meaning.specs.Direct.{called_by, collections, combined_by, done_by, meaning}
 use Rattle.flume_collection.specs.Calls.{Called, emissions, trap_named, trap_of}
 use Rattle.flume_collection.specs.Collection.{Collection, by_key}
@@ -24,17 +24,17 @@ use Rattle.made_rows.proofs.Numbers.{total_below}
 use Rattle.made_rows.proofs.Summed.{no_overflow, summed}
 use Rattle.made_rows.specs.Keyed.{sums_of}
 use Rattle.made_rows.specs.Means.{MeansSums}
-use Rattle.made_rows.specs.Rows.{key_of, made_numbers, made_rows, most_made, row_of, total_of}
+use Rattle.made_rows.specs.Rows.{last_digit, made_numbers, made_rows, most_made, made_row, total_of_numbers}
 use Rattle.made_rows.specs.Sums.{pairing, sums_nodes, sums_script}
 
 -- ---- the calls
 
 -- a row of a number
 abbrev IsRow : Value → Type 0
-IsRow x = (n : ℕ) × (x ≡ row_of n)
+IsRow x = (n : ℕ) × (x ≡ made_row n)
 
-row_answer : (n : ℕ) → answer_of pairing (row_of n) ≡ Some (Ok ((row_of n ∷ []) ∷ []))
-row_answer n = answers_row (value.Int (pos (key_of n))) (value.Int (pos n))
+row_answer : (n : ℕ) → answer_of pairing (made_row n) ≡ Some (Ok ((made_row n ∷ []) ∷ []))
+row_answer n = answers_row (value.Int (pos (last_digit n))) (value.Int (pos n))
 
 abbrev own_call : Value → Called
 own_call x = Ok ((x ∷ []) ∷ [])
@@ -44,7 +44,7 @@ each_answer x is =
     subst (λ (y : Value). answer_of pairing y ≡ Some (own_call y)) (sym is.1) (row_answer is.0)
 
 all_answers : (xs : List Value) → Each IsRow xs
-    → calls_on (answer_of pairing) xs ≡ Some (map own_call xs)
+    → answers_on (answer_of pairing) xs ≡ Some (map own_call xs)
 all_answers [] are = refl
 all_answers (x ∷ xs) are =
     rw (each_answer x are.0) (rw (all_answers xs are.1) refl)
@@ -57,7 +57,7 @@ none_trap : (xs : List Value) → flat_map (trap_of 1) (map own_call xs) ≡ []
 none_trap [] = refl
 none_trap (x ∷ xs) = none_trap xs
 
-are_rows : (numbers : List ℕ) → Each IsRow (map row_of numbers)
+are_rows : (numbers : List ℕ) → Each IsRow (map made_row numbers)
 are_rows [] = tt
 are_rows (n ∷ numbers) = ((n, refl), are_rows numbers)
 
@@ -66,9 +66,9 @@ are_rows (n ∷ numbers) = ((n, refl), are_rows numbers)
 abbrev calm : List Value → Collection
 calm bag = record { bag = bag; traps = [] }
 
-module _ (numbers : List ℕ) (small : total_of numbers < 2 ^ 63) where
+module _ (numbers : List ℕ) (small : total_of_numbers numbers < 2 ^ 63) where
   abbrev rows : List Value
-  rows = map row_of numbers
+  rows = map made_row numbers
 
   abbrev bag : List Value
   bag = bag_of rows
@@ -110,7 +110,7 @@ pub means_sums : (start rows : ℕ) → start ≤ most_made → rows ≤ most_ma
     → MeansSums start rows
 means_sums start rows first few =
     let numbers = made_numbers start rows in
-    let small : total_of numbers < 2 ^ 63
+    let small : total_of_numbers numbers < 2 ^ 63
     = omega (arith, total_below (suc start) rows (omega (arith, first, few)), few) in
     record {
       table = table_with numbers small (calm (sums_of numbers));

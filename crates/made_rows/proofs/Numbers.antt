@@ -6,7 +6,7 @@ use Rattle.std.proofs.lemmas.List.{map-append}
 use Rattle.std.proofs.lemmas.List.Concat.{flat_map-append}
 use Rattle.std.proofs.lemmas.List.Sums.{sum_by-append, sum_by-cons}
 use Rattle.flume_value.specs.declared.value.Value.{Value}
-use Rattle.made_rows.specs.Rows.{line_of, made_numbers, most_made, numbers_from, row_of, total_of}
+use Rattle.made_rows.specs.Rows.{number_line, made_numbers, most_made, numbers_from, made_row, total_of_numbers}
 
 -- ---- one more at the end
 
@@ -28,33 +28,35 @@ module _ (start turn number : ℕ) (is : number ≡ start + turn + 1) where
       ap (numbers_from (suc start)) more ∙ (numbers-push (suc start) turn
       ∙ ap (λ n. numbers_from (suc start) turn ++ n ∷ []) same)
 
-  pub row_more : (rows : List Value) → rows ≡ map row_of (numbers_from (suc start) turn)
-      → rows ++ row_of number ∷ [] ≡ map row_of (numbers_from (suc start) (turn + 1))
+  pub row_more : (rows : List Value) → rows ≡ map made_row (numbers_from (suc start) turn)
+      → rows ++ made_row number ∷ [] ≡ map made_row (numbers_from (suc start) (turn + 1))
   row_more rows so_far =
-      ap (λ r. r ++ row_of number ∷ []) so_far
-      ∙ sym (ap (map row_of) next ∙ map-append row_of (numbers_from (suc start) turn) (number ∷ []))
+      ap (λ r. r ++ made_row number ∷ []) so_far
+      ∙ sym (ap (map made_row) next ∙ map-append made_row (numbers_from (suc start) turn)
+      (number ∷ []))
 
   pub line_more : (front text : List ℕ)
-      → text ≡ front ++ flat_map line_of (numbers_from (suc start) turn)
-      → text ++ line_of number ≡ front ++ flat_map line_of (numbers_from (suc start) (turn + 1))
+      → text ≡ front ++ flat_map number_line (numbers_from (suc start) turn)
+      → text ++ number_line number
+      ≡ front ++ flat_map number_line (numbers_from (suc start) (turn + 1))
   line_more front text so_far =
       let numbers = numbers_from (suc start) turn in
-      let lines : flat_map line_of (numbers_from (suc start) (turn + 1))
-      ≡ flat_map line_of numbers ++ line_of number
-      = ap (flat_map line_of) next ∙ (flat_map-append line_of numbers (number ∷ [])
-      ∙ ap (λ l. flat_map line_of numbers ++ l) (append-nil (line_of number))) in
-      ap (λ t. t ++ line_of number) so_far
-      ∙ (append_assoc front (flat_map line_of numbers) (line_of number)
+      let lines : flat_map number_line (numbers_from (suc start) (turn + 1))
+      ≡ flat_map number_line numbers ++ number_line number
+      = ap (flat_map number_line) next ∙ (flat_map-append number_line numbers (number ∷ [])
+      ∙ ap (λ l. flat_map number_line numbers ++ l) (append-nil (number_line number))) in
+      ap (λ t. t ++ number_line number) so_far
+      ∙ (append_assoc front (flat_map number_line numbers) (number_line number)
       ∙ ap (λ l. front ++ l) (sym lines))
 
-  pub sum_more : (total : ℕ) → total ≡ total_of (numbers_from (suc start) turn)
-      → total + number ≡ total_of (numbers_from (suc start) (turn + 1))
+  pub sum_more : (total : ℕ) → total ≡ total_of_numbers (numbers_from (suc start) turn)
+      → total + number ≡ total_of_numbers (numbers_from (suc start) (turn + 1))
   sum_more total so_far =
       let numbers = numbers_from (suc start) turn in
       let one : sum_by (λ x. x) (number ∷ []) ≡ number = omega arith in
       ap (λ t. t + number) so_far
-      ∙ sym (ap total_of next ∙ (sum_by-append (λ x. x) numbers (number ∷ [])
-      ∙ ap (λ n. total_of numbers + n) one))
+      ∙ sym (ap total_of_numbers next ∙ (sum_by-append (λ x. x) numbers (number ∷ [])
+      ∙ ap (λ n. total_of_numbers numbers + n) one))
 
 -- ---- how great they are
 
@@ -67,7 +69,7 @@ numbers_below bound first (suc count) within =
 
 -- so many numbers below a million of millions come to little
 pub total_below : (first count : ℕ) → first + count ≤ 2000001
-    → total_of (numbers_from first count) ≤ count * 2000001
+    → total_of_numbers (numbers_from first count) ≤ count * 2000001
 total_below first zero within = omega arith
 total_below first (suc count) within =
     let rest = total_below (suc first) count (omega arith) in

@@ -18,29 +18,29 @@ abbrev pub made_numbers : ℕ → ℕ → List ℕ
 made_numbers start rows = numbers_from (suc start) rows
 
 -- the key of a number is its last decimal digit
-abbrev pub key_of : ℕ → ℕ
-key_of number = number % 10
+abbrev pub last_digit : ℕ → ℕ
+last_digit number = number % 10
 
 -- the row of a number: its key, and the number itself
-abbrev pub row_of : ℕ → Value
-row_of number = value.Rec (value.Int (pos (key_of number)) ∷ value.Int (pos number) ∷ [])
+abbrev pub made_row : ℕ → Value
+made_row number = value.Rec (value.Int (pos (last_digit number)) ∷ value.Int (pos number) ∷ [])
 
 -- the rows
 abbrev pub made_rows : ℕ → ℕ → List Value
-made_rows start rows = map row_of (made_numbers start rows)
+made_rows start rows = map made_row (made_numbers start rows)
 
 -- two numbers on a line
 abbrev pub pair_line : ℕ → ℕ → List ℕ
 pair_line key number = decimal key ++ (codes "," ++ (decimal number ++ codes "\n"))
 
 -- the line of a number
-abbrev pub line_of : ℕ → List ℕ
-line_of number = pair_line (key_of number) number
+abbrev pub number_line : ℕ → List ℕ
+number_line number = pair_line (last_digit number) number
 
 -- the text of the file: the names of its columns, and a line for each number
 abbrev pub made_text : ℕ → ℕ → List ℕ
-made_text start rows = codes "k,v\n" ++ flat_map line_of (made_numbers start rows)
+made_text start rows = codes "k,v\n" ++ flat_map number_line (made_numbers start rows)
 
 -- the sum of the numbers
-abbrev pub total_of : List ℕ → ℕ
-total_of numbers = sum numbers
+abbrev pub total_of_numbers : List ℕ → ℕ
+total_of_numbers numbers = sum numbers

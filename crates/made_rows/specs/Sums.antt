@@ -43,16 +43,16 @@ abbrev pub int_table : tree.Type
 int_table = written.Table written.Int written.Int
 
 -- a field of `x`
-abbrev pub field : List ℕ → Expr
-field name = expr.Field (expr.Name (codes "x")) name
+abbrev pub field_of_row : List ℕ → Expr
+field_of_row name = expr.Field (expr.Name (codes "x")) name
 
 -- `x.k` and `x.v`
-abbrev pub fields : List Expr
-fields = field (codes "k") ∷ field (codes "v") ∷ []
+abbrev pub both_fields : List Expr
+both_fields = field_of_row (codes "k") ∷ field_of_row (codes "v") ∷ []
 
 -- `emit {key: x.k, value: x.v}`
 abbrev pub function_body : List Body
-function_body = body.Emit 3 None (expr.Record (codes "key" ∷ codes "value" ∷ []) fields) ∷ []
+function_body = body.Emit 3 None (expr.Record (codes "key" ∷ codes "value" ∷ []) both_fields) ∷ []
 
 -- `fn pair(x: r) -> table<int, int> { .. }`
 abbrev pub function_statement : Statement

@@ -1,6 +1,6 @@
 // The rows of a made input, as values.
 ghost use Rattle.std.specs.Prelude.{◌≡◌, ◌≤◌, IfOk};
-ghost use Rattle.made_rows.specs.Rows.{made_rows, most_made, row_of};
+ghost use Rattle.made_rows.specs.Rows.{made_rows, most_made, made_row};
 
 use flume_value::{Items, Pile, Value};
 use std::alloc::{AllocError, Global};
@@ -20,7 +20,7 @@ pub fn rows_made(alloc: Global, start: u32, rows: u32) -> Result<Items, AllocErr
 
 // The row of a number.
 fn row(alloc: Global, number: u32) -> Result<Value, AllocError>
-    ensures { IfOk result (λ value. value ≡ row_of number) }
+    ensures { IfOk result (λ value. value ≡ made_row number) }
 {
     let cells = [
         Value::Int(i64::from(number % 10)),

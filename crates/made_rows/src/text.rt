@@ -1,6 +1,6 @@
 // The file of a made input, and the sum of its numbers.
 ghost use Rattle.std.specs.Prelude.{◌≡◌, ◌≤◌, ◌++◌, IfOk, OnOk};
-ghost use Rattle.made_rows.specs.Rows.{line_of, made_numbers, made_text, most_made, total_of};
+ghost use Rattle.made_rows.specs.Rows.{number_line, made_numbers, made_text, most_made, total_of_numbers};
 
 use itoa::Buffer;
 use std::alloc::{AllocError, Global};
@@ -20,7 +20,7 @@ pub fn text_made(alloc: Global, start: u32, rows: u32) -> Result<Vec<u8>, AllocE
 
 // Adds the line of a number.
 fn push_line(text: &mut Vec<u8>, number: u32) -> Result<(), AllocError>
-    ensures { OnOk result (text.new.items ≡ text.old.items ++ line_of number) }
+    ensures { OnOk result (text.new.items ≡ text.old.items ++ number_line number) }
 {
     let mut key_digits = Buffer::new();
     let mut digits = Buffer::new();
@@ -36,7 +36,7 @@ fn push_line(text: &mut Vec<u8>, number: u32) -> Result<(), AllocError>
 pub fn made_total(start: u32, rows: u32) -> u64
     requires start { start ≤ most_made }
     requires rows { rows ≤ most_made }
-    ensures { result ≡ total_of (made_numbers start rows) }
+    ensures { result ≡ total_of_numbers (made_numbers start rows) }
 {
     let mut total = 0;
     for turn in 0..rows {

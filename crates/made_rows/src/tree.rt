@@ -117,7 +117,7 @@ fn function_body(alloc: Global) -> Result<Pile<Body>, AllocError>
 
 // `x.k` and `x.v`
 fn fields(alloc: Global) -> Result<Pile<Expr>, AllocError>
-    ensures { IfOk result (λ fields. fields ≡ spec.fields) }
+    ensures { IfOk result (λ fields. fields ≡ spec.both_fields) }
 {
     let mut fields = Pile::new(alloc);
     fields.push(field(alloc, word(alloc, b"k"))?)?;
@@ -127,7 +127,7 @@ fn fields(alloc: Global) -> Result<Pile<Expr>, AllocError>
 
 // A field of `x`.
 fn field(alloc: Global, name: Str) -> Result<Expr, AllocError>
-    ensures { IfOk result (λ expr. expr ≡ spec.field name) }
+    ensures { IfOk result (λ expr. expr ≡ spec.field_of_row name) }
 {
     let of = Held::new(alloc, Expr::Name(word(alloc, b"x")))?;
     Ok(Expr::Field(of, name))

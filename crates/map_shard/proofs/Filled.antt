@@ -5,7 +5,7 @@ use Rattle.flume_value.specs.declared.value.Value.{Value}
 use Rattle.combine_table.specs.declared.comb.Comb.{Comb}
 use Rattle.shuffle_parts.specs.declared.out.MapOut.{MapOut}
 use Rattle.shuffle_parts.specs.declared.out.Sent.TheVariants as sent
-use Rattle.shuffle_parts.specs.Partitions.{parted}
+use Rattle.shuffle_parts.specs.Partitions.{in_parts}
 use Rattle.shuffle_parts.proofs.Lifting.{finished}
 use Rattle.exec_graph.specs.Forests.{Forest}
 use Rattle.exec_graph.specs.World.{World}
@@ -13,7 +13,7 @@ use Rattle.exec_plan.specs.declared.plan.OutChannel.{OutChannel}
 use Rattle.exec_plan.specs.declared.plan.OutChannel.TheVariants.{Group, Pass}
 use Rattle.exec_plan.specs.declared.plan.Take.{Take}
 use Rattle.task_safety.specs.of_task_lists.Outs.{AreSentPairs, IsSent}
-use Rattle.task_safety.specs.of_task_lists.Runs.{all_given}
+use Rattle.task_safety.specs.of_task_lists.Runs.{all_emissions}
 use Rattle.map_shard.specs.declared.filling.Filling.{Filling}
 use Rattle.map_shard.specs.declared.filling.Filling.TheVariants.{Passed, Grouped, Combined}
 use Rattle.map_shard.specs.declared.legs.Legs.{Legs}
@@ -29,7 +29,7 @@ module _ (p : ℕ) where
   pairs_sent None (Combined parts) pairs e = absurd e
   pairs_sent (Some c) (Passed all) pairs e = absurd e
   pairs_sent (Some c) (Grouped parts) pairs e = absurd e
-  pairs_sent (Some c) (Combined parts) pairs e = finished c parts.items (parted p pairs) e
+  pairs_sent (Some c) (Combined parts) pairs e = finished c parts.items (in_parts p pairs) e
 
   module _ (given : List Take → List Value) where
     one_sent : (o : OutChannel) (f : Filling) → IsFilled p given o f → IsSent p given o (sent_of f)
@@ -51,7 +51,7 @@ pub whole_is : (w : World) (p m : ℕ) (does : Option Forest) (os : List OutChan
     → IsWhole w p m does os xs out
 whole_is w p m does os xs legs out are sends counts = record {
   calm = are.calm;
-  sent = subst (AllZip (IsSent p (taken m (all_given w does xs))) os) (sym sends)
-      (each_sent p (taken m (all_given w does xs)) os legs.fillings.items are.filled);
+  sent = subst (AllZip (IsSent p (taken m (all_emissions w does xs))) os) (sym sends)
+      (each_sent p (taken m (all_emissions w does xs)) os legs.fillings.items are.filled);
   counts = counts ∙ are.counts;
 }

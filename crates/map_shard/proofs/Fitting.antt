@@ -22,7 +22,7 @@ use Rattle.forest_steps.specs.Safety.{SafeOf}
 use Rattle.task_safety.specs.Stages.{CanRunStage}
 use Rattle.task_safety.specs.Taking.{taking}
 use Rattle.task_safety.proofs.Fitting.{IsOutSomewhere, each_placed, few_tasks, out_at}
-use Rattle.map_shard.specs.Tables.{split, table}
+use Rattle.map_shard.specs.Tables.{split_into, table}
 use Rattle.map_shard.specs.Work.{CanWork, IsFit, IsWorkValue, Work, work_of}
 use Rattle.map_shard.proofs.Working.{same_given_to}
 
@@ -38,7 +38,7 @@ module _ {F : Type 0} (functions : F) (sources : List (List Value))
   Work_ = work_of functions sources results s shards partitions
 
   abbrev task_of : ℕ → ℕ → Task
-  task_of m i = map_task_of (split shards partitions) (table sources results) s.inputs m i
+  task_of m i = map_task_of (split_into shards partitions) (table sources results) s.inputs m i
 
   -- ---- they can be made
 
@@ -85,11 +85,11 @@ module _ {F : Type 0} (functions : F) (sources : List (List Value))
       → length outs ≡ length s.inputs * shards
       → ((k : ℕ) (out : MapOut) → slice_get outs k ≡ Some out
       → IsWorkValue called Work_ k (Ok out))
-      → AreMapOuts w (split shards partitions) (table sources results) s outs
+      → AreMapOuts w (split_into shards partitions) (table sources results) s outs
   are_outs called same outs count values = record {
     count = count;
     each = λ k below.
         let here = there outs k (subst (λ m. k < m) (sym count) below) in
-        subst (λ o. IsSomeAnd o (IsMapOut w (split shards partitions) (table sources results) s
+        subst (λ o. IsSomeAnd o (IsMapOut w (split_into shards partitions) (table sources results) s
         (k / shards) (k % shards))) (sym here.1) (values k here.0 here.1 w same);
   }

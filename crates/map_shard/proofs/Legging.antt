@@ -15,11 +15,11 @@ use Rattle.partial_tables.specs.Merges.{IsCombinable}
 use Rattle.exec_graph.specs.Calls.{trapped}
 use Rattle.exec_graph.specs.Forests.{Forest}
 use Rattle.exec_graph.specs.World.{World}
-use Rattle.exec_plan.specs.Channels.{numbers}
+use Rattle.exec_plan.specs.Channels.{output_numbers_of}
 use Rattle.exec_plan.specs.declared.plan.OutChannel.{OutChannel}
 use Rattle.exec_plan.specs.declared.plan.OutChannel.TheVariants.{Group, Pass}
 use Rattle.exec_plan.specs.declared.plan.Take.{Take}
-use Rattle.task_safety.specs.of_task_lists.Runs.{all_given, counts_of, gives, kept_count, output_at, traps_of, visits_of}
+use Rattle.task_safety.specs.of_task_lists.Runs.{all_emissions, counts_of, emissions_at, kept_count, output_at, traps_in_order, visits_of}
 use Rattle.task_safety.specs.of_task_lists.Typing.{AreGroupable}
 use Rattle.task_safety.proofs.of_forest_courses.Counting.{emits, emits_length, emits_more, plus}
 use Rattle.task_safety.specs.of_forest_courses.Courses.{IsCourse, IsUntrapped}
@@ -70,23 +70,23 @@ takes_single m (Group g) e = e
 -- ---- what the steps give of elements and more elements
 module _ (w : World) (does : Option Forest) (xs ys : List Value) where
   given_both : (ns : List ℕ) (j : ℕ)
-      → or_none (slice_get (map (gives w does (xs ++ ys)) ns) j)
-      ≡ or_none (slice_get (map (gives w does xs) ns) j)
-      ++ or_none (slice_get (map (gives w does ys) ns) j)
+      → or_none (slice_get (map (emissions_at w does (xs ++ ys)) ns) j)
+      ≡ or_none (slice_get (map (emissions_at w does xs) ns) j)
+      ++ or_none (slice_get (map (emissions_at w does ys) ns) j)
   given_both [] zero = refl
   given_both [] (suc j) = refl
   given_both (n ∷ ns) zero = flat_map-append (output_at w does n) xs ys
   given_both (n ∷ ns) (suc j) = given_both ns j
 
   abbrev Taken : ℕ → List Value → List Take → List Value
-  Taken m zs ks = taken m (all_given w does zs) ks
+  Taken m zs ks = taken m (all_emissions w does zs) ks
 
   taken_both : (m : ℕ) (ks : List Take) → takes_once m ks ≡ true
       → Taken m (xs ++ ys) ks ≡ Taken m xs ks ++ Taken m ys ks
   taken_both m [] e = refl
   taken_both m (k ∷ ks) e =
       let at : List Value → List Value =
-      λ zs. or_none (slice_get (all_given w does zs) k.out) in
+      λ zs. or_none (slice_get (all_emissions w does zs) k.out) in
       elim (k.channel == m) as
       (λ b. cond b (not (list_any (λ (o : Take). o.channel == m) ks)) (takes_once m ks) ≡ true
       → cond b (at (xs ++ ys)) [] ++ Taken m (xs ++ ys) ks
@@ -94,15 +94,16 @@ module _ (w : World) (does : Option Forest) (xs ys : List Value) where
         | true ↦ λ once.
             let others = not_true (list_any (λ (o : Take). o.channel == m) ks) once in
             let none : (zs : List Value) → Taken m zs ks ≡ [] =
-            λ zs. none_taken m (all_given w does zs) ks others in
+            λ zs. none_taken m (all_emissions w does zs) ks others in
             ap (λ l. at (xs ++ ys) ++ l) (none (xs ++ ys)) ∙ append-nil (at (xs ++ ys))
-            ∙ given_both (numbers does) k.out
+            ∙ given_both (output_numbers_of does) k.out
             ∙ (λ i. sym (append-nil (at xs)) i ++ sym (append-nil (at ys)) i)
             ∙ (λ i. (at xs ++ sym (none xs) i) ++ (at ys ++ sym (none ys) i))
         | false ↦ λ once. taken_both m ks once
       ] e
 
-  traps_both : traps_of w does (xs ++ ys) ≡ traps_of w does xs ++ traps_of w does ys
+  traps_both : traps_in_order w does (xs ++ ys)
+      ≡ traps_in_order w does xs ++ traps_in_order w does ys
   traps_both = flat_map-append (visits_of w (trapped w) does) xs ys
 
 kept_plus : (ns ms : List ℕ) → length ns ≡ length ms
@@ -140,18 +141,18 @@ split_groupable (Some c) us vs all = split_all (IsCombinable c) us vs all
 
 module _ (w : World) (m : ℕ) (does : Option Forest) (xs ys : List Value) where
   fit_one : (o : OutChannel) → is_single m o ≡ true
-      → CanSend m (all_given w does (xs ++ ys)) o
-      → CanSend m (all_given w does xs) o × CanSend m (all_given w does ys) o
+      → CanSend m (all_emissions w does (xs ++ ys)) o
+      → CanSend m (all_emissions w does xs) o × CanSend m (all_emissions w does ys) o
   fit_one (Pass k n) e fit = (tt, tt)
   fit_one (Group g) e fit =
-      split_groupable g.lifted (taken m (all_given w does xs) g.takes)
-      (taken m (all_given w does ys) g.takes)
+      split_groupable g.lifted (taken m (all_emissions w does xs) g.takes)
+      (taken m (all_emissions w does ys) g.takes)
       (subst (AreGroupable g.lifted) (taken_both w does xs ys m g.takes e) fit)
 
   fit_both : (os : List OutChannel) → list_all (is_single m) os ≡ true
-      → AllByRecursion (CanSend m (all_given w does (xs ++ ys))) os
-      → AllByRecursion (CanSend m (all_given w does xs)) os
-      × AllByRecursion (CanSend m (all_given w does ys)) os
+      → AllByRecursion (CanSend m (all_emissions w does (xs ++ ys))) os
+      → AllByRecursion (CanSend m (all_emissions w does xs)) os
+      × AllByRecursion (CanSend m (all_emissions w does ys)) os
   fit_both [] e all = (tt, tt)
   fit_both (o ∷ os) e all =
       let each = and_parts (is_single m o) (list_all (is_single m) os) e in
@@ -168,7 +169,7 @@ module _ {F : Type 0} (w : World) (steps : Steps F) (takes : ℕ → Value → T
       let all = subst (CanRunIn w steps takes) (sym is) can in
       let fit = fit_both w steps.m steps.does.now xs ys steps.channels.now single all.fit in
       let part : (zs : List Value) → AllByRecursion P zs
-      → AllByRecursion (CanSend steps.m (all_given w steps.does.now zs)) steps.channels.now
+      → AllByRecursion (CanSend steps.m (all_emissions w steps.does.now zs)) steps.channels.now
       → CanRunIn w steps takes zs =
       λ zs safe fit. record {
         some = all.some;
@@ -182,7 +183,7 @@ module _ {F : Type 0} (w : World) (steps : Steps F) (takes : ℕ → Value → T
 -- what the steps gave is fit for the output channels
 pub given_fit : (w : World) (m : ℕ) (does : Option Forest) (os : List OutChannel)
     (xs : List Value) (came : Result Given Trap) (given : Given) → IsCourse w does xs came
-    → came ≡ Ok given → AllByRecursion (CanSend m (all_given w does xs)) os
+    → came ≡ Ok given → AllByRecursion (CanSend m (all_emissions w does xs)) os
     → AllByRecursion (CanSend m given.lists) os
 given_fit w m does os xs came given course is =
     let made : IsUntrapped w does xs given = subst (IsCourse w does xs) is course in
@@ -203,7 +204,7 @@ module _ (w : World) (p m : ℕ) (does : Option Forest) (xs : List Value) where
 -- ---- a leg behind others
 module _ (w : World) (p m : ℕ) (does : Option Forest) (xs ys : List Value) where
   abbrev Side : List Value → List Take → List Value
-  Side zs takes = taken m (all_given w does zs) takes
+  Side zs takes = taken m (all_emissions w does zs) takes
 
   filled_one : (o : OutChannel) (f : Filling) → is_single m o ≡ true
       → IsFilled p (λ takes. Side xs takes ++ Side ys takes) o f → IsFilled p (Side (xs ++ ys)) o f
@@ -239,20 +240,20 @@ module _ (w : World) (p m : ℕ) (does : Option Forest) (xs ys : List Value) whe
   }
 
   -- ---- the first trap of both
-  pub trap_behind : (trap : Trap) → traps_of w does xs ≡ []
-      → slice_get (traps_of w does ys) 0 ≡ Some trap
-      → slice_get (traps_of w does (xs ++ ys)) 0 ≡ Some trap
+  pub trap_behind : (trap : Trap) → traps_in_order w does xs ≡ []
+      → slice_get (traps_in_order w does ys) 0 ≡ Some trap
+      → slice_get (traps_in_order w does (xs ++ ys)) 0 ≡ Some trap
   trap_behind trap calm e =
       ap (λ ts. slice_get ts 0)
-      (traps_both w does xs ys ∙ ap (λ ts. ts ++ traps_of w does ys) calm) ∙ e
+      (traps_both w does xs ys ∙ ap (λ ts. ts ++ traps_in_order w does ys) calm) ∙ e
 
   first_stays : (ts us : List Trap) (trap : Trap) → slice_get ts 0 ≡ Some trap
       → slice_get (ts ++ us) 0 ≡ Some trap
   first_stays [] us trap e = cc
   first_stays (t ∷ ts) us trap e = e
 
-  pub trap_before : (trap : Trap) → slice_get (traps_of w does xs) 0 ≡ Some trap
-      → slice_get (traps_of w does (xs ++ ys)) 0 ≡ Some trap
+  pub trap_before : (trap : Trap) → slice_get (traps_in_order w does xs) 0 ≡ Some trap
+      → slice_get (traps_in_order w does (xs ++ ys)) 0 ≡ Some trap
   trap_before trap e =
       ap (λ ts. slice_get ts 0) (traps_both w does xs ys)
-      ∙ first_stays (traps_of w does xs) (traps_of w does ys) trap e
+      ∙ first_stays (traps_in_order w does xs) (traps_in_order w does ys) trap e

@@ -6,15 +6,15 @@ use Rattle.flume_value.specs.declared.value.Value.{Value}
 use Rattle.flume_collection.specs.Calls.{or_none}
 use Rattle.shuffle_parts.specs.declared.out.Sent.{Sent}
 use Rattle.shuffle_parts.specs.declared.out.Sent.TheVariants.{Passed}
-use Rattle.exec_graph.specs.Forests.{Forest, Bare, Grow, after, after_out}
+use Rattle.exec_graph.specs.Forests.{Forest, Bare, Grow, next_after, after_out}
 use Rattle.exec_graph.specs.World.{World}
-use Rattle.exec_plan.specs.Channels.{numbers}
-use Rattle.exec_plan.specs.Wellformed.{Exists, IsNumbered, kept, out_count, outs, outs_at}
+use Rattle.exec_plan.specs.Channels.{output_numbers_of}
+use Rattle.exec_plan.specs.Wellformed.{Exists, IsNumbered, outputs_told, out_count, count_of_outputs, outputs_count_at}
 use Rattle.exec_plan.specs.declared.plan.Take.{Take}
 use Rattle.exec_plan.specs.declared.plan.InChannel.{InChannel}
 use Rattle.exec_plan.specs.declared.plan.OutChannel.{OutChannel}
 use Rattle.exec_plan.specs.declared.plan.OutChannel.TheVariants.{Group, Pass}
-use Rattle.task_safety.specs.of_task_lists.Runs.{all_given, gives}
+use Rattle.task_safety.specs.of_task_lists.Runs.{all_emissions, emissions_at}
 use Rattle.task_safety.specs.of_task_lists.Outs.{AreSentPairs, IsSent}
 use Rattle.task_safety.specs.of_task_lists.Tasks.{Task, given_to, task_gives, world_for}
 use Rattle.task_safety.proofs.of_forest_courses.Numbering.{from_numbered, outs_ups, ups}
@@ -35,29 +35,29 @@ out_up : (n : ℕ) (o : Option ℕ) → after_out n o ≡ n + out_count o
 out_up n None = omega arith
 out_up n (Some j) = refl
 
-after_kept : (n : ℕ) (f : Forest) → after n f ≡ n + kept f
+after_kept : (n : ℕ) (f : Forest) → next_after n f ≡ n + outputs_told f
 after_kept n Bare = omega arith
 after_kept n (Grow l kids rest) =
     let a = out_up n l.out in
     let b = after_kept (after_out n l.out) kids in
-    let c = after_kept (after (after_out n l.out) kids) rest in omega arith
+    let c = after_kept (next_after (after_out n l.out) kids) rest in omega arith
 
 at_number : (F : ℕ → List Value) (does : Option Forest) (j : ℕ) → IsNumbered does
-    → j < outs does → or_none (slice_get (map F (numbers does)) j) ≡ F j
+    → j < count_of_outputs does → or_none (slice_get (map F (output_numbers_of does)) j) ≡ F j
 at_number F None zero is h = refl
 at_number F None (suc j) is h = absurd (omega arith)
 at_number F (Some f) j is h =
     let count = after_kept 0 f in
-    let below : j < after 0 f - 0 = omega arith in
+    let below : j < next_after 0 f - 0 = omega arith in
     ap (λ l. or_none (slice_get (map F l) j)) (outs_ups f 0 (from_numbered 0 f is))
-    ∙ ap or_none (ups_at F 0 (after 0 f - 0) j below)
+    ∙ ap or_none (ups_at F 0 (next_after 0 f - 0) j below)
     ∙ (let e : 0 + j ≡ j = omega arith in ap F e)
 
 -- ---- what is taken is what the task gives
 module _ (w : World) (ins : List InChannel) (m : ℕ) (c : InChannel) (task : Task)
     (is : slice_get ins m ≡ Some c) (does : task.does ≡ c.does) (numbered : IsNumbered c.does)
     (lists : List (List Value))
-    (made : lists ≡ all_given (world_for w task) task.does task.elements) where
+    (made : lists ≡ all_emissions (world_for w task) task.does task.elements) where
   one_taken : (k : Take) → Exists ins k
       → taken_by m lists k ≡ cond (k.channel == m) (task_gives w task k.out) []
   one_taken k there = elim (k.channel == m) as
@@ -66,10 +66,11 @@ module _ (w : World) (ins : List InChannel) (m : ℕ) (c : InChannel) (task : Ta
         | true ↦ λ e. let same : k.channel ≡ m = grind (arith, e) in
             let found : slice_get ins k.channel ≡ Some c = ap (slice_get ins) same ∙ is in
             ap (λ l. or_none (slice_get l k.out)) made
-            ∙ at_number (λ j. gives (world_for w task) task.does task.elements j) task.does k.out
+            ∙ at_number (λ j. emissions_at (world_for w task) task.does task.elements j) task.does
+            k.out
             (subst IsNumbered (sym does) numbered)
-            (subst (λ d. k.out < outs d) (sym does)
-            (subst (λ o. k.out < outs_at o) found there))
+            (subst (λ d. k.out < count_of_outputs d) (sym does)
+            (subst (λ o. k.out < outputs_count_at o) found there))
         | false ↦ λ e. refl
       ] refl
 

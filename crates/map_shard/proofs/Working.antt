@@ -9,20 +9,20 @@ use Rattle.flume_value.specs.declared.value.Value.{Value}
 use Rattle.flume_collection.specs.declared.trap.Trap.{Trap}
 use Rattle.shards.specs.Shards.{shard}
 use Rattle.shuffle_parts.specs.declared.out.MapOut.{MapOut}
-use Rattle.exec_graph.specs.Objects.{beside}
+use Rattle.exec_graph.specs.Objects.{world_beside}
 use Rattle.exec_graph.specs.World.{World}
 use Rattle.exec_plan.specs.Wellformed.{IsNumbered}
 use Rattle.exec_plan.specs.declared.plan.InChannel.{InChannel}
 use Rattle.exec_plan.specs.declared.plan.OutChannel.{OutChannel}
 use Rattle.exec_plan.specs.declared.plan.Take.{Take}
-use Rattle.task_safety.specs.of_task_lists.Runs.{all_given, kept_count}
+use Rattle.task_safety.specs.of_task_lists.Runs.{all_emissions, kept_count}
 use Rattle.task_safety.specs.of_task_lists.Outs.{IsMapValue, IsSent}
 use Rattle.task_safety.specs.of_task_lists.Tasks.{Task, elements_beside, given_to, map_task, no_task, value_beside, world_for}
 use Rattle.forest_steps.specs.Safety.{SafeOf}
 use Rattle.task_safety.proofs.of_forest_courses.Worlds.{same_counts, same_gives, same_traps}
 use Rattle.task_safety.specs.Taking.{taking}
 use Rattle.task_safety.proofs.Taken.{same_beside}
-use Rattle.map_shard.specs.Work.{Work, CanWork, CanRunShard, IsWorkValue, lists_of, shard_task, work_split, task_at, work_count}
+use Rattle.map_shard.specs.Work.{Work, CanWork, CanRunShard, IsWorkValue, work_lists, shard_task, work_split, task_at, work_count}
 use Rattle.map_shard.specs.declared.legs.Steps.{Steps}
 use Rattle.map_shard.specs.inner.Legs.{CanRunIn, IsWholeOr}
 use Rattle.map_shard.specs.inner.Sending.{CanSend}
@@ -55,7 +55,7 @@ same_given_to v w same task m =
 
 module _ {F : Type 0} (work : Work F) (m i : ℕ) where
   abbrev IsValue : World → Result MapOut Trap → Type 0
-  IsValue w out = IsMapValue w (work_split work) (lists_of work) work.stage m i out
+  IsValue w out = IsMapValue w (work_split work) (work_lists work) work.stage m i out
 
   same_out : (v w : World) → v.called ≡ w.called → (out : Result MapOut Trap) → IsValue v out
       → IsValue w out
@@ -76,9 +76,9 @@ module _ {F : Type 0} (work : Work F) (m i : ℕ) where
       (same_for v w same task) task.does task.elements)) ∙ is
 
   of_channel : (c : InChannel) → slice_get work.stage.inputs m ≡ Some c
-      → shard_task work m i ≡ map_task (work_split work) (lists_of work) c i
+      → shard_task work m i ≡ map_task (work_split work) (work_lists work) c i
   of_channel c is =
-      ap (λ o. option_map_or (λ d. map_task (work_split work) (lists_of work) d i) o no_task) is
+      ap (λ o. option_map_or (λ d. map_task (work_split work) (work_lists work) d i) o no_task) is
 
 -- ---- task k
 -- what holds of the task as it was read holds of it by its number
@@ -101,9 +101,9 @@ module _ {F : Type 0} {w : World} {takes : ℕ → Value → Type 0} {work : Wor
   pub task_is : {inputs : List InChannel} {c : InChannel} {list elements : List Value}
       {object : Option Value} → inputs ≡ work.stage.inputs
       → c ≡ get_or inputs (k / work.shards) c
-      → list ≡ elements_beside (lists_of work) c.beside (lists_of work c.reads)
+      → list ≡ elements_beside (work_lists work) c.beside (work_lists work c.reads)
       → elements ≡ shard work.shards (k % work.shards) list
-      → object ≡ value_beside (lists_of work) c.beside
+      → object ≡ value_beside (work_lists work) c.beside
       → task_at work k ≡ record { elements = elements; beside = object; does = c.does }
   task_is {inputs} {c} {list} {elements} {object} same is at e valued =
       let i = k % work.shards in
@@ -136,7 +136,7 @@ module _ {F : Type 0} {w : World} {takes : ℕ → Value → Type 0} {work : Wor
   -- ---- what its steps give is fit for the output channels, and what those get is right
   abbrev Given : List (List Value)
   Given =
-      all_given (world_for w (task_at work k)) (task_at work k).does (task_at work k).elements
+      all_emissions (world_for w (task_at work k)) (task_at work k).does (task_at work k).elements
 
   can_send_all : AllByRecursion (CanSend (k / work.shards) Given) work.stage.outputs
   can_send_all =
@@ -146,13 +146,13 @@ module _ {F : Type 0} {w : World} {takes : ℕ → Value → Type 0} {work : Wor
   fit : {task : Task} → task_at work k ≡ task → (os : List OutChannel)
       → os ≡ work.stage.outputs
       → AllByRecursion
-      (CanSend (k / work.shards) (all_given (world_for w task) task.does task.elements)) os
+      (CanSend (k / work.shards) (all_emissions (world_for w task) task.does task.elements)) os
   fit {task} is os same =
       subst (AllByRecursion
-      (CanSend (k / work.shards) (all_given (world_for w task) task.does task.elements)))
+      (CanSend (k / work.shards) (all_emissions (world_for w task) task.does task.elements)))
       (sym same)
       (subst (λ (t : Task). AllByRecursion
-      (CanSend (k / work.shards) (all_given (world_for w t) t.does t.elements))
+      (CanSend (k / work.shards) (all_emissions (world_for w t) t.does t.elements))
       work.stage.outputs) is can_send_all)
 
   pub can_run : {elements : List Value} {object : Option Value} (steps : Steps F)
@@ -160,7 +160,7 @@ module _ {F : Type 0} {w : World} {takes : ℕ → Value → Type 0} {work : Wor
       → steps.m ≡ k / work.shards → steps.partitions ≡ work.partitions
       → steps.channels.now ≡ work.stage.outputs
       → AreTakes steps.m steps.channels.now steps.takes.now
-      → CanRunIn (beside object w) steps (taking object takes) elements
+      → CanRunIn (world_beside object w) steps (taking object takes) elements
   can_run {elements} {object} steps is at parts same taken = record {
     some = subst (λ (n : ℕ). 0 < n) (sym parts) can.partitions;
     numbered =
@@ -168,7 +168,8 @@ module _ {F : Type 0} {w : World} {takes : ℕ → Value → Type 0} {work : Wor
     taken = taken;
     safe = safe is;
     fit = subst (λ (n : ℕ). AllByRecursion (CanSend n
-        (all_given (beside object w) steps.does.now elements)) steps.channels.now) (sym at)
+        (all_emissions (world_beside object w) steps.does.now elements)) steps.channels.now)
+        (sym at)
         (fit is steps.channels.now same);
   }
 

@@ -16,5 +16,5 @@ table sources results (at.Result stage number) =
     cond (stage == 0) []
     (or_none (slice_get (results_or_none (slice_get results (stage - 1))) number))
 
-abbrev pub split : ℕ → ℕ → Split
-split shards partitions = record { shards = shards; partitions = partitions }
+abbrev pub split_into : ℕ → ℕ → Split
+split_into shards partitions = record { shards = shards; partitions = partitions }

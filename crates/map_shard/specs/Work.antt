@@ -17,11 +17,11 @@ use Rattle.exec_plan.specs.declared.plan.Mscr.{Mscr}
 use Rattle.exec_plan.specs.declared.plan.Take.{Take}
 use Rattle.exec_plan.specs.contracts.plan.Mscr as stages
 use Rattle.task_safety.specs.of_task_lists.Outs.{IsMapValue}
-use Rattle.task_safety.specs.of_task_lists.Tasks.{Lists, Split, Task, given_to, map_count, map_task_of, places, world_for}
+use Rattle.task_safety.specs.of_task_lists.Tasks.{Lists, Split, Task, given_to, map_count, map_task_of, asks_of, world_for}
 use Rattle.task_safety.specs.of_task_lists.Typing.{AreGroupable}
 use Rattle.task_safety.specs.Taking.{taking}
 use Rattle.forest_steps.specs.Safety.{SafeOf}
-use Rattle.map_shard.specs.Tables.{split, table}
+use Rattle.map_shard.specs.Tables.{split_into, table}
 
 -- functions, the lists of the sources and of the results of earlier stages, a stage, and into how
 -- many shards and partitions its channels are split
@@ -65,14 +65,14 @@ work_of functions sources results stage shards partitions = record {
 
 module _ {F : Type 0} where
   abbrev pub work_split : Work F → Split
-  work_split w = split w.shards w.partitions
+  work_split w = split_into w.shards w.partitions
 
-  abbrev pub lists_of : Work F → Lists
-  lists_of w = table w.sources w.results
+  abbrev pub work_lists : Work F → Lists
+  work_lists w = table w.sources w.results
 
   -- shard i of input channel m
   abbrev pub shard_task : Work F → ℕ → ℕ → Task
-  shard_task w m i = map_task_of (work_split w) (lists_of w) w.stage.inputs m i
+  shard_task w m i = map_task_of (work_split w) (work_lists w) w.stage.inputs m i
 
   abbrev pub work_count : Work F → ℕ
   work_count w = map_count (work_split w) w.stage
@@ -82,7 +82,7 @@ module _ {F : Type 0} where
   task_at w k = shard_task w (k / w.shards) (k % w.shards)
 
   abbrev pub work_places : Work F → ℕ → ℕ
-  work_places w k = places (task_at w k)
+  work_places w k = asks_of (task_at w k)
 
 -- ---- when the tasks can be made
 
@@ -119,5 +119,6 @@ abbrev pub IsWorkValue : {F : Type 0} → (ℕ → Value → Called) → Work F 
     → Result MapOut Trap → Type 0
 IsWorkValue called work k out =
     (w : World) → w.called ≡ called
-    → IsMapValue w (work_split work) (lists_of work) work.stage (k / work.shards) (k % work.shards)
+    → IsMapValue w (work_split work) (work_lists work) work.stage (k / work.shards)
+    (k % work.shards)
     out

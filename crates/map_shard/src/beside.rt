@@ -1,7 +1,7 @@
 // Steps that are called beside the value of an object.
 ghost use Rattle.std.specs.Prelude.{◌≡◌, ◌∷◌, [], IfOk};
 ghost use Rattle.std.specs.Option.{option_copied};
-ghost use Rattle.exec_graph.specs.Objects.{beside};
+ghost use Rattle.exec_graph.specs.Objects.{world_beside};
 ghost use Rattle.flume_value.specs.declared.value.Value.TheVariants as value;
 ghost use Rattle.map_shard.specs.inner.Legs.{CanRunIn, IsWholeIn, own_world};
 ghost use Rattle.task_safety.specs.Taking.{taking};
@@ -48,10 +48,11 @@ pub(crate) fn run_beside<F: Functions>(
     object: Option<&Value>,
     elements: &[Value],
 ) -> Result<Result<MapOut, Trap>, AllocError>
-    requires { CanRunIn (beside (option_copied object) (own_world F.called steps.now)) steps.now
+    requires { CanRunIn (world_beside (option_copied object) (own_world F.called steps.now))
+        steps.now
         (taking (option_copied object) (F.can_call steps.now.functions.now)) elements.now }
     ensures { IfOk result (IsWholeIn
-        (beside (option_copied object.entry) (own_world F.called steps.now)) steps.now
+        (world_beside (option_copied object.entry) (own_world F.called steps.now)) steps.now
         elements.now) }
 {
     match object {

@@ -5,7 +5,7 @@ ghost use Rattle.flume_value.specs.declared.value.Value.{Value as GhostValue};
 ghost use Rattle.bag_groups.specs.Pairs.{IsPair};
 ghost use Rattle.partial_tables.specs.Lifted.{IsLifted};
 ghost use Rattle.partial_tables.specs.Merges.{IsCombinable};
-ghost use Rattle.shuffle_parts.specs.Partitions.{parted};
+ghost use Rattle.shuffle_parts.specs.Partitions.{in_parts};
 ghost use Rattle.task_safety.specs.of_task_lists.Typing.{AreGroupable};
 ghost use Rattle.map_shard.specs.inner.Fillings.{AreFilled, AreParted, ArePassed, IsFilling, sent_of};
 ghost use Rattle.map_shard.specs.inner.Sending.{IsSendable};
@@ -144,10 +144,10 @@ fn part_emitted(
     partitions: u32,
 ) -> Result<Vec<Pile<Couple>>, AllocError>
     requires some { 0 < partitions }
-    requires stands { (done : List GhostValue) × (parts.items ≡ parted partitions done) }
+    requires stands { (done : List GhostValue) × (parts.items ≡ in_parts partitions done) }
     requires pairs { All IsPair pairs }
-    ensures { (done : List GhostValue) → parts.items ≡ parted partitions done →
-        IfOk result (λ all. all.items ≡ parted partitions (done ++ pairs)) }
+    ensures { (done : List GhostValue) → parts.items ≡ in_parts partitions done →
+        IfOk result (λ all. all.items ≡ in_parts partitions (done ++ pairs)) }
 {
     let (values, couples) = pairs.into_parts();
     let parts = part_more(parts, values, partitions)?;
@@ -164,12 +164,12 @@ fn lift_emitted(
 ) -> Result<Vec<Lifting>, AllocError>
     requires some { 0 < partitions }
     requires stands { (done : List GhostValue)
-        × AllZip (IsLifted comb) parts.items (parted partitions done) }
+        × AllZip (IsLifted comb) parts.items (in_parts partitions done) }
     requires pairs { All (IsCombinable comb) pairs }
     ensures { (done : List GhostValue) →
-        AllZip (IsLifted comb) parts.items (parted partitions done) →
+        AllZip (IsLifted comb) parts.items (in_parts partitions done) →
         IfOk result (λ all.
-        AllZip (IsLifted comb) all.items (parted partitions (done ++ pairs))) }
+        AllZip (IsLifted comb) all.items (in_parts partitions (done ++ pairs))) }
 {
     let (values, couples) = pairs.into_parts();
     let parts = lift_more(alloc, comb, parts, values, partitions)?;

@@ -8,7 +8,7 @@ ghost use Rattle.forest_steps.specs.Functions.{world_of};
 ghost use Rattle.shuffle_parts.specs.declared.out.MapOut.{MapOut};
 ghost use Rattle.task_safety.specs.of_task_lists.Outs.{AreMapOuts};
 ghost use Rattle.task_safety.specs.Stages.{CanRunStage};
-ghost use Rattle.map_shard.specs.Tables.{split, table};
+ghost use Rattle.map_shard.specs.Tables.{split_into, table};
 ghost use Rattle.map_shard.specs.Work.{CanWork, IsWorkValue, work_of};
 
 use forest_steps::Functions;
@@ -30,7 +30,7 @@ pub fn map_tasks_law<F: Functions>(functions: &F)
         ((k : ℕ) (out : MapOut) → slice_get outs k ≡ Some out →
         IsWorkValue (F.called functions.now)
         (work_of functions.now sources results s shards partitions) k (Ok out)) →
-        AreMapOuts w (split shards partitions) (table sources results) s outs }
+        AreMapOuts w (split_into shards partitions) (table sources results) s outs }
 {
     typed_law();
     safe_law();

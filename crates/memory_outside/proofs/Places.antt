@@ -9,17 +9,18 @@ use Rattle.std.proofs.lemmas.Slice.Eq.{bytes_eq-Decides}
 use Rattle.outside.specs.declared.file.File.{File}
 use Rattle.memory_outside.specs.declared.slots.Slot.{Slot}
 use Rattle.outside.specs.Files.{bytes_of, with_file, with_piece}
-use Rattle.memory_outside.specs.Slots.{name_at, bytes_at, place_of, IsPlace, files_of, file_of}
+use Rattle.memory_outside.specs.Slots.{file_name_at, bytes_at, place_of_file, IsPlace, slot_files, slot_file}
 use Rattle.std.proofs.lemmas.Option.{same_Some}
 
 -- what holds of a file at its place
 pub record AtPlace (files : List File) (name : List ℕ) (k : ℕ) : Type 0 where
   pub within : k < length files
-  pub name_is : name_at files k ≡ name
+  pub name_is : file_name_at files k ≡ name
   pub bytes_is : bytes_of files name ≡ Some (bytes_at files k)
   pub with_is : (bytes : List ℕ) → with_file files name bytes
       ≡ set files k (record { name = name; bytes = bytes })
-  pub same : (bytes : List ℕ) → place_of (set files k (record { name = name; bytes = bytes })) name
+  pub same : (bytes : List ℕ)
+      → place_of_file (set files k (record { name = name; bytes = bytes })) name
       ≡ Some k
 
 at_head : (file : File) (files : List File) (name : List ℕ) → bytes_eq file.name name ≡ true
@@ -42,14 +43,14 @@ behind_head file files name k e h = record {
   same = λ bytes. rw e (ap (option_map (λ k. k + 1)) (h.same bytes) ∙ ap Some (search rules));
 }
 
-pub at_place : (files : List File) (name : List ℕ) (k : ℕ) → place_of files name ≡ Some k
+pub at_place : (files : List File) (name : List ℕ) (k : ℕ) → place_of_file files name ≡ Some k
     → AtPlace files name k
 at_place [] name k h = absurd (cc)
 at_place (file ∷ files) name k h = cases (at_place files name) (bytes_eq file.name name) refl
-    (place_of files name) refl h
+    (place_of_file files name) refl h
   where
-    cases : ((j : ℕ) → place_of files name ≡ Some j → AtPlace files name j) → (b : Bool)
-        → bytes_eq file.name name ≡ b → (o : Option ℕ) → place_of files name ≡ o
+    cases : ((j : ℕ) → place_of_file files name ≡ Some j → AtPlace files name j) → (b : Bool)
+        → bytes_eq file.name name ≡ b → (o : Option ℕ) → place_of_file files name ≡ o
         → cond b (Some 0) (option_map (λ k. k + 1) o) ≡ Some k → AtPlace (file ∷ files) name k
     cases ih true e o is h = subst (AtPlace (file ∷ files) name) (cc) (at_head file files name e)
     cases ih false e None is h = absurd (cc)
@@ -62,20 +63,22 @@ pub record AtNone (files : List File) (name : List ℕ) : Type 0 where
   pub bytes_is : bytes_of files name ≡ None
   pub with_is : (bytes : List ℕ) → with_file files name bytes ≡ files
       ++ record { name = name; bytes = bytes } ∷ []
-  pub place_is : (bytes : List ℕ) → place_of (files ++ record { name = name; bytes = bytes } ∷ [])
+  pub place_is : (bytes : List ℕ)
+      → place_of_file (files ++ record { name = name; bytes = bytes } ∷ [])
       name ≡ Some (length files)
 
-pub at_none : (files : List File) (name : List ℕ) → place_of files name ≡ None → AtNone files name
+pub at_none : (files : List File) (name : List ℕ) → place_of_file files name ≡ None
+    → AtNone files name
 at_none [] name h = record {
   bytes_is = refl;
   with_is = λ bytes. refl;
   place_is = λ bytes. rw ((bytes_eq-Decides name name).1 refl) refl;
 }
 at_none (file ∷ files) name h = cases (at_none files name) (bytes_eq file.name name) refl
-    (place_of files name) refl h
+    (place_of_file files name) refl h
   where
-    cases : (place_of files name ≡ None → AtNone files name) → (b : Bool)
-        → bytes_eq file.name name ≡ b → (o : Option ℕ) → place_of files name ≡ o
+    cases : (place_of_file files name ≡ None → AtNone files name) → (b : Bool)
+        → bytes_eq file.name name ≡ b → (o : Option ℕ) → place_of_file files name ≡ o
         → cond b (Some 0) (option_map (λ k. k + 1) o) ≡ None → AtNone (file ∷ files) name
     cases ih true e o is h = absurd (cc)
     cases ih false e (Some j) is h = absurd (cc)
@@ -89,35 +92,35 @@ at_none (file ∷ files) name h = cases (at_none files name) (bytes_eq file.name
 -- a file that was rewritten, or added: it stands at k
 pub record Rewritten (files new : List File) (name bytes : List ℕ) (k : ℕ) : Type 0 where
   pub files_is : new ≡ with_file files name bytes
-  pub name_is : name_at new k ≡ name
+  pub name_is : file_name_at new k ≡ name
   pub place : IsPlace new k
 
-at_new : (new : List File) (name : List ℕ) (k : ℕ) → place_of new name ≡ Some k
-    → (name_at new k ≡ name) × IsPlace new k
+at_new : (new : List File) (name : List ℕ) (k : ℕ) → place_of_file new name ≡ Some k
+    → (file_name_at new k ≡ name) × IsPlace new k
 at_new new name k p = let n = (at_place new name k p).name_is in (n, rw n p)
 
 pub rewritten : (files new : List File) (name bytes : List ℕ) (k : ℕ)
-    → place_of files name ≡ Some k → new ≡ set files k (record {
-      name = name_at files k;
+    → place_of_file files name ≡ Some k → new ≡ set files k (record {
+      name = file_name_at files k;
       bytes = bytes;
     }) → Rewritten files new name bytes k
 rewritten files new name bytes k p e =
     let a = at_place files name k p in
     let e' : new ≡ set files k (record { name = name; bytes = bytes }) = e
     ∙ ap (λ n. set files k (record { name = n; bytes = bytes })) a.name_is in
-    let q : place_of new name ≡ Some k = ap (λ fs. place_of fs name) e' ∙ a.same bytes in
+    let q : place_of_file new name ≡ Some k = ap (λ fs. place_of_file fs name) e' ∙ a.same bytes in
     record {
       files_is = e' ∙ sym (a.with_is bytes);
       name_is = (at_new new name k q).0;
       place = (at_new new name k q).1;
     }
 
-pub added : (files new : List File) (name bytes : List ℕ) → place_of files name ≡ None
+pub added : (files new : List File) (name bytes : List ℕ) → place_of_file files name ≡ None
     → new ≡ files ++ record { name = name; bytes = bytes } ∷ []
     → Rewritten files new name bytes (length files)
 added files new name bytes p e =
     let a = at_none files name p in
-    let q : place_of new name ≡ Some (length files) = ap (λ fs. place_of fs name) e
+    let q : place_of_file new name ≡ Some (length files) = ap (λ fs. place_of_file fs name) e
     ∙ a.place_is bytes in
     record {
       files_is = e ∙ sym (a.with_is bytes);
@@ -125,33 +128,37 @@ added files new name bytes p e =
       place = (at_new new name (length files) q).1;
     }
 
-pub piece_at : (files : List File) (name piece : List ℕ) (k : ℕ) → place_of files name ≡ Some k
+pub piece_at : (files : List File) (name piece : List ℕ) (k : ℕ) → place_of_file files name ≡ Some k
     → with_piece files name piece ≡ with_file files name (bytes_at files k ++ piece)
 piece_at files name piece k p = ap (λ o. with_file files name (unwrap_or o [] ++ piece))
     (at_place files name k p).bytes_is
 
-pub within : (slots : List Slot) (name : List ℕ) (k : ℕ) → place_of (files_of slots) name ≡ Some k
+pub within : (slots : List Slot) (name : List ℕ) (k : ℕ)
+    → place_of_file (slot_files slots) name ≡ Some k
     → k < length slots
-within slots name k p = rw (← length-map slots file_of) (at_place (files_of slots) name k p).within
+within slots name k p =
+    rw (← length-map slots slot_file) (at_place (slot_files slots) name k p).within
 
 pub added_at : (slots new : List Slot) (name : List ℕ) (k : ℕ) → k ≡ length slots
-    → place_of (files_of slots) name ≡ None
-    → files_of new ≡ files_of slots ++ record { name = name; bytes = [] } ∷ []
-    → Rewritten (files_of slots) (files_of new) name [] k
-added_at slots new name k is p h = rw (is, ← length-map slots file_of)
-    (added (files_of slots) (files_of new) name [] p h)
+    → place_of_file (slot_files slots) name ≡ None
+    → slot_files new ≡ slot_files slots ++ record { name = name; bytes = [] } ∷ []
+    → Rewritten (slot_files slots) (slot_files new) name [] k
+added_at slots new name k is p h = rw (is, ← length-map slots slot_file)
+    (added (slot_files slots) (slot_files new) name [] p h)
 
 -- after a write to the begun file
 module _ (files new : List File) (begun : Option ℕ) (k : ℕ) (piece : List ℕ) (is : begun ≡ Some k)
-    (p : IsPlace files k) (r : Rewritten files new (name_at files k) (bytes_at files k ++ piece) k)
+    (p : IsPlace files k) (r : Rewritten files new (file_name_at files k)
+    (bytes_at files k ++ piece) k)
   where
-    pub written_files : new ≡ with_piece files (unwrap_or (option_map (name_at files) begun) [])
+    pub written_files : new
+        ≡ with_piece files (unwrap_or (option_map (file_name_at files) begun) [])
         (take (length piece) piece)
     written_files = rw (is, take-length piece)
-        (r.files_is ∙ sym (piece_at files (name_at files k) piece k p))
+        (r.files_is ∙ sym (piece_at files (file_name_at files k) piece k p))
 
-    pub written_name : unwrap_or (option_map (name_at new) begun) []
-        ≡ unwrap_or (option_map (name_at files) begun) []
+    pub written_name : unwrap_or (option_map (file_name_at new) begun) []
+        ≡ unwrap_or (option_map (file_name_at files) begun) []
     written_name = rw is r.name_is
 
     pub written_place : (x : ℕ) → begun ≡ Some x → IsPlace new x

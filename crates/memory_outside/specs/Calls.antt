@@ -17,16 +17,16 @@ abbrev pub no_calls : List Fail → CallList
 no_calls fails = record { fails = fails; begins = 0; calls = 0 }
 
 -- the list names this call
-abbrev pub is_named : List Fail → ℕ → ℕ → Bool
-is_named fails begun call = list_any (λ fail. (fail.begun == begun) && (fail.call == call)) fails
+abbrev pub is_failing : List Fail → ℕ → ℕ → Bool
+is_failing fails begun call = list_any (λ fail. (fail.begun == begun) && (fail.call == call)) fails
 
 -- the list names the next begin
 abbrev pub fails_begin : CallList → Bool
-fails_begin calls = is_named calls.fails calls.begins 0
+fails_begin calls = is_failing calls.fails calls.begins 0
 
 -- the list names the next call that belongs to the last begin
 abbrev pub fails_call : CallList → Bool
-fails_call calls = is_named calls.fails (calls.begins - 1) calls.calls
+fails_call calls = is_failing calls.fails (calls.begins - 1) calls.calls
 
 -- after a begin
 abbrev pub with_begin : CallList → CallList
@@ -41,8 +41,8 @@ abbrev pub is_numbered : List ℕ → ℕ → Bool
 is_numbered fails call = list_any (λ fail. fail == call) fails
 
 -- the count after a call: one more where it was refused
-abbrev pub counted : {T E : Type 0} → Result T E → ℕ → ℕ
-counted result count = if is_ok result then count else raised count
+abbrev pub count_after : {T E : Type 0} → Result T E → ℕ → ℕ
+count_after result count = if is_ok result then count else raised count
 
 -- the count after a begin of a source: one more where it failed, and no more where there is no such
 -- file

@@ -35,16 +35,16 @@ account_of host = record {
 }
 
 -- one note more fits
-abbrev pub has_room : HostInMemory → Bool
-has_room host = ltb (length host.notes.passed + length host.notes.downs) host.room
+abbrev pub has_note_room : HostInMemory → Bool
+has_note_room host = ltb (length host.notes.passed + length host.notes.downs) host.room
 
 -- the host once it was asked for a place, and let it through or was down: a loss is counted, and
 -- the place is noted where it tells and a note fits; else it tells no more
 abbrev pub asked : HostInMemory → At → Bool → HostInMemory
 asked host at through = record {
   down_at = host.down_at;
-  notes = if host.tells && has_room host then noted host.notes at through else host.notes;
+  notes = if host.tells && has_note_room host then noted host.notes at through else host.notes;
   room = host.room;
-  tells = host.tells && has_room host;
+  tells = host.tells && has_note_room host;
   losses = if through then host.losses else raised host.losses;
 }

@@ -1,10 +1,10 @@
 // The cache itself, and its calls.
 ghost use Rattle.std.specs.Prelude.{Some, ◌≡◌, ◌≤◌, ◌<◌, ◌⊎◌, ◌↔◌, length, map, sum_by, is_ok, if◌then◌else◌, IsTrue, IsErr, IsErrOf, IfOk};
 ghost use Rattle.std.specs.Option.{option_copied, option_map};
-ghost use Rattle.memory_outside.specs.Calls.{counted, is_numbered};
+ghost use Rattle.memory_outside.specs.Calls.{count_after, is_numbered};
 ghost use Rattle.outside.specs.Cause.{HasCause, raised};
 ghost use Rattle.cache_store.specs.Cause.{HasFindCause};
-ghost use Rattle.cache_store.specs.Entries.{entry_size, found_in, with_entry};
+ghost use Rattle.cache_store.specs.Entries.{entry_size, found_in, with_cache_entry};
 ghost use Rattle.memory_outside.specs.Caches.{FitsIn, counted_find};
 ghost use Rattle.memory_outside.specs.inner.Entries.{as_entry};
 
@@ -137,15 +137,15 @@ impl Cache for MemCache {
 
     fn keep(&mut self, key: &[u8], value: &[u8]) -> Result<(), Failed>
         ensures entries { Some self.new.entries ≡
-            (if is_ok result then Some (with_entry self.old.entries key.now value.now)
+            (if is_ok result then Some (with_cache_entry self.old.entries key.now value.now)
             else Some self.old.entries) }
         ensures cause { HasCause self.old.faults self.new.faults result }
 
         // It fails exactly where its list names the call or the entry doesn't fit.
         ensures fails { IsErr result ↔ (IsTrue (is_numbered self.old.fails self.old.calls)
             ⊎ (FitsIn self.old.max_entries self.old.max_bytes
-            (with_entry self.old.entries key.now value.now) → ⊥)) }
-        ensures counted { self.new.faults ≡ counted result self.old.faults }
+            (with_cache_entry self.old.entries key.now value.now) → ⊥)) }
+        ensures counted { self.new.faults ≡ count_after result self.old.faults }
         ensures calls { self.new.calls ≡ raised self.old.calls }
         ensures kept { (self.new.fails ≡ self.old.fails)
             × (self.new.max_entries ≡ self.old.max_entries)

@@ -1,7 +1,7 @@
 // Which calls of a source or a shelf in memory are to fail, and the counts of its calls.
 ghost use Rattle.std.specs.Prelude.{◌≡◌};
 ghost use Rattle.std.specs.Prelude.{◌≤◌};
-ghost use Rattle.memory_outside.specs.Calls.{fails_begin, fails_call, is_named, no_calls, with_begin, with_call};
+ghost use Rattle.memory_outside.specs.Calls.{fails_begin, fails_call, is_failing, no_calls, with_begin, with_call};
 ghost use Rattle.outside.specs.Cause.{raised};
 
 use flume_value::Pile;
@@ -77,7 +77,7 @@ pub fn failed(faults: &mut u64) -> Failed
 }
 
 fn is_named(fails: &[Fail], begun: u64, call: u64) -> bool
-    ensures { result ≡ is_named fails.now begun call }
+    ensures { result ≡ is_failing fails.now begun call }
 {
     fails.iter().any(|fail| u64::from(fail.begun) == begun && u64::from(fail.call) == call)
 }

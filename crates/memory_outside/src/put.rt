@@ -3,8 +3,8 @@
 ghost use Rattle.std.specs.Prelude.{◌≡◌, ◌≤◌, ◌<◌, ◌+◌, ◌↔◌, ◌++◌, ◌∷◌, [], vec_len, vec_capacity, All, length, sum_by, if◌then◌else◌, IsTrue, IfOk};
 ghost use Rattle.std.specs.Option.{option_map};
 ghost use Rattle.std.proofs.Common.{set};
-ghost use Rattle.memory_outside.specs.Slots.{bytes_at, files_of, name_at, slot_size, HasRoom};
-ghost use Rattle.cache_store.specs.Entries.{found_in, with_entry};
+ghost use Rattle.memory_outside.specs.Slots.{bytes_at, slot_files, file_name_at, slot_size, HasSlotRoom};
+ghost use Rattle.cache_store.specs.Entries.{found_in, with_cache_entry};
 ghost use Rattle.memory_outside.specs.Caches.{FitsIn};
 ghost use Rattle.memory_outside.specs.inner.Entries.{entries_of};
 ghost use Rattle.memory_outside.specs.inner.CacheRoom.{AreSlots};
@@ -33,10 +33,10 @@ pub fn put(
 ) -> bool
     requires { AreSlots slots.old spare.old room }
     ensures entries { entries_of slots.new.items ≡
-        (if result then with_entry (entries_of slots.old.items) key.now value.now
+        (if result then with_cache_entry (entries_of slots.old.items) key.now value.now
         else entries_of slots.old.items) }
     ensures fits { IsTrue result ↔ FitsIn (vec_len slots.old + vec_len spare.old) room
-        (with_entry (entries_of slots.old.items) key.now value.now) }
+        (with_cache_entry (entries_of slots.old.items) key.now value.now) }
     ensures slots { AreSlots slots.new spare.new room }
     ensures count { vec_len slots.new + vec_len spare.new ≡ vec_len slots.old + vec_len spare.old }
 {
@@ -49,15 +49,15 @@ pub fn put(
 // Puts other bytes in place of those of the k-th file, where they fit.
 fn replace(slots: &mut Vec<Slot>, k: usize, room: usize, bytes: &[u8]) -> bool
     requires within { k < vec_len slots.old }
-    requires rooms { All (HasRoom room) slots.old.items }
+    requires rooms { All (HasSlotRoom room) slots.old.items }
     requires total { sum_by slot_size slots.old.items ≤ room }
-    ensures files { files_of slots.new.items ≡
-        (if result then set (files_of slots.old.items) k
-        (record { name = name_at (files_of slots.old.items) k; bytes = bytes.now })
-        else files_of slots.old.items) }
+    ensures files { slot_files slots.new.items ≡
+        (if result then set (slot_files slots.old.items) k
+        (record { name = file_name_at (slot_files slots.old.items) k; bytes = bytes.now })
+        else slot_files slots.old.items) }
     ensures fits { IsTrue result ↔ (sum_by slot_size slots.old.items + length bytes.now
-        ≤ room + length (bytes_at (files_of slots.old.items) k)) }
-    ensures rooms { All (HasRoom room) slots.new.items }
+        ≤ room + length (bytes_at (slot_files slots.old.items) k)) }
+    ensures rooms { All (HasSlotRoom room) slots.new.items }
     ensures total { sum_by slot_size slots.new.items ≤ room }
     ensures len { vec_len slots.new ≡ vec_len slots.old }
     ensures capacity { vec_capacity slots.new ≡ vec_capacity slots.old }
@@ -74,10 +74,10 @@ fn replace(slots: &mut Vec<Slot>, k: usize, room: usize, bytes: &[u8]) -> bool
 // Puts a file behind the others, where it fits.
 fn add(slots: &mut Vec<Slot>, spare: &mut Vec<Slot>, room: usize, name: &[u8], bytes: &[u8]) -> bool
     requires { AreSlots slots.old spare.old room }
-    ensures files { files_of slots.new.items ≡
+    ensures files { slot_files slots.new.items ≡
         (if result
-        then files_of slots.old.items ++ record { name = name.now; bytes = bytes.now } ∷ []
-        else files_of slots.old.items) }
+        then slot_files slots.old.items ++ record { name = name.now; bytes = bytes.now } ∷ []
+        else slot_files slots.old.items) }
     ensures fits { IsTrue result ↔ ((0 < vec_len spare.old)
         × (sum_by slot_size slots.old.items + length name.now + length bytes.now ≤ room)) }
     ensures slots { AreSlots slots.new spare.new room }

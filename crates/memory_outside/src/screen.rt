@@ -1,6 +1,6 @@
 // A screen in memory, with bounded room, whose writes fail where a list names them.
 ghost use Rattle.std.specs.Prelude.{Some, [], ◌≡◌, ◌≤◌, ◌<◌, ◌+◌, ◌++◌, ◌⊎◌, ◌↔◌, length, take, IsTrue, IsErr, IfOk, OnErr};
-ghost use Rattle.memory_outside.specs.Calls.{counted, is_numbered};
+ghost use Rattle.memory_outside.specs.Calls.{count_after, is_numbered};
 ghost use Rattle.outside.specs.Cause.{HasStrictCause, raised};
 
 use crate::calls::failed;
@@ -89,7 +89,7 @@ impl Screen for MemScreen {
         ensures whole { IfOk result (λ n. n ≡ length piece.now) }
         ensures fails { IsErr result ↔ (IsTrue (is_numbered self.old.fails self.old.calls)
             ⊎ (self.old.max_bytes < length self.old.text + length piece.now)) }
-        ensures counted { self.new.faults ≡ counted result self.old.faults }
+        ensures counted { self.new.faults ≡ count_after result self.old.faults }
         ensures calls { self.new.calls ≡ raised self.old.calls }
         ensures kept { (self.new.fails ≡ self.old.fails)
             × (self.new.max_bytes ≡ self.old.max_bytes) }

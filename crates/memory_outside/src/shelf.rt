@@ -2,7 +2,7 @@
 ghost use Rattle.std.specs.Prelude.{Some, None, false, ◌≡◌, ◌≤◌, ◌<◌, ◌+◌, ◌⊎◌, ◌↔◌, [], length, take, sum_by, is_some, is_ok, unwrap_or, if◌then◌else◌, slice_get, IsSomeAnd, IsTrue, IsErr, IfOk, OnOk, OnErr};
 ghost use Rattle.std.specs.Option.{option_copied};
 ghost use Rattle.outside.specs.Begun.{left_at_begin};
-ghost use Rattle.memory_outside.specs.Calls.{counted, fails_begin, fails_call, no_calls, with_begin, with_call};
+ghost use Rattle.memory_outside.specs.Calls.{count_after, fails_begin, fails_call, no_calls, with_begin, with_call};
 ghost use Rattle.outside.specs.Cause.{HasStrictCause};
 ghost use Rattle.outside.specs.Files.{bytes_of, file_size, with_file, with_piece};
 
@@ -37,11 +37,11 @@ impl Model for MemShelf {
     ghost Value = { ShelfInMemory };
 
     ghost use Rattle.memory_outside.specs.inner.Room.{IsWithinRoom};
-    ghost use Rattle.memory_outside.specs.Slots.{files_of, name_at};
+    ghost use Rattle.memory_outside.specs.Slots.{slot_files, file_name_at};
 
     ghost view = { λ s. record {
-      files = files_of s.slots.items;
-      begun = option_map (name_at (files_of s.slots.items)) s.begun;
+      files = slot_files s.slots.items;
+      begun = option_map (file_name_at (slot_files s.slots.items)) s.begun;
       left = s.left;
       max_files = vec_len s.slots + vec_len s.spare;
       max_bytes = s.room;
@@ -147,7 +147,7 @@ impl Shelf for MemShelf {
             ⊎ ((bytes_of self.old.files name.now ≡ None)
             × ((self.old.max_files ≤ length self.old.files)
             ⊎ (self.old.max_bytes < sum_by file_size self.old.files + length name.now)))) }
-        ensures counted { self.new.faults ≡ counted result self.old.faults }
+        ensures counted { self.new.faults ≡ count_after result self.old.faults }
         ensures calls { self.new.calls ≡ with_begin self.old.calls }
         ensures room { (self.new.max_files ≡ self.old.max_files)
             × (self.new.max_bytes ≡ self.old.max_bytes) }
@@ -193,7 +193,7 @@ impl Shelf for MemShelf {
         ensures whole { IfOk result (λ n. n ≡ length piece.now) }
         ensures fails { IsErr result ↔ (IsTrue (fails_call self.old.calls)
             ⊎ (self.old.max_bytes < sum_by file_size self.old.files + length piece.now)) }
-        ensures counted { self.new.faults ≡ counted result self.old.faults }
+        ensures counted { self.new.faults ≡ count_after result self.old.faults }
         ensures calls { self.new.calls ≡ with_call self.old.calls }
         ensures room { (self.new.max_files ≡ self.old.max_files)
             × (self.new.max_bytes ≡ self.old.max_bytes) }
@@ -216,7 +216,7 @@ impl Shelf for MemShelf {
 
         // It fails exactly where its list names the call.
         ensures fails { IsErr result ↔ IsTrue (fails_call self.old.calls) }
-        ensures counted { self.new.faults ≡ counted result self.old.faults }
+        ensures counted { self.new.faults ≡ count_after result self.old.faults }
         ensures calls { self.new.calls ≡ with_call self.old.calls }
         ensures room { (self.new.max_files ≡ self.old.max_files)
             × (self.new.max_bytes ≡ self.old.max_bytes) }

@@ -1,7 +1,7 @@
 // A source in memory, whose calls fail where a list names them and which notes its begins.
 ghost use Rattle.std.specs.Prelude.{Some, None, Ok, true, ◌≡◌, ◌≢◌, ◌≤◌, ◌<◌, ◌↔◌, ◌++◌, ◌∷◌, [], ◌-◌, ◌^◌, is_ok, is_some, unwrap_or, IsTrue, IsErr, IsErrOf, IfOk, OnOk, take, length, MatchOption};
 ghost use Rattle.std.specs.Option.{option_map};
-ghost use Rattle.memory_outside.specs.Calls.{counted, counted_begin, fails_begin, fails_call, with_begin, with_call};
+ghost use Rattle.memory_outside.specs.Calls.{count_after, counted_begin, fails_begin, fails_call, with_begin, with_call};
 ghost use Rattle.outside.specs.Cause.{HasCause, HasBeginCause};
 ghost use Rattle.outside.specs.Files.{bytes_of};
 ghost use Rattle.memory_outside.specs.Memory.{source_of};
@@ -159,7 +159,7 @@ impl Source for MemSource {
 
         // It fails exactly where its list names the call.
         ensures fails { IsErr result ↔ IsTrue (fails_call self.old.calls) }
-        ensures counted { self.new.faults ≡ counted result self.old.faults }
+        ensures counted { self.new.faults ≡ count_after result self.old.faults }
         ensures calls { self.new.calls ≡ with_call self.old.calls }
 
         // It gives its step at most.

@@ -21,11 +21,11 @@ use Rattle.plan_laws.specs.declared.operations.Operation.TheVariants.{Flat, Clas
 use Rattle.plan_roles.specs.declared.roles.Part.TheVariants as part
 use Rattle.plan_roles.specs.declared.roles.Role.{Role}
 use Rattle.plan_roles.specs.Levels.{level}
-use Rattle.plan_roles.specs.Mappers.{is_mapper, is_reducer, is_stage, key_of, outputs_of, reducer_of}
+use Rattle.plan_roles.specs.Mappers.{is_mapper, is_reducer, is_stage, read_key, places_given, reducer_of}
 use Rattle.plan_roles.specs.Roles.{act_part, passes_of, role_of, roles}
 use Rattle.form_laws.specs.declared.ranked.Ranked.{Ranked}
-use Rattle.form_laws.specs.Classes.{IsGbk, IsGbkAt, keys_at as node_keys, keys_of}
-use Rattle.form_laws.specs.Operations.{all_alone, alone, alone_of, class_keys, class_operation, class_ranked, first_uses, grouped, key_passes, least_of, barrier_ranked, operations, passes_at, trivial}
+use Rattle.form_laws.specs.Classes.{IsGbk, IsGbkAt, keys_at as node_keys, keys_taken}
+use Rattle.form_laws.specs.Operations.{all_alone, ranked_alone, alone_of, class_keys, class_operation, class_ranked, first_uses, gbk_with_reducer, key_passes, number_of_first, barrier_ranked, operations, passes_at, trivial}
 use Rattle.form_laws.proofs.Standing.{inputs_from, keys_are, uses_ok}
 use Rattle.mscr_form.specs.inner.Ranking.{all_keys, alone_part, alone_role, class_with, grouped_with, key_passes_with, keys_in_role, level_in_role, operations_with, part_passes, passes_in_role, reducer_in_role, role_in}
 use Rattle.mscr_form.proofs.Placing.{part_keys_are}
@@ -57,10 +57,10 @@ keys_by : (b : Blocked) (n : ℕ) (o : Option Node)
 keys_by b n None = refl
 keys_by b n (Some x) = part_keys_are b n x
 
-keys_same : (b : Blocked) (n : ℕ) → keys_in_role (role_in (roles b) n) ≡ keys_of b n
+keys_same : (b : Blocked) (n : ℕ) → keys_in_role (role_in (roles b) n) ≡ keys_taken b n
 keys_same b n = ap keys_in_role (role_is b n) ∙ keys_by b n (node_at b.graph.nodes n)
 
-all_keys_same : (b : Blocked) (ns : List ℕ) → all_keys (roles b) ns ≡ flat_map (keys_of b) ns
+all_keys_same : (b : Blocked) (ns : List ℕ) → all_keys (roles b) ns ≡ flat_map (keys_taken b) ns
 all_keys_same b [] = refl
 all_keys_same b (n ∷ ns) =
     let i = all_keys_same b ns in
@@ -93,7 +93,7 @@ passes_by b n (Some (Flatten ins)) h = flat_passes (is_stage b n)
 passes_by b n (Some (Gbk c o l k)) h = refl
 passes_by b n (Some (Barrier ins o l a)) h = act_passes n a
 passes_by b n (Some (Pdo c f)) h =
-    pdo_passes (is_mapper b n) (is_reducer b n) (passes_of b n f) (outputs_of n f) h
+    pdo_passes (is_mapper b n) (is_reducer b n) (passes_of b n f) (places_given n f) h
 
 passes_same : (b : Blocked) (k : Key) → IsMapperKey b k
     → key_passes_with (roles b) k ≡ key_passes b k
@@ -118,18 +118,18 @@ reducer_by : (b : Blocked) (n : ℕ) (o : Option Node) → IsGbkAt o
 reducer_by b n (Some (Gbk c o l k)) h = refl
 reducer_by b n _ h = absurd h
 
-grouped_same : (b : Blocked) (n : ℕ) → IsGbk b n → grouped_with (roles b) n ≡ grouped b n
+grouped_same : (b : Blocked) (n : ℕ) → IsGbk b n → grouped_with (roles b) n ≡ gbk_with_reducer b n
 grouped_same b n h =
     ap (λ (r : Option ℕ). let g : Grouped = record { gbk = n; reducer = r } in g)
     (ap reducer_in_role (role_is b n) ∙ reducer_by b n (node_at b.graph.nodes n) h)
 
 groups_same : (b : Blocked) (ns : List ℕ) → Each (IsGbk b) ns
-    → map (grouped_with (roles b)) ns ≡ map (grouped b) ns
+    → map (grouped_with (roles b)) ns ≡ map (gbk_with_reducer b) ns
 groups_same b ns a =
     sym (flat_map_single (grouped_with (roles b)) ns)
-    ∙ each_same (IsGbk b) (λ n. grouped_with (roles b) n ∷ []) (λ n. grouped b n ∷ [])
+    ∙ each_same (IsGbk b) (λ n. grouped_with (roles b) n ∷ []) (λ n. gbk_with_reducer b n ∷ [])
     (λ n h. ap (λ (g : Grouped). g ∷ []) (grouped_same b n h)) ns a
-    ∙ flat_map_single (grouped b) ns
+    ∙ flat_map_single (gbk_with_reducer b) ns
 
 level_by : (b : Blocked) (n : ℕ) (o : Option Node) → IsGbkAt o
     → level_in_role (role_at_node b n o) ≡ level b.graph.nodes n
@@ -138,7 +138,7 @@ level_by b n (Some x) h = refl
 
 -- ---- classes
 least_gbk : (b : Blocked) (ns : List ℕ) → Each (IsGbk b) ns → 0 < length ns
-    → IsGbk b (least_of ns)
+    → IsGbk b (number_of_first ns)
 least_gbk b [] a h = absurd (omega arith)
 least_gbk b (n ∷ ns) a h = a.0
 
@@ -160,33 +160,33 @@ key_mapper b n c true false h = tt
 key_mapper b n c false y h = tt
 
 mapped_mappers : (b : Blocked) (n : ℕ) (cs : List Place)
-    → Each (IsMapperKey b) (map (key_of b n) cs)
+    → Each (IsMapperKey b) (map (read_key b n) cs)
 mapped_mappers b n [] = tt
 mapped_mappers b n (c ∷ cs) = (
   key_mapper b n c (is_mapper b c.node) (eqb (suc (level b.graph.nodes c.node)) n) refl,
   mapped_mappers b n cs,
 )
 
-node_mappers : (b : Blocked) (n : ℕ) → Each (IsMapperKey b) (keys_of b n)
+node_mappers : (b : Blocked) (n : ℕ) → Each (IsMapperKey b) (keys_taken b n)
 node_mappers b n =
     subst (Each (IsMapperKey b)) (sym (keys_are b n)) (mapped_mappers b (level b.graph.nodes n)
     (inputs_from b.graph.nodes (node_at b.graph.nodes n)))
 
-flat_mappers : (b : Blocked) (ns : List ℕ) → Each (IsMapperKey b) (flat_map (keys_of b) ns)
+flat_mappers : (b : Blocked) (ns : List ℕ) → Each (IsMapperKey b) (flat_map (keys_taken b) ns)
 flat_mappers b [] = tt
 flat_mappers b (n ∷ ns) =
-    Each-append (IsMapperKey b) (keys_of b n) (flat_map (keys_of b) ns) (node_mappers b n)
+    Each-append (IsMapperKey b) (keys_taken b n) (flat_map (keys_taken b) ns) (node_mappers b n)
     (flat_mappers b ns)
 
 class_mappers : (b : Blocked) (ns : List ℕ) → Each (IsMapperKey b) (class_keys b ns)
-class_mappers b ns = uses_ok (IsMapperKey b) (flat_map (keys_of b) ns) (flat_mappers b ns)
+class_mappers b ns = uses_ok (IsMapperKey b) (flat_map (keys_taken b) ns) (flat_mappers b ns)
 
 class_same : (b : Blocked) (ns : List ℕ) → Each (IsGbk b) ns
     → 0 < length ns → class_with (roles b) ns ≡ class_ranked b ns
 class_same b ns a h =
     let ks : first_uses (all_keys (roles b) ns) ≡ class_keys b ns =
     ap first_uses (all_keys_same b ns) in
-    let n : ℕ = least_of ns in
+    let n : ℕ = number_of_first ns in
     let lev : level_in_role (role_in (roles b) n) ≡ level b.graph.nodes n =
     ap level_in_role (role_is b n)
     ∙ level_by b n (node_at b.graph.nodes n) (least_gbk b ns a h) in
@@ -196,7 +196,7 @@ class_same b ns a h =
     (flat_map (key_passes_with (roles b)) (first_uses (all_keys (roles b) ns))))
     (class_operation b ns) rank
     (class_is b ns (first_uses (all_keys (roles b) ns)) (class_keys b ns)
-    (map (grouped_with (roles b)) ns) (map (grouped b) ns)
+    (map (grouped_with (roles b)) ns) (map (gbk_with_reducer b) ns)
     (flat_map (key_passes_with (roles b)) (first_uses (all_keys (roles b) ns)))
     (flat_map (key_passes b) (class_keys b ns)) ks (groups_same b ns a)
     (ap (λ (l : List Key). flat_map (key_passes_with (roles b)) l) ks
@@ -214,7 +214,7 @@ classes_same b (c ∷ cs) a h =
 -- ---- Pdos and Flattens by themselves
 alone_is : (b : Blocked) (n : ℕ) (o : Operation) (x : ℕ) → x ≡ suc (2 * level b.graph.nodes n)
     → (let r : Ranked = record { rank = x; number = n; does = o } in r) ∷ []
-    ≡ alone b n o ∷ []
+    ≡ ranked_alone b n o ∷ []
 alone_is b n o x e =
     ap (λ (k : ℕ). (let r : Ranked = record { rank = k; number = n; does = o } in r) ∷ []) e
 
@@ -223,15 +223,15 @@ twice l = omega arith
 
 flat_alone : (b : Blocked) (n : ℕ) (x : Node) (s : Bool)
     → alone_part (role_of b (record { number = n; node = x })) (cond s part.Stage part.Inlined)
-    ≡ cond s (alone b n (Flat n) ∷ []) []
+    ≡ cond s (ranked_alone b n (Flat n) ∷ []) []
 flat_alone b n x true =
     alone_is b n (Flat n) (level b.graph.nodes n * 2 + 1) (twice (level b.graph.nodes n))
 flat_alone b n x false = refl
 
 pdo_alone : (b : Blocked) (n : ℕ) (x : Node) (f : Forest) (m r : Bool) (ps : List Place)
     → alone_part (role_of b (record { number = n; node = x }))
-    (cond m (part.Mapper ps) (cond r part.Reducer (part.Trivial (outputs_of n f))))
-    ≡ cond (m || r) [] (alone b n (trivial n f) ∷ [])
+    (cond m (part.Mapper ps) (cond r part.Reducer (part.Trivial (places_given n f))))
+    ≡ cond (m || r) [] (ranked_alone b n (trivial n f) ∷ [])
 pdo_alone b n x f true r ps = refl
 pdo_alone b n x f false true ps = refl
 pdo_alone b n x f false false ps =

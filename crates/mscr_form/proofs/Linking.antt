@@ -7,7 +7,7 @@ use Rattle.exec_graph.specs.declared.graph.Blocked.{Blocked}
 use Rattle.plan_roles.specs.declared.roles.Role.{Role}
 use Rattle.plan_roles.specs.Levels.{level}
 use Rattle.plan_roles.specs.Roles.{roles}
-use Rattle.form_laws.specs.Classes.{AreLinked, IsGbk, IsLinked, has_same, keys_of, related}
+use Rattle.form_laws.specs.Classes.{AreLinked, IsGbk, IsLinked, has_same, keys_taken, related}
 use Rattle.form_laws.proofs.Classing.{gbk_node, related_gbk, share_related}
 use Rattle.mscr_form.specs.inner.Labels.{AreLabels, IsWay, at_key, role_keys, level_at, shares}
 use Rattle.mscr_form.proofs.Labeling.{shares_one}
@@ -36,12 +36,12 @@ related_placed b i j d hi hj h =
     ap (λ (x : ℕ). eqb x (level_at rs j)) (level_placed b i d hi)
     ∙ ap (eqb (level b.graph.nodes (number_at rs i))) (level_placed b j d hj) in
     let any : list_any (has_same (role_keys rs i)) (role_keys rs j)
-    ≡ list_any (has_same (keys_of b (number_at rs i))) (keys_of b (number_at rs j)) =
+    ≡ list_any (has_same (keys_taken b (number_at rs i))) (keys_taken b (number_at rs j)) =
     ap (λ ks. list_any (has_same ks) (role_keys rs j)) (keys_placed b i d hi)
-    ∙ ap (list_any (has_same (keys_of b (number_at rs i)))) (keys_placed b j d hj) in
+    ∙ ap (list_any (has_same (keys_taken b (number_at rs i)))) (keys_placed b j d hj) in
     let p = both_true
     (eqb (level b.graph.nodes (number_at rs i)) (level b.graph.nodes (number_at rs j)))
-    (list_any (has_same (keys_of b (number_at rs i))) (keys_of b (number_at rs j))) h in
+    (list_any (has_same (keys_taken b (number_at rs i))) (keys_taken b (number_at rs j))) h in
     and_both (eqb (level_at rs i) (level_at rs j))
     (list_any (has_same (role_keys rs i)) (role_keys rs j)) (lev ∙ p.0) (any ∙ p.1)
 

@@ -16,8 +16,8 @@ use Rattle.plan_roles.specs.declared.roles.Part.TheVariants as part
 use Rattle.plan_roles.specs.declared.roles.Role.{Role}
 use Rattle.plan_roles.specs.Levels.{level}
 use Rattle.plan_roles.specs.Mappers.{is_mapper, is_reducer, is_stage}
-use Rattle.plan_roles.specs.Roles.{act_part, part_of, role_of, roles}
-use Rattle.form_laws.specs.Classes.{IsGbk, IsGbkAt, keys_at as node_keys, keys_of}
+use Rattle.plan_roles.specs.Roles.{act_part, role_part, role_of, roles}
+use Rattle.form_laws.specs.Classes.{IsGbk, IsGbkAt, keys_at as node_keys, keys_taken}
 use Rattle.mscr_form.specs.inner.Buckets.{is_group}
 use Rattle.mscr_form.specs.inner.Labels.{role_keys, level_at, no_role, part_keys, role_at}
 
@@ -38,7 +38,7 @@ act_keys n (Operate f) = refl
 act_keys n (Singleton k) = refl
 
 pub part_keys_are : (b : Blocked) (n : ℕ) (x : Node)
-    → part_keys (part_of b n x) ≡ node_keys b n (Some x)
+    → part_keys (role_part b n x) ≡ node_keys b n (Some x)
 part_keys_are b n (Source r) = refl
 part_keys_are b n (Flatten ins) = flat_keys (is_stage b n)
 part_keys_are b n (Pdo c f) = pdo_keys (is_mapper b n) (is_reducer b n) _ _
@@ -60,7 +60,7 @@ act_group n (SideInput f) = refl
 act_group n (Operate f) = refl
 act_group n (Singleton k) = refl
 
-group_gbk : (b : Blocked) (n : ℕ) (x : Node) → is_group (part_of b n x) ≡ true → IsGbkAt (Some x)
+group_gbk : (b : Blocked) (n : ℕ) (x : Node) → is_group (role_part b n x) ≡ true → IsGbkAt (Some x)
 group_gbk b n (Source r) h = absurd (false≢true h)
 group_gbk b n (Flatten ins) h = absurd (false≢true (sym (flat_group (is_stage b n)) ∙ h))
 group_gbk b n (Pdo c f) h =
@@ -68,7 +68,7 @@ group_gbk b n (Pdo c f) h =
 group_gbk b n (Gbk c o l k) h = tt
 group_gbk b n (Barrier ins o l a) h = absurd (false≢true (sym (act_group n a) ∙ h))
 
-gbk_group : (b : Blocked) (n : ℕ) (x : Node) → IsGbkAt (Some x) → is_group (part_of b n x) ≡ true
+gbk_group : (b : Blocked) (n : ℕ) (x : Node) → IsGbkAt (Some x) → is_group (role_part b n x) ≡ true
 gbk_group b n (Source r) h = absurd h
 gbk_group b n (Flatten ins) h = absurd h
 gbk_group b n (Pdo c f) h = absurd h
@@ -105,13 +105,13 @@ number_at rs i = (role_at rs i).number
 
 -- a role of keys has those of its node
 pub keys_placed : (b : Blocked) (i : ℕ) → AllDiffer b.graph.nodes → i < length (roles b)
-    → role_keys (roles b) i ≡ keys_of b (number_at (roles b) i)
+    → role_keys (roles b) i ≡ keys_taken b (number_at (roles b) i)
 keys_placed b i d h =
     let p = placed b i d h in
     ap (λ (r : Role). part_keys r.part) p.role
     ∙ part_keys_are b p.entry.number p.entry.node
     ∙ sym (ap (node_keys b p.entry.number) p.node)
-    ∙ sym (ap (λ (r : Role). keys_of b r.number) p.role)
+    ∙ sym (ap (λ (r : Role). keys_taken b r.number) p.role)
 
 pub level_placed : (b : Blocked) (i : ℕ) → AllDiffer b.graph.nodes → i < length (roles b)
     → level_at (roles b) i ≡ level b.graph.nodes (number_at (roles b) i)

@@ -1,7 +1,7 @@
 // The operations of a graph with their ranks.
 ghost use Rattle.std.specs.Prelude.{◌≡◌, [], ◌∷◌, ◌++◌, map, IfOk, OnOk};
 ghost use Rattle.std.specs.List.{flat_map};
-ghost use Rattle.form_laws.specs.Operations.{first_uses, least_of as first_number};
+ghost use Rattle.form_laws.specs.Operations.{first_uses, number_of_first as first_number};
 ghost use Rattle.plan_laws.specs.declared.operations.Key.TheVariants.{Mapper};
 ghost use Rattle.plan_laws.specs.declared.operations.Operation.TheVariants.{Class};
 ghost use Rattle.mscr_form.specs.inner.Ranking as spec;

@@ -15,7 +15,7 @@ use Rattle.script_program.specs.declared.made.Output.{Output}
 use Rattle.script_laws.specs.WellFormed.{IsNameOf, function_at}
 use Rattle.bag_laws.specs.of_direct_meaning.Calls.{answer_of}
 use Rattle.bag_laws.specs.of_direct_meaning.Direct.{all_made, made_at}
-use Rattle.bag_laws.specs.of_direct_meaning.Objects.{IsObject, argument_of, value_of, values_of}
+use Rattle.bag_laws.specs.of_direct_meaning.Objects.{IsObject, argument_of, value_of, object_values}
 use Rattle.no_defaults.specs.Readings.{HasOutput}
 
 -- the members of the collection of that number are so, where it is made
@@ -50,7 +50,7 @@ pub record AnswersOperate (script : Script) (table : List (Option Collection)) (
   pub function : Function
   pub calls : function_at script.functions called ≡ Some function
   pub answers : (cs : List Collection) (values : List Value) → all_made table objects ≡ Some cs
-      → values_of cs ≡ Some values → AnswersTo function 0 (argument_of values)
+      → object_values cs ≡ Some values → AnswersTo function 0 (argument_of values)
 
 -- What a function makes of each member beside the value of an object: that is one, and where it has
 -- a value the function answers on each member beside it.

@@ -13,7 +13,7 @@ use type_table::{Shape, TypeId};
 
 /// The combiner that is written.
 pub fn comb_of(line: u32, combiner: &Combiner) -> Result<Comb, ScriptFault>
-    ensures { Gives (λ by. by) result (spec.comb_of line combiner.now) }
+    ensures { Gives (λ by. by) result (spec.comb_for line combiner.now) }
 {
     match combiner {
         Combiner::Sum => Ok(Comb::Sum),
@@ -63,7 +63,7 @@ fn only(line: u32, shape: Shape, member: TypeId, state: &mut State) -> Result<Ty
     requires shape { IsWithin (length state.old.types) shape }
     requires member { member < length state.old.types }
     ensures gives { Gives (type_at state.new.types) result (or_fault line ScriptKind.Mistyped
-        (spec.only (tree_of state.old.types shape) (type_at state.old.types member))) }
+        (spec.type_where_same (tree_of state.old.types shape) (type_at state.old.types member))) }
     ensures within { IfOk result (λ id. id < length state.new.types) }
     ensures extends { Extends state.old.types state.new.types }
     ensures state { state.new.state ≡ state.old.state }

@@ -103,7 +103,7 @@ fn all_same(id: TypeId, sources: &[Operand], types: &Types) -> bool
 /// The numbers of collections.
 pub fn numbers(alloc: Global, sources: &[Operand]) -> Result<Pile<usize>, AllocError>
     ensures { (types : List Ty) → IfOk result (λ numbers.
-        numbers ≡ spec.numbers (map (operand_in types) sources.now)) }
+        numbers ≡ spec.operand_numbers (map (operand_in types) sources.now)) }
 {
     let mut numbers = Pile::new(alloc);
     for source in sources {

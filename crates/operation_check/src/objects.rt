@@ -31,7 +31,7 @@ pub fn combined_whole(
     state: &mut State,
 ) -> Result<Making, ScriptFault>
     ensures gives { Gives (making_in state.new.types) result
-        (spec.combined_whole line source.now combiner.now state.old.state) }
+        (spec.combine_all_rule line source.now combiner.now state.old.state) }
     ensures within { IfOk result (λ making. making.ty < length state.new.types) }
     ensures extends { Extends state.old.types state.new.types }
     ensures state { state.new.state ≡ state.old.state }
@@ -73,7 +73,7 @@ pub fn operated(
     state: &State,
 ) -> Result<Making, ScriptFault>
     ensures gives { Gives (making_in state.now.types) result
-        (spec.operated line objects.now function.now state.now.state) }
+        (spec.operate_rule line objects.now function.now state.now.state) }
     ensures within { IfOk result (λ making. making.ty < length state.now.types) }
 {
     let objects = collections(alloc, line, objects, state)?;
@@ -118,7 +118,7 @@ pub fn done_beside(
     state: &State,
 ) -> Result<Making, ScriptFault>
     ensures gives { Gives (making_in state.now.types) result
-        (spec.done_beside line source.now function.now object.now state.now.state) }
+        (spec.do_with_rule line source.now function.now object.now state.now.state) }
     ensures within { IfOk result (λ making. making.ty < length state.now.types) }
 {
     let source = collection(line, source, state)?;

@@ -69,7 +69,7 @@ pub fn made_by(
 fn alone(alloc: Global, making: Result<Making, ScriptFault>) -> Result<Pile<Making>, ScriptFault>
     ensures gives { (types : List Ty) (meant : Checked Meant) →
         Gives (making_in types) making meant →
-        Gives (map (making_in types)) result (spec.alone meant) }
+        Gives (map (making_in types)) result (spec.one_making meant) }
     ensures within { (n : ℕ) → IfOk making (λ making. making.ty < n) →
         IfOk result (All (λ making. making.ty < n)) }
 {
@@ -82,7 +82,7 @@ fn alone(alloc: Global, making: Result<Making, ScriptFault>) -> Result<Pile<Maki
 /// The collection of a name.
 pub fn collection(line: u32, name: &Str, state: &State) -> Result<Operand, ScriptFault>
     ensures gives { Gives (operand_in state.now.types) result
-        (spec.collection line name.now state.now.state) }
+        (spec.operand_named line name.now state.now.state) }
     ensures within { IfOk result (λ source. source.ty < length state.now.types) }
 {
     match state.node(name) {
@@ -180,7 +180,7 @@ fn outputs(
 /// The groups of a table, by its name.
 fn grouped(alloc: Global, line: u32, source: &Str, state: &mut State) -> Result<Making, ScriptFault>
     ensures gives { Gives (making_in state.new.types) result
-        (spec.grouped line source.now state.old.state) }
+        (spec.group_rule line source.now state.old.state) }
     ensures within { IfOk result (λ making. making.ty < length state.new.types) }
     ensures extends { Extends state.old.types state.new.types }
     ensures state { state.new.state ≡ state.old.state }
@@ -198,7 +198,7 @@ fn combination(
     state: &mut State,
 ) -> Result<Making, ScriptFault>
     ensures gives { Gives (making_in state.new.types) result
-        (spec.combined line source.now combiner.now state.old.state) }
+        (spec.combine_rule line source.now combiner.now state.old.state) }
     ensures within { IfOk result (λ making. making.ty < length state.new.types) }
     ensures extends { Extends state.old.types state.new.types }
     ensures state { state.new.state ≡ state.old.state }
@@ -211,7 +211,7 @@ fn combination(
 /// The distinct members of a collection, by its name, with how often each occurs.
 fn counted(alloc: Global, line: u32, source: &Str, state: &mut State) -> Result<Making, ScriptFault>
     ensures gives { Gives (making_in state.new.types) result
-        (spec.counted line source.now state.old.state) }
+        (spec.count_rule line source.now state.old.state) }
     ensures within { IfOk result (λ making. making.ty < length state.new.types) }
     ensures extends { Extends state.old.types state.new.types }
     ensures state { state.new.state ≡ state.old.state }
@@ -231,7 +231,7 @@ fn joined(
     state: &mut State,
 ) -> Result<Making, ScriptFault>
     ensures gives { Gives (making_in state.new.types) result
-        (spec.joined line left.now right.now state.old.state) }
+        (spec.join_rule line left.now right.now state.old.state) }
     ensures within { IfOk result (λ making. making.ty < length state.new.types) }
     ensures extends { Extends state.old.types state.new.types }
     ensures state { state.new.state ≡ state.old.state }
@@ -244,7 +244,7 @@ fn joined(
 /// So many of the greatest members of a collection, by its name.
 fn greatest(line: u32, digits: &Str, source: &Str, state: &State) -> Result<Making, ScriptFault>
     ensures gives { Gives (making_in state.now.types) result
-        (spec.greatest line digits.now source.now state.now.state) }
+        (spec.top_rule line digits.now source.now state.now.state) }
     ensures within { IfOk result (λ making. making.ty < length state.now.types) }
 {
     let source = collection(line, source, state)?;
@@ -262,7 +262,7 @@ fn group_of(
 ) -> Result<Making, ScriptFault>
     requires { source.ty < length state.old.types }
     ensures gives { Gives (making_in state.new.types) result
-        (spec.group_of line (operand_in state.old.types source)) }
+        (spec.group_making line (operand_in state.old.types source)) }
     ensures within { IfOk result (λ making. making.ty < length state.new.types) }
     ensures extends { Extends state.old.types state.new.types }
     ensures state { state.new.state ≡ state.old.state }
@@ -308,7 +308,7 @@ fn combine_of(
 fn count_of(alloc: Global, source: Operand, state: &mut State) -> Result<Making, AllocError>
     requires { source.ty < length state.old.types }
     ensures ok { IfOk result (λ making. making_in state.new.types making
-        ≡ spec.count_of (operand_in state.old.types source)) }
+        ≡ spec.count_making (operand_in state.old.types source)) }
     ensures within { IfOk result (λ making. making.ty < length state.new.types) }
     ensures extends { Extends state.old.types state.new.types }
     ensures state { state.new.state ≡ state.old.state }

@@ -8,6 +8,7 @@ use Rattle.plan_tracing.specs.of_plan_check.Checked.{Forms, IsChecked}
 use Rattle.plan_faults.specs.declared.fault.PlanFault.{PlanFault}
 use Rattle.plan_faults.specs.declared.fault.PlanFault.TheVariants.{Refused}
 use Rattle.plan_faults.specs.declared.fault.PlanKind.{PlanKind}
+use Rattle.plan_tracing.specs.Refined.{IsPassOrder}
 use Rattle.plan_tracing.specs.of_plan_files.Written.{file_json}
 use Rattle.plan_texts.specs.Texts.{naming_of, plan_json_of}
 use Rattle.plan_texts.specs.of_script_program.Script.{Script}
@@ -27,6 +28,10 @@ IsNotTaken script bytes step kind = IsAnswer script bytes (Err (Refused step kin
 -- the rewrites lead from the script's execution graph to one of which the plan is formed
 abbrev pub LeadTo : Script → List Rewrite → Plan → Type 0
 LeadTo script rewrites plan = Forms (graph_of script) rewrites plan
+
+-- the rewrites stand in the order in which the passes make them of that graph
+abbrev pub StandInOrder : Script → List Rewrite → Type 0
+StandInOrder script rewrites = IsPassOrder (graph_of script) rewrites
 
 -- the file of a plan with rewrites, under the names of the script
 abbrev pub file_text_of : Script → List Rewrite → Plan → List ℕ

@@ -6,7 +6,7 @@ ghost use Rattle.plan_texts.specs.of_graph_build.Graphs.{graph_of};
 ghost use Rattle.plan_tracing.specs.of_plan_files.Written.{HasSmallNumbers};
 ghost use Rattle.script_plans.specs.of_script_laws.WellFormed.{IsWellFormed};
 ghost use Rattle.script_plans.specs.Plans.{IsScriptPlan};
-ghost use Rattle.outer_plans.specs.Plans.{LeadTo};
+ghost use Rattle.outer_plans.specs.Plans.{LeadTo, StandInOrder};
 
 use exec_graph::Graph;
 use plan_texts::script_program::Program;
@@ -22,6 +22,7 @@ pub fn traced_plan(alloc: Global, program: &Program, graph: Graph) -> Result<Tra
     requires ok { IsGraphOk graph }
     ensures optimised { IfOk result (λ it. IsScriptPlan program.now.script it.plan) }
     ensures leads { IfOk result (λ it. LeadTo program.now.script it.rewrites it.plan) }
+    ensures order { IfOk result (λ it. StandInOrder program.now.script it.rewrites) }
     ensures small { IfOk result (λ it. AllByRecursion HasSmallNumbers it.rewrites) }
 {
     passes_law();

@@ -2,7 +2,7 @@
 use Rattle.std.proofs.Common.{◌≡◌, ℕ, ◌<◌, ◌≤◌, Bool, true, false, cond, ◌||◌, ◌&&◌, List, [], ◌∷◌, map, length, Option, Some, None, refl, sym, ap, ◌∙◌, arith}
 use Rattle.std.proofs.lemmas.Bool.{false≢true}
 use Rattle.std.specs.List.{flat_map, AllByRecursion}
-use Rattle.exec_graph.specs.Forests.{Label, Forest, Bare, Grow, steps, numbered, new_label, new_out, after, after_out, with_out}
+use Rattle.exec_graph.specs.Forests.{Label, Forest, Bare, Grow, steps, numbered, new_label, new_out, next_after, after_out, with_out}
 use Rattle.exec_graph.specs.declared.graph.Place.{Place}
 use Rattle.exec_graph.specs.declared.graph.Node.{Node}
 use Rattle.exec_graph.specs.declared.graph.Node.TheVariants.{Source, Flatten, Pdo, Gbk, Barrier}
@@ -14,8 +14,8 @@ use Rattle.flume_value.proofs.EachLemmas.{Each-weaker, Each-both}
 use Rattle.exec_graph.proofs.Solving.{each_found, there_found}
 use Rattle.exec_graph.specs.declared.graph.Blocked.{Blocked}
 use Rattle.pardo_fuse.specs.Readers.{Cut, cut_of, is_outer, among, calls_on, collects, any_node, is_pdo, is_marked, is_kept}
-use Rattle.pardo_fuse.specs.Fusing.{finished, holds_out, leads, with_numbers}
-use Rattle.pardo_fuse.specs.SingleFusing.{CanFuse, forest_of, fused_by, joined_nodes, left_of}
+use Rattle.pardo_fuse.specs.Fusing.{finished_entry, holds_out, leads, with_numbers}
+use Rattle.pardo_fuse.specs.SingleFusing.{CanFuse, forest_reading, fused_by, joined_nodes, entries_left}
 use Rattle.exec_graph.specs.Objects.{takes_such}
 use Rattle.graph_laws.proofs.ObjectNodes.{flags_reread}
 use Rattle.exec_graph.specs.Wellformed.{HaveObjects, has_objects, is_object, is_object_at, Ascends, IsNodeOk, is_lifted, most_nodes, size, total_size, IsBlockedOk}
@@ -48,13 +48,13 @@ pub record IsCutOk (b : Cut) : Type 0 where
 steps-numbered : (s : ℕ) (f : Forest) → steps (numbered s f) ≡ steps f
 steps-numbered s Bare = refl
 steps-numbered s (Grow l kids rest) = let a = steps-numbered (after_out s l.out) kids in let b =
-    steps-numbered (after (after_out s l.out) kids) rest in omega arith
+    steps-numbered (next_after (after_out s l.out) kids) rest in omega arith
 
 size_done : (r : Place → Place) (x : Node) → size (reread r (with_numbers x)) ≡ size x
 size_done r (Pdo c f) = steps-numbered 0 f
 size_done r _ = refl
 
-total_done : (r : Place → Place) (hs : List Entry) → total_size (map (finished r) hs)
+total_done : (r : Place → Place) (hs : List Entry) → total_size (map (finished_entry r) hs)
     ≡ total_size hs
 total_done r [] = refl
 total_done r (h ∷ hs) = let a = total_done r hs in let e = size_done r h.node in omega arith
@@ -71,24 +71,26 @@ after_new : (s : ℕ) (o : Option ℕ) → after_out s (new_out s o) ≡ after_o
 after_new s None = refl
 after_new s (Some j) = refl
 
-after_numbered : (s : ℕ) (f : Forest) → after s (numbered s f) ≡ after s f
+after_numbered : (s : ℕ) (f : Forest) → next_after s (numbered s f) ≡ next_after s f
 after_numbered s Bare = refl
 after_numbered s (Grow l kids rest) =
-    ap (λ (k : ℕ). after (after k (numbered (after_out s l.out) kids)) (numbered (after (after_out
+    ap (λ (k : ℕ). next_after (next_after k (numbered (after_out s l.out) kids))
+    (numbered (next_after (after_out
     s l.out) kids) rest)) (after_new s l.out)
-    ∙ ap (λ (k : ℕ). after k (numbered (after (after_out s l.out) kids) rest)) (after_numbered
+    ∙ ap (λ (k : ℕ). next_after k (numbered (next_after (after_out s l.out) kids) rest))
+    (after_numbered
     (after_out s l.out) kids)
-    ∙ after_numbered (after (after_out s l.out) kids) rest
+    ∙ after_numbered (next_after (after_out s l.out) kids) rest
 
 pub numbered_again : (s : ℕ) (f : Forest) → numbered s (numbered s f) ≡ numbered s f
 numbered_again s Bare = refl
 numbered_again s (Grow l kids rest) =
     let a : ℕ = after_out s l.out in
-    let c : ℕ = after a kids in
+    let c : ℕ = next_after a kids in
     ap (λ (m : Label). Grow m (numbered (after_out s (new_out s l.out)) (numbered a kids))
-    (numbered (after (after_out s (new_out s l.out)) (numbered a kids)) (numbered c rest)))
+    (numbered (next_after (after_out s (new_out s l.out)) (numbered a kids)) (numbered c rest)))
     (same_label s l)
-    ∙ ap (λ (k : ℕ). Grow (new_label s l) (numbered k (numbered a kids)) (numbered (after k
+    ∙ ap (λ (k : ℕ). Grow (new_label s l) (numbered k (numbered a kids)) (numbered (next_after k
     (numbered a kids)) (numbered c rest))) (after_new s l.out)
     ∙ ap (λ (k : ℕ). Grow (new_label s l) (numbered a (numbered a kids)) (numbered k (numbered c
     rest))) (after_numbered a kids)
@@ -105,7 +107,7 @@ length-map r [] = refl
 length-map r (d ∷ ds) = let i = length-map r ds in omega arith
 
 left_ok : (b : Cut) → (can : CanFuse b) → AllGrown b → IsCutOk b → (n : ℕ) (x : Node)
-    → node_at b.graph.nodes n ≡ Some x → AllByRecursion (OkNow b) (left_of b n x)
+    → node_at b.graph.nodes n ≡ Some x → AllByRecursion (OkNow b) (entries_left b n x)
 left_ok b can g fu n (Flatten ins) at =
     let a = all_found (λ e. IsNodeOk b.graph e.number e.node) b.graph.nodes n (Flatten ins) at
     fu.nodes in
@@ -117,10 +119,10 @@ left_ok b can g fu n (Pdo c f) at =
     all_cond (OkNow b) (leads b n c) (record {
       number = n;
       node =
-          Pdo c (forest_of b c);
+          Pdo c (forest_reading b c);
     }) (λ l found.
     record {
-      order = numbered_again 0 (forest_of b c);
+      order = numbered_again 0 (forest_reading b c);
       read = λ j h. outs_read b n c j can g (record { old = f; at = at; leads = l }) found h;
     })
 left_ok b can g fu n (Gbk c o l (Some k)) at = (
@@ -224,9 +226,9 @@ abbrev ObjectsNow : Cut → Entry → Type 0
 ObjectsNow b h = has_objects (nodes_now b) (reread (now b) (with_numbers h.node)) ≡ true
 
 left_objects : (b : Cut) → (can : CanFuse b) → AllGrown b → IsCutOk b → (n : ℕ) (x : Node)
-    → node_at b.graph.nodes n ≡ Some x → AllByRecursion (ObjectsNow b) (left_of b n x)
+    → node_at b.graph.nodes n ≡ Some x → AllByRecursion (ObjectsNow b) (entries_left b n x)
 left_objects b can g fu n (Pdo c f) at =
-    all_cond (ObjectsNow b) (leads b n c) (record { number = n; node = Pdo c (forest_of b c) })
+    all_cond (ObjectsNow b) (leads b n c) (record { number = n; node = Pdo c (forest_reading b c) })
     (λ i. refl)
 left_objects b can g fu n (Barrier ins o l d) at = (
   ap (takes_such d) (flags_reread (is_object_at (nodes_now b)) (is_object_at b.graph.nodes)
@@ -243,14 +245,15 @@ left_objects b can g fu n _ at = (refl, tt)
 
 -- ---- numbers
 pub joined_ascends : (b : Cut) (es : List Entry) → Ascends es
-    → Ascends (flat_map (λ e. left_of b e.number e.node) es)
+    → Ascends (flat_map (λ e. entries_left b e.number e.node) es)
 joined_ascends = joined_more (λ n m. n < m) Ascends tt (λ e es a u. (a, u)) (λ e es u. u)
 
 done_ascends : (r : Place → Place) (hs : List Entry) → Ascends hs
-    → Ascends (map (finished r) hs)
+    → Ascends (map (finished_entry r) hs)
 done_ascends r [] u = tt
 done_ascends r (h ∷ hs) u = (
-  all_map (finished r) (λ d. h.number < d.number) (λ d. h.number < d.number) (λ d a. a) hs u.0,
+  all_map (finished_entry r) (λ d. h.number < d.number) (λ d. h.number < d.number) (λ d a. a) hs
+      u.0,
   done_ascends r hs u.1,
 )
 
@@ -269,19 +272,20 @@ IsBlockedOk-fused_by b can fu =
       ok = record {
         founded = record {
           ascends = done_ascends (now b) hs fu.ascends;
-          below = all_map (finished (now b)) (λ (d : Entry). d.number < b.graph.next)
+          below = all_map (finished_entry (now b)) (λ (d : Entry). d.number < b.graph.next)
               (λ (d : Entry). d.number < b.graph.next) (λ d a. a) hs fu.below;
           there = sound.there;
           told = sound.told;
           ranked = sound.ranked;
         };
-        nodes = all_map (finished (now b)) (λ h. IsNodeOk (graph_now b) h.number (reread (now b)
+        nodes =
+            all_map (finished_entry (now b)) (λ h. IsNodeOk (graph_now b) h.number (reread (now b)
             (with_numbers h.node))) (λ e. IsNodeOk (graph_now b) e.number e.node) (λ e a. a) hs
             (Each-both (Here b) (OkNow b) (λ h. IsNodeOk (graph_now b) h.number (reread (now b)
             (with_numbers h.node))) (λ e a f. f a) hs (each_found hs (differ_joined b
             b.graph.nodes can.ok.differ)) (all_joined b (OkNow b) (left_ok b can g fu)
             b.graph.nodes (each_found b.graph.nodes can.ok.differ)));
-        objects = all_map (finished (now b)) (ObjectsNow b)
+        objects = all_map (finished_entry (now b)) (ObjectsNow b)
             (λ e. has_objects (nodes_now b) e.node ≡ true) (λ e a. a) hs
             (all_joined b (ObjectsNow b) (left_objects b can g fu) b.graph.nodes
             (each_found b.graph.nodes can.ok.differ));

@@ -13,7 +13,7 @@ use Rattle.exec_graph.proofs.Entries.{all_found}
 use Rattle.exec_graph.proofs.Solving.{each_found}
 use Rattle.pardo_fuse.specs.Readers.{Cut, any_node, is_pdo, is_kept, readers}
 use Rattle.pardo_fuse.specs.Fusing.{holds_out, leads, out_number}
-use Rattle.pardo_fuse.specs.SingleFusing.{CanFuse, forest_of, joined_nodes, keeps_output, left_of, new_place}
+use Rattle.pardo_fuse.specs.SingleFusing.{CanFuse, forest_reading, joined_nodes, keeps_output, entries_left, new_place}
 use Rattle.pardo_fuse.proofs.Counting.{one_if, hit, times, sum_append}
 use Rattle.pardo_fuse.proofs.Places.{pdo_is, place_is}
 use Rattle.pardo_fuse.proofs.Partition.{numbers}
@@ -109,14 +109,14 @@ not_alone b p n x h at not t = by (eqb n p) refl
 
 left_has : (b : Cut) (p : ℕ) → AllGrown b → is_pdo (node_at b.graph.nodes p) ≡ true
     → keeps_output b p ≡ true → (n : ℕ) (x : Node) → node_at b.graph.nodes n ≡ Some x
-    → 0 < times p (left_numbers b n x) → any_node (holds_out p) (left_of b n x) ≡ true
+    → 0 < times p (left_numbers b n x) → any_node (holds_out p) (entries_left b n x) ≡ true
 left_has b p g h k n (Pdo c f) at t = by (leads b n c) t
   where
     by : (r : Bool) → 0 < times p (cond r (numbers (all_of b c)) [])
         → any_node (holds_out p) (cond r ((record {
           number = n;
           node =
-              Pdo c (forest_of b c);
+              Pdo c (forest_reading b c);
         }) ∷ []) []) ≡ true
     by true t = rw (times_has b p k (readers b.graph.nodes c) (all_of b c) (g c) t) refl
     by false t = absurd (omega arith)
@@ -124,20 +124,23 @@ left_has b p g h k n x at t = absurd (not_alone b p n x h at refl t)
 
 any_left : (b : Cut) (p : ℕ) → AllGrown b → is_pdo (node_at b.graph.nodes p) ≡ true
     → keeps_output b p ≡ true → (es : List Entry) → Found b es → 0 < times p (all_left b es)
-    → any_node (holds_out p) (flat_map (λ e. left_of b e.number e.node) es) ≡ true
+    → any_node (holds_out p) (flat_map (λ e. entries_left b e.number e.node) es) ≡ true
 any_left b p g h k [] fo t = absurd (omega arith)
 any_left b p g h k (e ∷ es) fo t =
-    any_append (holds_out p) (left_of b e.number e.node) (flat_map (λ e. left_of b e.number e.node)
+    any_append (holds_out p) (entries_left b e.number e.node)
+    (flat_map (λ e. entries_left b e.number e.node)
     es)
     ∙ by (any_left b p g h k es fo.1) (times p (left_numbers b e.number e.node)) refl
   where
-    by : (0 < times p (all_left b es) → any_node (holds_out p) (flat_map (λ e. left_of b e.number
+    by : (0 < times p (all_left b es) → any_node (holds_out p)
+        (flat_map (λ e. entries_left b e.number
         e.node) es) ≡ true) → (n : ℕ) → n ≡ times p (left_numbers b e.number e.node)
-        → (any_node (holds_out p) (left_of b e.number e.node) || any_node (holds_out p) (flat_map
-        (λ e. left_of b e.number e.node) es)) ≡ true
+        → (any_node (holds_out p) (entries_left b e.number e.node) || any_node (holds_out p)
+        (flat_map
+        (λ e. entries_left b e.number e.node) es)) ≡ true
     by f zero i = let x = sum_append (hit p) (left_numbers b e.number e.node) (all_left b es) in
-        right (any_node (holds_out p) (left_of b e.number e.node)) (any_node (holds_out p)
-        (flat_map (λ e. left_of b e.number e.node) es)) (f (omega arith))
+        right (any_node (holds_out p) (entries_left b e.number e.node)) (any_node (holds_out p)
+        (flat_map (λ e. entries_left b e.number e.node) es)) (f (omega arith))
     by f (suc n) i = rw (left_has b p g h k e.number e.node fo.0 (omega arith)) refl
 
 -- A Pdo whose output is kept keeps it in one of the joined nodes.
@@ -154,14 +157,14 @@ lacks false f = refl
 
 left_lacks : (b : Cut) (p : ℕ) → AllGrown b → Found b b.graph.nodes
     → is_pdo (node_at b.graph.nodes p) ≡ false → (n : ℕ) (x : Node) → node_at b.graph.nodes n
-    ≡ Some x → AllByRecursion (λ h. holds_out p h.node ≡ false) (left_of b n x)
+    ≡ Some x → AllByRecursion (λ h. holds_out p h.node ≡ false) (entries_left b n x)
 left_lacks b p g fo not n (Pdo c f) at =
     all_cond (λ h. holds_out p h.node ≡ false) (leads b n c) (record {
       number = n;
       node =
-          Pdo c (forest_of b c);
+          Pdo c (forest_reading b c);
     })
-    (λ i. lacks (has_out p (forest_of b c)) (λ q. false≢true (sym not
+    (λ i. lacks (has_out p (forest_reading b c)) (λ q. false≢true (sym not
     ∙ outs_pdos b p fo (readers b.graph.nodes c) (all_of b c) (g c) (pdos b c (readers
     b.graph.nodes c) (all_readers b c b.graph.nodes fo)) (has_pruned (keeps_output b) (all_of b
     c) p q))))
@@ -182,12 +185,12 @@ no_joined b p can g not =
 -- What is a Pdo now was one.
 left_pdos : (b : Cut) (n : ℕ) (x : Node) → node_at b.graph.nodes n ≡ Some x
     → AllByRecursion (λ h. is_pdo (Some h.node) ≡ true → is_pdo (node_at b.graph.nodes h.number)
-    ≡ true) (left_of b n x)
+    ≡ true) (entries_left b n x)
 left_pdos b n (Pdo c f) at = all_cond (λ h. is_pdo (Some h.node) ≡ true
     → is_pdo (node_at b.graph.nodes h.number) ≡ true) (leads b n c) (record {
       number = n;
       node =
-          Pdo c (forest_of b c);
+          Pdo c (forest_reading b c);
     }) (λ i h. ap is_pdo at)
 left_pdos b n _ at = (λ h. absurd (false≢true h), tt)
 

@@ -18,7 +18,7 @@ use Rattle.pardo_fuse.specs.Readers.{Cut, cut_of}
 use Rattle.pardo_fuse.specs.inner.Numbers.{least_from}
 use Rattle.pardo_fuse.specs.Parting.{parted, parted_graph}
 use Rattle.pardo_fuse.specs.Fusing.{fused, fused_by_parents, least_of}
-use Rattle.pardo_fuse.specs.Renumbering.{at_number, in_order, renumbered, renumbered_entry}
+use Rattle.pardo_fuse.specs.Renumbering.{at_number, entries_in_order, renumbered, renumbered_entry}
 use Rattle.pardo_fuse.specs.SingleFusing.{fused_by}
 use Rattle.pardo_fuse.proofs.Rejoining.{joined_is}
 use Rattle.pardo_fuse.specs.Wellformed.{HasLaterKids, IsFusible, IsSettled}
@@ -130,8 +130,8 @@ pub same_numbers : (b : Blocked) → Ascends b.graph.nodes → (l : ℕ → ℕ)
 same_numbers b u l e =
     let r : ℕ → ℕ = λ n. n in
     let es : List Entry = b.graph.nodes in
-    let nodes : in_order (map (renumbered_entry r) es) ≡ es =
-    ap in_order (same_entries es) ∙ order_same es u in
+    let nodes : entries_in_order (map (renumbered_entry r) es) ≡ es =
+    ap entries_in_order (same_entries es) ∙ order_same es u in
     ap (λ (f : ℕ → ℕ). renumbered f b) (λ i. λ n. e n i)
     ∙ ap (λ (x : List Entry). made b.graph.next x (map (at_number r) b.graph.outputs)
     (map (at_number r) b.marks)) nodes

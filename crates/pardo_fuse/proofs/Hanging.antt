@@ -3,7 +3,7 @@ use Rattle.std.proofs.Common.{◌≡◌, ℕ, ◌+◌, ◌%◌, ◌^◌, ◌<◌
 use Rattle.std.proofs.lemmas.Bool.{eqb-true}
 use Rattle.std.specs.List.{AllByRecursion}
 use Rattle.flume_value.proofs.EachLemmas.{Each-weaker}
-use Rattle.exec_graph.specs.Forests.{Label, Forest, Bare, Grow, after, after_out, new_label, new_out, numbered, with_out}
+use Rattle.exec_graph.specs.Forests.{Label, Forest, Bare, Grow, next_after, after_out, new_label, new_out, numbered, with_out}
 use Rattle.exec_graph.specs.Meaning.{node_at, reads, place, is_out, has_out, gives, gives_at, IsThere, IsRankedBy}
 use Rattle.exec_graph.specs.Places.{code}
 use Rattle.exec_graph.specs.Wellformed.{IsNodeOk}
@@ -17,12 +17,12 @@ use Rattle.exec_graph.specs.declared.graph.Blocked.{Blocked}
 use Rattle.exec_graph.proofs.Entries.{all_found}
 use Rattle.exec_graph.proofs.Numbered.{IsWithin, numbered_within}
 use Rattle.exec_graph.proofs.Solving.{place_of, lower_most, short_ranked, there_found, each_found}
-use Rattle.graph_laws.specs.Kids.{kept_by, number_in, out_kept}
+use Rattle.graph_laws.specs.Kids.{kept_by, number_after, out_kept}
 use Rattle.graph_laws.specs.Single.{HasSteps, most_outputs, width}
 use Rattle.pardo_fuse.specs.Readers.{Cut, cut_of, is_inner, is_kept, is_pdo}
-use Rattle.pardo_fuse.specs.Parting.{part_number, sole, part_place, parted_nodes, parted}
-use Rattle.pardo_fuse.specs.Fusing.{forest_over, hanging, hung, in_turn, kids_on, named, step_in}
-use Rattle.pardo_fuse.specs.SingleFusing.{forest_of, keeps_output, kids_of, planted, step_at, step_of, trees}
+use Rattle.pardo_fuse.specs.Parting.{part_number, sole_output, part_place, parted_nodes, parted}
+use Rattle.pardo_fuse.specs.Fusing.{forest_over, hanging, hung, trees_in_turn, kids_on, name_for, step_in}
+use Rattle.pardo_fuse.specs.SingleFusing.{forest_reading, keeps_output, kids_of, planted, step_at, step_of, trees}
 use Rattle.pardo_fuse.specs.Wellformed.{IsFusible}
 use Rattle.pardo_fuse.proofs.Chaining.{grown_one}
 use Rattle.pardo_fuse.proofs.Levels.{all_grown, grown_trees, readers_above}
@@ -35,12 +35,12 @@ use Rattle.pardo_fuse.proofs.Unparting.{CanPart, label_found, part_label, parts_
 
 -- ---- outputs have small numbers
 
-row_after : (s i : ℕ) (f : Forest) → IsRow i f → after s f ≤ s + width f
+row_after : (s i : ℕ) (f : Forest) → IsRow i f → next_after s f ≤ s + width f
 row_after s i Bare r = omega arith
 row_after s i (Grow l kids rest) r =
-    let e : after (after_out s l.out) kids ≡ after_out s l.out =
-    ap (after (after_out s l.out)) r.1 in
-    let h = row_after (after (after_out s l.out) kids) (suc i) rest r.2 in
+    let e : next_after (after_out s l.out) kids ≡ after_out s l.out =
+    ap (next_after (after_out s l.out)) r.1 in
+    let h = row_after (next_after (after_out s l.out) kids) (suc i) rest r.2 in
     let o : after_out s l.out ≤ s + 1 = by l.out in
     omega arith
   where
@@ -63,7 +63,7 @@ small_out a fu c t = let x = there_found a.graph.nodes c t in by x.0 x.1 x.2
         (Pdo d f) at fu.narrow in
         let ok = all_found (λ (e : Entry). IsNodeOk a.graph e.number e.node) a.graph.nodes c.node
         (Pdo d f) at fu.ok.ok.nodes in
-        let b : IsWithin 0 (after 0 f) c.out =
+        let b : IsWithin 0 (next_after 0 f) c.out =
         numbered_within 0 f c.out
         (subst (λ (x : Forest). has_out c.out x ≡ true) (sym ok.order) h) in
         let u = row_after 0 0 f row in
@@ -107,14 +107,15 @@ out_new a s None (Some y) h = absurd h
 out_new a s (Some x) None h = absurd h
 out_new a s (Some x) (Some y) h = refl
 
-matched_after : (a : Blocked) (s : ℕ) (f h : Forest) → Matches a f h → after s f ≡ after s h
+matched_after : (a : Blocked) (s : ℕ) (f h : Forest) → Matches a f h
+    → next_after s f ≡ next_after s h
 matched_after a s Bare Bare e = refl
 matched_after a s Bare (Grow m others more) e = absurd e
 matched_after a s (Grow l kids rest) Bare e = absurd e
 matched_after a s (Grow l kids rest) (Grow m others more) e =
-    ap (λ (x : ℕ). after (after x kids) rest) (out_after a s l.out m.out e.1)
-    ∙ ap (λ (x : ℕ). after x rest) (matched_after a (after_out s m.out) kids others e.2)
-    ∙ matched_after a (after (after_out s m.out) others) rest more e.3
+    ap (λ (x : ℕ). next_after (next_after x kids) rest) (out_after a s l.out m.out e.1)
+    ∙ ap (λ (x : ℕ). next_after x rest) (matched_after a (after_out s m.out) kids others e.2)
+    ∙ matched_after a (next_after (after_out s m.out) others) rest more e.3
 
 pub matched_numbered : (a : Blocked) (s : ℕ) (f h : Forest) → Matches a f h
     → numbered s f ≡ numbered s h
@@ -128,14 +129,14 @@ matched_numbered a s (Grow l kids rest) (Grow m others more) e =
     let label : new_label s l ≡ new_label s m =
     e.0 (new_out s l.out)
     ∙ ap (λ (o : Option ℕ). let q : Label = with_out o m in q) (out_new a s l.out m.out e.1) in
-    ap (λ (n : Label). Grow n (numbered x kids) (numbered (after x kids) rest)) label
-    ∙ ap (λ (n : ℕ). Grow (new_label s m) (numbered n kids) (numbered (after n kids) rest)) z
+    ap (λ (n : Label). Grow n (numbered x kids) (numbered (next_after x kids) rest)) label
+    ∙ ap (λ (n : ℕ). Grow (new_label s m) (numbered n kids) (numbered (next_after n kids) rest)) z
     ∙ ap (λ (n : ℕ). Grow (new_label s m) (numbered y kids) (numbered n rest))
     (matched_after a y kids others e.2)
-    ∙ ap (λ (t : Forest). Grow (new_label s m) t (numbered (after y others) rest))
+    ∙ ap (λ (t : Forest). Grow (new_label s m) t (numbered (next_after y others) rest))
     (matched_numbered a y kids others e.2)
     ∙ ap (λ (t : Forest). Grow (new_label s m) (numbered y others) t)
-    (matched_numbered a (after y others) rest more e.3)
+    (matched_numbered a (next_after y others) rest more e.3)
 
 -- Where c is, is where its part is.
 abbrev pub Seeks : Blocked → Place → ℕ → Type 0
@@ -161,7 +162,7 @@ matched_has a c q s (Grow l kids rest) (Grow m others more) e =
     ) refl
 
 pub matched_number : (a : Blocked) (c : Place) (q : ℕ) → Seeks a c q → (s : ℕ) (f h : Forest)
-    → Matches a f h → number_in s f (code c) ≡ number_in s h q
+    → Matches a f h → number_after s f (code c) ≡ number_after s h q
 matched_number a c q k s Bare Bare e = refl
 matched_number a c q k s Bare (Grow m others more) e = absurd e
 matched_number a c q k s (Grow l kids rest) Bare e = absurd e
@@ -169,24 +170,24 @@ matched_number a c q k s (Grow l kids rest) (Grow m others more) e =
     let x : ℕ = after_out s l.out in
     let y : ℕ = after_out s m.out in
     let z : x ≡ y = out_after a s l.out m.out e.1 in
-    let u : after x kids ≡ after y others =
-    ap (λ (n : ℕ). after n kids) z ∙ matched_after a y kids others e.2 in
-    ap (λ (b : Bool). cond b s (cond (has_out (code c) kids) (number_in x kids (code c))
-    (number_in (after x kids) rest (code c)))) (out_seeks a c q k l.out m.out e.1)
-    ∙ ap (λ (b : Bool). cond (is_out m.out q) s (cond b (number_in x kids (code c))
-    (number_in (after x kids) rest (code c)))) (matched_has a c q k kids others e.2)
+    let u : next_after x kids ≡ next_after y others =
+    ap (λ (n : ℕ). next_after n kids) z ∙ matched_after a y kids others e.2 in
+    ap (λ (b : Bool). cond b s (cond (has_out (code c) kids) (number_after x kids (code c))
+    (number_after (next_after x kids) rest (code c)))) (out_seeks a c q k l.out m.out e.1)
+    ∙ ap (λ (b : Bool). cond (is_out m.out q) s (cond b (number_after x kids (code c))
+    (number_after (next_after x kids) rest (code c)))) (matched_has a c q k kids others e.2)
     ∙ ap (λ (n : ℕ). cond (is_out m.out q) s (cond (has_out q others) n
-    (number_in (after x kids) rest (code c))))
-    (ap (λ (n : ℕ). number_in n kids (code c)) z ∙ matched_number a c q k y kids others e.2)
-    ∙ ap (λ (n : ℕ). cond (is_out m.out q) s (cond (has_out q others) (number_in y others q) n))
-    (ap (λ (n : ℕ). number_in n rest (code c)) u
-    ∙ matched_number a c q k (after y others) rest more e.3)
+    (number_after (next_after x kids) rest (code c))))
+    (ap (λ (n : ℕ). number_after n kids (code c)) z ∙ matched_number a c q k y kids others e.2)
+    ∙ ap (λ (n : ℕ). cond (is_out m.out q) s (cond (has_out q others) (number_after y others q) n))
+    (ap (λ (n : ℕ). number_after n rest (code c)) u
+    ∙ matched_number a c q k (next_after y others) rest more e.3)
 
 -- ---- the forests match
 
 site_named : (a : Blocked) → CanMark a → (n : ℕ) (c : Place) (f : Forest)
     → node_at a.graph.nodes n ≡ Some (Pdo c f)
-    → EachLabel (λ l. OutMatch a (named (cut_of a) n l.out)
+    → EachLabel (λ l. OutMatch a (name_for (cut_of a) n l.out)
     (out_kept (keeps_output (cut_of (parted a))) (Some (part_number a.graph.next n l.at)))) f
 site_named a m n c f at =
     let g : Graph = a.graph in
@@ -195,7 +196,7 @@ site_named a m n c f at =
     → same_place (place (q l) 0) (part_place g d) ≡ false)
     (λ l. (j : ℕ) → l.out ≡ Some j
     → (part_place g (place n j) ≡ place (q l) 0) × IsThere g.nodes (place n j))
-    (λ l. OutMatch a (named (cut_of a) n l.out)
+    (λ l. OutMatch a (name_for (cut_of a) n l.out)
     (out_kept (keeps_output (cut_of (parted a))) (Some (q l))))
     (λ l none some. by l.out (q l) (λ e d t. none e d t) (λ j e. some j e))
     f (missed g m.can n c f at)
@@ -234,7 +235,7 @@ site_named a m n c f at =
         → same_place (place q 0) (part_place a.graph d) ≡ false)
         → ((j : ℕ) → o ≡ Some j
         → (part_place a.graph (place n j) ≡ place q 0) × IsThere a.graph.nodes (place n j))
-        → OutMatch a (named (cut_of a) n o)
+        → OutMatch a (name_for (cut_of a) n o)
         (cond (keeps_output (cut_of (parted a)) q) (Some q) None)
     by None q none some =
         subst (λ (b : Bool). OutMatch a None (cond b (Some q) None))
@@ -250,11 +251,12 @@ Over a over tree n l =
 
 abbrev IsStepOf : Blocked → ℕ → Label → Type 0
 IsStepOf a n l = (c : Place)
-    × (node_at (parted_nodes a.graph) (part_number a.graph.next n l.at) ≡ Some (Pdo c (sole l)))
+    × (node_at (parted_nodes a.graph) (part_number a.graph.next n l.at) ≡ Some
+    (Pdo c (sole_output l)))
 
 row_matches : (a : Blocked) (n : ℕ) (over : Option ℕ → Forest) (tree : ℕ → Forest) (f : Forest)
     (rest : Forest) (ns : List ℕ)
-    → EachLabel (λ l. OutMatch a (named (cut_of a) n l.out)
+    → EachLabel (λ l. OutMatch a (name_for (cut_of a) n l.out)
     (out_kept (keeps_output (cut_of (parted a))) (Some (part_number a.graph.next n l.at)))) f
     → EachLabel (IsStepOf a n) f → EachLabel (Over a over tree n) f
     → Matches a rest (kept_by (keeps_output (cut_of (parted a)))
@@ -273,7 +275,7 @@ steps_found : (a : Blocked) → CanMark a → (n : ℕ) (c : Place) (f : Forest)
     → node_at a.graph.nodes n ≡ Some (Pdo c f) → EachLabel (IsStepOf a n) f
 steps_found a m n c f at =
     label_weaker (λ l. node_at (parted_nodes a.graph) (part_number a.graph.next n l.at)
-    ≡ Some (Pdo (part_place a.graph c) (sole l))) (IsStepOf a n)
+    ≡ Some (Pdo (part_place a.graph c) (sole_output l))) (IsStepOf a n)
     (λ l e. (part_place a.graph c, e)) f
     (label_found a.graph m.can n c f at)
 
@@ -293,7 +295,8 @@ turn_matches : (a : Blocked) → CanMark a → (tree : ℕ → Forest) (over : �
     → EachLabel (Over a (over n) tree n) f)
     → (ns : List ℕ) → AllByRecursion (IsPdoAt a.graph) ns
     → Matches a
-    (in_turn (λ n rest. hung (cut_of a) n (over n) (step_in (node_at a.graph.nodes n)) rest) ns)
+    (trees_in_turn (λ n rest. hung (cut_of a) n (over n) (step_in (node_at a.graph.nodes n)) rest)
+    ns)
     (kept_by (keeps_output (cut_of (parted a)))
     (planted (step_at (cut_of (parted a))) tree (all_sites a.graph ns)))
 turn_matches a m tree over h [] p = tt
@@ -302,7 +305,8 @@ turn_matches a m tree over h (n ∷ ns) p =
     let f : Forest = p.0.1 in
     let at : node_at a.graph.nodes n ≡ Some (Pdo c f) = p.0.2 in
     let rest : Forest =
-    in_turn (λ n rest. hung (cut_of a) n (over n) (step_in (node_at a.graph.nodes n)) rest) ns in
+    trees_in_turn (λ n rest. hung (cut_of a) n (over n) (step_in (node_at a.graph.nodes n)) rest) ns
+    in
     subst (λ (o : Option Node). Matches a (hung (cut_of a) n (over n) (step_in o) rest)
     (kept_by (keeps_output (cut_of (parted a))) (planted (step_at (cut_of (parted a))) tree
     (outputs_of a.graph.next n (step_in o) ++ all_sites a.graph ns)))) (sym at)
@@ -364,7 +368,8 @@ levels_same a fu c =
 
 -- The forest over a collection.
 pub forest_matches : (a : Blocked) → IsFusible a → (c : Place) → IsThere a.graph.nodes c
-    → Matches a (forest_over (cut_of a) c) (forest_of (cut_of (parted a)) (part_place a.graph c))
+    → Matches a (forest_over (cut_of a) c) (forest_reading (cut_of (parted a))
+    (part_place a.graph c))
 forest_matches a fu c t =
     let g : Graph = a.graph in
     let m : CanMark a = can_mark a fu in

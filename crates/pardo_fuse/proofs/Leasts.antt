@@ -10,25 +10,26 @@ use Rattle.exec_graph.specs.declared.step.Output.{Output}
 use Rattle.exec_graph.specs.declared.graph.Entry.{Entry}
 use Rattle.graph_laws.specs.Joining.{beside}
 use Rattle.pardo_fuse.specs.Readers.{Cut}
-use Rattle.pardo_fuse.specs.Fusing.{least, least_at, least_of, lesser, members, over_outs}
-use Rattle.pardo_fuse.specs.Renumbering.{in_order, put_entry}
+use Rattle.pardo_fuse.specs.Fusing.{least_number, least_at, least_of, lesser_number, members, over_outs}
+use Rattle.pardo_fuse.specs.Renumbering.{entries_in_order, put_entry}
 use Rattle.pardo_fuse.specs.inner.Naming.{steps_at}
 use Rattle.pardo_fuse.specs.inner.Numbers.{least_from, members_at, place_before}
 use Rattle.pardo_fuse.proofs.Growing.{beside_limb}
 use Rattle.pardo_fuse.proofs.Places.{and_left, and_right}
 
 -- ---- lists one after another
-pub least_more : (n : ℕ) (xs ys : List ℕ) → least n (xs ++ ys) ≡ least (least n xs) ys
+pub least_more : (n : ℕ) (xs ys : List ℕ)
+    → least_number n (xs ++ ys) ≡ least_number (least_number n xs) ys
 least_more n [] ys = refl
-least_more n (x ∷ xs) ys = least_more (lesser n x) xs ys
+least_more n (x ∷ xs) ys = least_more (lesser_number n x) xs ys
 
 -- one part is done
 pub least_step : (start old new : ℕ) (whole left part rest : List ℕ) → left ≡ part ++ rest
-    → least old left ≡ least start whole → new ≡ least old part
-    → least new rest ≡ least start whole
+    → least_number old left ≡ least_number start whole → new ≡ least_number old part
+    → least_number new rest ≡ least_number start whole
 least_step start old new whole left part rest e h i =
-    ap (λ (n : ℕ). least n rest) i ∙ sym (least_more old part rest)
-    ∙ ap (least old) (sym e) ∙ h
+    ap (λ (n : ℕ). least_number n rest) i ∙ sym (least_more old part rest)
+    ∙ ap (least_number old) (sym e) ∙ h
 
 -- ---- Pdos one after another
 abbrev pub around : Cut → ℕ → ℕ → List ℕ
@@ -114,22 +115,23 @@ outs_left over i os o h e =
 
 -- the first output is done
 pub limb_begun : (over : Option ℕ → List ℕ) (start now : ℕ) (o : Option ℕ) (s : Branch)
-    (ts : List Twig) → now ≡ least start (over o) → o ≡ s.first.out → ts ≡ s.more
-    → least now (flat_map (λ (t : Twig). over t.out) ts)
-    ≡ least start (over_outs over (limb s Bare))
+    (ts : List Twig) → now ≡ least_number start (over o) → o ≡ s.first.out → ts ≡ s.more
+    → least_number now (flat_map (λ (t : Twig). over t.out) ts)
+    ≡ least_number start (over_outs over (limb s Bare))
 limb_begun over start now o s ts h e f =
     let rest : List Twig → List ℕ = λ us. flat_map (λ (t : Twig). over t.out) us in
-    ap (λ (n : ℕ). least n (rest ts)) (h ∙ ap (λ (p : Option ℕ). least start (over p)) e)
+    ap (λ (n : ℕ). least_number n (rest ts)) (h ∙ ap (λ (p : Option ℕ). least_number start (over p))
+    e)
     ∙ sym (least_more start (over s.first.out) (rest ts))
-    ∙ ap (λ (us : List Twig). least start (over s.first.out ++ rest us)) f
-    ∙ ap (least start) (sym (over_limb over s))
+    ∙ ap (λ (us : List Twig). least_number start (over s.first.out ++ rest us)) f
+    ∙ ap (least_number start) (sym (over_limb over s))
 
 -- ---- nodes put in order
 abbrev pub put_onto : List Entry → List Entry → List Entry
 put_onto [] ds = ds
 put_onto (e ∷ es) ds = put_entry e (put_onto es ds)
 
-pub onto_none : (es : List Entry) → put_onto es [] ≡ in_order es
+pub onto_none : (es : List Entry) → put_onto es [] ≡ entries_in_order es
 onto_none [] = refl
 onto_none (e ∷ es) = ap (put_entry e) (onto_none es)
 

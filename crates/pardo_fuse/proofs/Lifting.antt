@@ -15,8 +15,8 @@ use Rattle.exec_graph.proofs.Entries.{all_found}
 use Rattle.exec_graph.proofs.Solving.{each_found}
 use Rattle.pardo_fuse.specs.Readers.{Cut, same_place, among, calls_on, collects, any_node, is_pdo, is_inner, readers, those}
 use Rattle.graph_laws.specs.Kids.{kept_by}
-use Rattle.pardo_fuse.specs.Fusing.{finished, is_first, leads, with_numbers}
-use Rattle.pardo_fuse.specs.SingleFusing.{CanFuse, first_label, forest_of, Grown, joined_nodes, keeps_output, left_of, step_at, step_of}
+use Rattle.pardo_fuse.specs.Fusing.{finished_entry, is_first, leads, with_numbers}
+use Rattle.pardo_fuse.specs.SingleFusing.{CanFuse, first_label, forest_reading, Grown, joined_nodes, keeps_output, entries_left, step_at, step_of}
 use Rattle.exec_graph.specs.Wellformed.{IsLiftedOk, comb_at, comb_of, root_comb}
 use Rattle.pardo_fuse.proofs.Counting.{one_if, times, passes, times_those}
 use Rattle.pardo_fuse.proofs.Places.{same_is, same_self}
@@ -70,7 +70,7 @@ any_each t (e ∷ es) h = by (any_each t es) (t e.node) refl h
 
 any_mapped : (r : Place → Place) (t : Node → Bool) (hs : List Entry)
     → AllByRecursion (λ h. t (reread r (with_numbers h.node)) ≡ false) hs
-    → any_node t (map (finished r) hs) ≡ false
+    → any_node t (map (finished_entry r) hs) ≡ false
 any_mapped r t [] a = refl
 any_mapped r t (h ∷ hs) a = rw a.0 (any_mapped r t hs a.1)
 
@@ -108,7 +108,7 @@ left_collects : (b : Cut) (n : ℕ) → CanFuse b → AllGrown b → IsGbk b n
     → AllByRecursion (λ e. collects (place n 0) e.node ≡ false) b.graph.nodes
     → (m : ℕ) (x : Node) → node_at b.graph.nodes m ≡ Some x
     → AllByRecursion (λ h. collects (place n 0) (reread (now b) (with_numbers h.node))
-    ≡ false) (left_of b m x)
+    ≡ false) (entries_left b m x)
 left_collects b n can g k a m (Source s) at = (refl, tt)
 left_collects b n can g k a m (Flatten ins) at = (
   collects_back (now b) (place n 0) (Flatten ins) (all_only b n ins can g k (seen_left b can m
@@ -120,7 +120,7 @@ left_collects b n can g k a m (Pdo c f) at = all_cond (λ h. collects (place n 0
     (with_numbers h.node)) ≡ false) (leads b m c) (record {
       number = m;
       node =
-          Pdo c (forest_of b c);
+          Pdo c (forest_reading b c);
     }) (λ i. refl)
 left_collects b n can g k a m (Gbk d o l i) at = (
   collects_back (now b) (place n 0) (Gbk d o l i) (all_only b n (d ∷ []) can g k (seen_left b
@@ -139,7 +139,7 @@ left_collects b n can g k a m (Barrier ins i l d) at = (
 abbrev those_now : Cut → Place → List Entry → List ℕ
 those_now b c hs = those (λ x. calls_on c (reread (now b) (with_numbers x))) hs
 
-those_map : (b : Cut) (c : Place) (hs : List Entry) → readers (map (finished (now b)) hs) c
+those_map : (b : Cut) (c : Place) (hs : List Entry) → readers (map (finished_entry (now b)) hs) c
     ≡ those_now b c hs
 those_map b c [] = refl
 those_map b c (h ∷ hs) = ap (λ (l : List ℕ). cond (calls_on c (reread (now b) (with_numbers
@@ -169,14 +169,14 @@ Leading b n = (m : ℕ) (f : Forest) → node_at b.graph.nodes m ≡ Some (Pdo (
 
 left_calls : (b : Cut) (n : ℕ) → CanFuse b → AllGrown b → IsGbk b n → Leading b n
     → (m : ℕ) (x : Node) → node_at b.graph.nodes m ≡ Some x
-    → those_now b (place n 0) (left_of b m x) ≡ cond (calls_on (place n 0) x) (m ∷ []) []
+    → those_now b (place n 0) (entries_left b m x) ≡ cond (calls_on (place n 0) x) (m ∷ []) []
 left_calls b n can g k lead m (Pdo d f) at = by (leads b m d) (same_place (place n 0) d) refl refl
   where
     by : (r s : Bool) → leads b m d ≡ r → same_place (place n 0) d ≡ s
         → those_now b (place n 0) (cond r ((record {
           number = m;
           node =
-              Pdo d (forest_of b d);
+              Pdo d (forest_reading b d);
         }) ∷ []) []) ≡ cond s (m ∷ []) []
     by true s l e = ap (λ (t : Bool). cond t (m ∷ []) []) (calls_same b n d can g k (leads_seen b
         can m d f at l) s e)
@@ -188,19 +188,22 @@ left_calls b n can g k lead m (Pdo d f) at = by (leads b m d) (same_place (place
 left_calls b n can g k lead m _ at = refl
 
 readers_left : (b : Cut) (n : ℕ) → CanFuse b → AllGrown b → IsGbk b n → Leading b n
-    → (es : List Entry) → Found b es → those_now b (place n 0) (flat_map (λ e. left_of b e.number
+    → (es : List Entry) → Found b es
+    → those_now b (place n 0) (flat_map (λ e. entries_left b e.number
     e.node) es) ≡ readers es (place n 0)
 readers_left b n can g k lead [] fo = refl
 readers_left b n can g k lead (e ∷ es) fo =
-    those-append (λ x. calls_on (place n 0) (reread (now b) (with_numbers x))) (left_of b e.number
-    e.node) (flat_map (λ e. left_of b e.number e.node) es)
-    ∙ ap (λ l. l ++ those_now b (place n 0) (flat_map (λ e. left_of b e.number e.node) es))
+    those-append (λ x. calls_on (place n 0) (reread (now b) (with_numbers x)))
+    (entries_left b e.number
+    e.node) (flat_map (λ e. entries_left b e.number e.node) es)
+    ∙ ap (λ l. l ++ those_now b (place n 0) (flat_map (λ e. entries_left b e.number e.node) es))
     (left_calls b n can g k lead e.number e.node fo.0)
     ∙ by (calls_on (place n 0) e.node) (readers_left b n can g k lead es fo.1)
   where
-    by : (r : Bool) → those_now b (place n 0) (flat_map (λ e. left_of b e.number e.node) es)
+    by : (r : Bool) → those_now b (place n 0) (flat_map (λ e. entries_left b e.number e.node) es)
         ≡ readers es (place n 0) → cond r (e.number ∷ []) [] ++ those_now b (place n 0) (flat_map
-        (λ e. left_of b e.number e.node) es) ≡ cond r (e.number ∷ readers es (place n 0)) (readers
+        (λ e. entries_left b e.number e.node) es) ≡ cond r (e.number ∷ readers es
+        (place n 0)) (readers
         es (place n 0))
     by true i = ap (λ l. e.number ∷ l) i
     by false i = i

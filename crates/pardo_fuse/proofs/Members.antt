@@ -16,7 +16,7 @@ use Rattle.exec_graph.specs.declared.graph.Blocked.{Blocked}
 use Rattle.exec_graph.proofs.Entries.{all_found, all_map}
 use Rattle.exec_graph.proofs.Solving.{each_found}
 use Rattle.pardo_fuse.specs.Readers.{Cut, cut_of, is_inner, is_pdo}
-use Rattle.pardo_fuse.specs.Fusing.{finished, fused_by_parents, forest_over, is_first, joined_by, kept_nodes, kept_of, kids_on, leads, least, least_at, least_of, lesser, members, members_over, moved_to, over_outs, step_in}
+use Rattle.pardo_fuse.specs.Fusing.{finished_entry, fused_by_parents, forest_over, is_first, joined_by, kept_nodes, kept_of, kids_on, leads, least_number, least_at, least_of, lesser_number, members, members_over, moved_to, over_outs, step_in}
 use Rattle.pardo_fuse.proofs.Once.{Found}
 use Rattle.pardo_fuse.proofs.Reading.{IsReader, all_readers}
 use Rattle.pardo_fuse.proofs.OtherNumbers.{AreApart}
@@ -24,33 +24,33 @@ use Rattle.pardo_fuse.proofs.Seeing.{leads_outer}
 use Rattle.pardo_fuse.proofs.Settling.{first_only, leads_first}
 
 -- ---- the least
-picked : (P : ℕ → Type 0) (n q : ℕ) → P n → P q → P (lesser n q)
+picked : (P : ℕ → Type 0) (n q : ℕ) → P n → P q → P (lesser_number n q)
 picked P n q p r = by (ltb q n)
   where
     by : (b : Bool) → P (cond b q n)
     by true = r
     by false = p
 
-pub least_in : (P : ℕ → Type 0) (n : ℕ) (qs : List ℕ) → P n → Each P qs → P (least n qs)
+pub least_in : (P : ℕ → Type 0) (n : ℕ) (qs : List ℕ) → P n → Each P qs → P (least_number n qs)
 least_in P n [] p a = p
-least_in P n (q ∷ qs) p a = least_in P (lesser n q) qs (picked P n q p a.0) a.1
+least_in P n (q ∷ qs) p a = least_in P (lesser_number n q) qs (picked P n q p a.0) a.1
 
-lesser_low : (n q : ℕ) → lesser n q ≤ n
+lesser_low : (n q : ℕ) → lesser_number n q ≤ n
 lesser_low n q = by (ltb q n) refl
   where
     by : (b : Bool) → ltb q n ≡ b → cond b q n ≤ n
     by true i = let less : q < n = ltb-true q n i in omega arith
     by false i = omega arith
 
-pub least_low : (n : ℕ) (qs : List ℕ) → least n qs ≤ n
+pub least_low : (n : ℕ) (qs : List ℕ) → least_number n qs ≤ n
 least_low n [] = omega arith
 least_low n (q ∷ qs) =
-    let i = least_low (lesser n q) qs in let j = lesser_low n q in omega (arith, i, j)
+    let i = least_low (lesser_number n q) qs in let j = lesser_low n q in omega (arith, i, j)
 
-pub least_same : (n : ℕ) (qs : List ℕ) → Each (λ q. n ≤ q) qs → least n qs ≡ n
+pub least_same : (n : ℕ) (qs : List ℕ) → Each (λ q. n ≤ q) qs → least_number n qs ≡ n
 least_same n [] a = refl
 least_same n (q ∷ qs) a =
-    ap (λ (b : Bool). least (cond b q n) qs) (le-ltb q n a.0) ∙ least_same n qs a.1
+    ap (λ (b : Bool). least_number (cond b q n) qs) (le-ltb q n a.0) ∙ least_same n qs a.1
 
 -- ---- what holds of all members
 each_flat : (P Q : ℕ → Type 0) (f : ℕ → List ℕ) → ((n : ℕ) → Q n → Each P (f n)) → (ns : List ℕ)
@@ -164,10 +164,10 @@ pub record IsLeading (b : Cut) (n : ℕ) : Type 0 where
   pub leads : leads b n source ≡ true
 
 least_leading : (b : Cut) (n : ℕ) (w : IsLeading b n)
-    → least_of b n ≡ least n (members_over b w.source)
+    → least_of b n ≡ least_number n (members_over b w.source)
 least_leading b n w =
     ap (least_at b n) w.at
-    ∙ ap (λ (t : Bool). cond t (least n (members_over b w.source)) n) w.leads
+    ∙ ap (λ (t : Bool). cond t (least_number n (members_over b w.source)) n) w.leads
 
 least_begins : (b : Cut) (n : ℕ) → Found b b.graph.nodes → (w : IsLeading b n)
     → BeginsAt b w.source (least_of b n)
@@ -193,7 +193,7 @@ low_least b n = by (node_at b.graph.nodes n)
     by : (o : Option Node) → least_at b n o ≤ n
     by (Some (Pdo c f)) = led (leads b n c)
       where
-        led : (t : Bool) → cond t (least n (members_over b c)) n ≤ n
+        led : (t : Bool) → cond t (least_number n (members_over b c)) n ≤ n
         led true = least_low n (members_over b c)
         led false = omega arith
     by _ = omega arith
@@ -228,7 +228,7 @@ unfolding joined_by
 left_by_parents a d =
     let b : Cut = cut_of a in
     let P : Entry → Type 0 = λ h. IsLeft b h.number in
-    all_map (finished (moved_to (kept_nodes b))) P P (λ h p. p) (kept_nodes b)
+    all_map (finished_entry (moved_to (kept_nodes b))) P P (λ h p. p) (kept_nodes b)
     (all_kept b (IsLeft b) (of_left b) b.graph.nodes (each_found b.graph.nodes d))
 
 least_apart : (b : Cut) (n m : ℕ) → Found b b.graph.nodes → IsLeft b n → IsLeft b m
@@ -300,7 +300,7 @@ least_stays b u d late n = by (node_at b.graph.nodes n)
     by : (o : Option Node) → least_at b n o ≡ n
     by (Some (Pdo c f)) = led (leads b n c) refl
       where
-        led : (t : Bool) → leads b n c ≡ t → cond t (least n (members_over b c)) n ≡ n
+        led : (t : Bool) → leads b n c ≡ t → cond t (least_number n (members_over b c)) n ≡ n
         led true i =
             least_same n (members_over b c)
             (members_each b (λ q. n ≤ q) (each_found b.graph.nodes d)

@@ -19,7 +19,7 @@ use Rattle.graph_laws.specs.Joining.{reread}
 use Rattle.pardo_fuse.specs.Readers.{Cut, cut_of, is_pdo}
 use Rattle.pardo_fuse.specs.Parting.{part_number, part_at, at_of, part_place, parted_nodes, parted}
 use Rattle.pardo_fuse.specs.Fusing.{forest_over, holds_out, kept_nodes, kept_of, leads, moved_to, out_number}
-use Rattle.pardo_fuse.specs.SingleFusing.{CanFuse, forest_of, joined_nodes, left_of, new_place}
+use Rattle.pardo_fuse.specs.SingleFusing.{CanFuse, forest_reading, joined_nodes, entries_left, new_place}
 use Rattle.pardo_fuse.specs.Wellformed.{IsFusible}
 use Rattle.pardo_fuse.proofs.Finding.{IsSeen, any_joined}
 use Rattle.pardo_fuse.proofs.Hanging.{IsSite, Matches, Seeks, can_mark, forest_matches, matched_has, matched_number, small_out}
@@ -99,14 +99,14 @@ alike_append a (d ∷ ds) (e ∷ es) xs ys h i = (h.0, h.1, alike_append a ds es
 node_alike : (a : Blocked) → IsFusible a → (n : ℕ) (x : Node)
     → AllByRecursion (IsThere a.graph.nodes) (reads x)
     → Alike a (kept_of (cut_of a) n x)
-    (left_of (cut_of (parted a)) n (reread (part_place a.graph) x))
+    (entries_left (cut_of (parted a)) n (reread (part_place a.graph) x))
 node_alike a fu n (Pdo c f) t =
     let g : Graph = a.graph in
     let p : Cut = cut_of (parted a) in
     let d : Place = part_place g c in
     subst (λ (b : Bool). Alike a (kept_of (cut_of a) n (Pdo c f)) (cond b (record {
       number = n;
-      node = Pdo d (forest_of p d);
+      node = Pdo d (forest_reading p d);
     } ∷ []) [])) (sym (leads_part a (can_mark a fu) n c t.0)) (by (leads (cut_of a) n c))
   where
     by : (b : Bool) → Alike a (cond b (record {
@@ -114,12 +114,12 @@ node_alike a fu n (Pdo c f) t =
       node = Pdo c (forest_over (cut_of a) c);
     } ∷ []) []) (cond b (record {
       number = n;
-      node = Pdo (part_place a.graph c) (forest_of (cut_of (parted a)) (part_place a.graph c));
+      node = Pdo (part_place a.graph c) (forest_reading (cut_of (parted a)) (part_place a.graph c));
     } ∷ []) [])
     by true = (
       refl,
       (
-        forest_of (cut_of (parted a)) (part_place a.graph c),
+        forest_reading (cut_of (parted a)) (part_place a.graph c),
         refl,
         forest_matches a fu c t.0,
       ),
@@ -131,14 +131,14 @@ node_alike a fu n _ t = (refl, refl, tt)
 all_alike : (a : Blocked) → IsFusible a → (es : List Entry)
     → AllByRecursion (λ (e : Entry). AllByRecursion (IsThere a.graph.nodes) (reads e.node)) es
     → Alike a (flat_map (λ (e : Entry). kept_of (cut_of a) e.number e.node) es)
-    (flat_map (λ (e : Entry). left_of (cut_of (parted a)) e.number
+    (flat_map (λ (e : Entry). entries_left (cut_of (parted a)) e.number
     (reread (part_place a.graph) e.node)) es)
 all_alike a fu [] t = tt
 all_alike a fu (e ∷ es) t =
     alike_append a (kept_of (cut_of a) e.number e.node)
-    (left_of (cut_of (parted a)) e.number (reread (part_place a.graph) e.node))
+    (entries_left (cut_of (parted a)) e.number (reread (part_place a.graph) e.node))
     (flat_map (λ (e : Entry). kept_of (cut_of a) e.number e.node) es)
-    (flat_map (λ (e : Entry). left_of (cut_of (parted a)) e.number
+    (flat_map (λ (e : Entry). entries_left (cut_of (parted a)) e.number
     (reread (part_place a.graph) e.node)) es)
     (node_alike a fu e.number e.node t.0) (all_alike a fu es t.1)
 

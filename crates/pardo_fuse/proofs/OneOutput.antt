@@ -20,7 +20,7 @@ use Rattle.pardo_fuse.specs.Readers.{cut_of}
 use Rattle.pardo_fuse.specs.Fusing.{fused, least_of}
 use Rattle.pardo_fuse.specs.Renumbering.{renumbered}
 use Rattle.pardo_fuse.specs.SingleFusing.{fused_by}
-use Rattle.pardo_fuse.specs.Parting.{part_number, sole, parts, parts_of, at_of, part_at, part_place, parted}
+use Rattle.pardo_fuse.specs.Parting.{part_number, sole_output, parts, parts_of_node, at_of, part_at, part_place, parted}
 use Rattle.pardo_fuse.specs.Wellformed.{IsFusible}
 use Rattle.pardo_fuse.proofs.Parting.{all_parts, first_number}
 use Rattle.pardo_fuse.proofs.Rejoining.{joined_is}
@@ -92,7 +92,7 @@ out_same (Some i) j e h =
     pick true h = refl
     pick false h = absurd (false≢true h)
 
-same_forest : (f : Forest) → (s : IsOneOutput f) → numbered 0 f ≡ f → sole s.label ≡ f
+same_forest : (f : Forest) → (s : IsOneOutput f) → numbered 0 f ≡ f → sole_output s.label ≡ f
 same_forest f s e = sym (ap (numbered 0) s.alone) ∙ e
 
 -- A collection that is there stays where it is.
@@ -135,7 +135,7 @@ map_id b ok one (c ∷ cs) a =
 part_self : (b : Blocked) → IsBlockedOk b → HasSingleOutputs b.graph → (n : ℕ) (x : Node)
     → HasSteps IsOneOutput x → IsNodeOk b.graph n x
     → AllByRecursion (IsThere b.graph.nodes) (reads x)
-    → parts_of b.graph.next n (reread (part_place b.graph) x)
+    → parts_of_node b.graph.next n (reread (part_place b.graph) x)
     ≡ (record { number = n; node = x }) ∷ []
 part_self b ok one n (Source r) s a t = refl
 part_self b ok one n (Flatten ins) s a t =
@@ -145,10 +145,15 @@ part_self b ok one n (Pdo c f) s a t =
     let g : Graph = b.graph in
     let l : Label = s.label in
     ap (λ (x : Forest). parts g.next n (part_place g c) x) s.alone
-    ∙ ap (λ (x : ℕ). let d : Entry = record { number = x; node = Pdo (part_place g c) (sole l) } in
+    ∙ ap (λ (x : ℕ). let d : Entry = record {
+      number = x;
+      node = Pdo (part_place g c)
+          (sole_output l);
+    } in
     d ∷ [])
     (ap (part_number g.next n) s.first ∙ first_number g.next n)
-    ∙ ap (λ (x : Place). let d : Entry = record { number = n; node = Pdo x (sole l) } in d ∷ [])
+    ∙ ap (λ (x : Place). let d : Entry = record { number = n; node = Pdo x (sole_output l) } in d ∷
+    [])
     (same_part b ok one c t.0)
     ∙ ap (λ (x : Forest). let d : Entry = record { number = n; node = Pdo c x } in d ∷ [])
     (same_forest f s a.order)

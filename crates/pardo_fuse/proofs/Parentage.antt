@@ -8,18 +8,19 @@ use Rattle.exec_graph.specs.declared.graph.Place.{Place}
 use Rattle.exec_graph.specs.declared.graph.Entry.{Entry}
 use Rattle.exec_graph.proofs.Solving.{place_of, lower_most, short_ranked}
 use Rattle.pardo_fuse.specs.Readers.{Cut, is_inner, readers}
-use Rattle.pardo_fuse.specs.Fusing.{forest_over, hanging, hung, in_turn, kids_on, over_out, step_in, trees_over}
+use Rattle.pardo_fuse.specs.Fusing.{forest_over, hanging, hung, trees_in_turn, kids_on, over_out, step_in, trees_over}
 use Rattle.pardo_fuse.proofs.Levels.{readers_above}
 
 turn_alike : (t u : ℕ → Forest → Forest) (ns : List ℕ)
-    → AllByRecursion (λ n. (rest : Forest) → t n rest ≡ u n rest) ns → in_turn t ns ≡ in_turn u ns
+    → AllByRecursion (λ n. (rest : Forest) → t n rest ≡ u n rest) ns
+    → trees_in_turn t ns ≡ trees_in_turn u ns
 turn_alike t u [] a = refl
-turn_alike t u (n ∷ ns) a = ap (t n) (turn_alike t u ns a.1) ∙ a.0 (in_turn u ns)
+turn_alike t u (n ∷ ns) a = ap (t n) (turn_alike t u ns a.1) ∙ a.0 (trees_in_turn u ns)
 
 -- the trees of the Pdos ns, where over says what stands over their outputs
 abbrev turns_with : Cut → (ℕ → Option ℕ → Forest) → List ℕ → Forest
 turns_with b over ns =
-    in_turn (λ n rest. hung b n (over n) (step_in (node_at b.graph.nodes n)) rest) ns
+    trees_in_turn (λ n rest. hung b n (over n) (step_in (node_at b.graph.nodes n)) rest) ns
 
 hung_alike : (b : Cut) (n : ℕ) (over under : Option ℕ → Forest)
     → ((o : Option ℕ) → over o ≡ under o) → (f rest : Forest)

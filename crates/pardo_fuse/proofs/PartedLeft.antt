@@ -16,9 +16,9 @@ use Rattle.exec_graph.proofs.Entries.{all_map}
 use Rattle.graph_laws.specs.Joining.{reread, reread_entry}
 use Rattle.graph_laws.specs.Single.{HasSteps, IsOneStep, most_outputs, width}
 use Rattle.pardo_fuse.specs.Readers.{Cut, cut_of}
-use Rattle.pardo_fuse.specs.Parting.{part_number, sole, parts, parts_of, part_place, parted_nodes, parted}
+use Rattle.pardo_fuse.specs.Parting.{part_number, sole_output, parts, parts_of_node, part_place, parted_nodes, parted}
 use Rattle.pardo_fuse.specs.Fusing.{is_first, leads}
-use Rattle.pardo_fuse.specs.SingleFusing.{forest_of, joined_nodes, left_of}
+use Rattle.pardo_fuse.specs.SingleFusing.{forest_reading, joined_nodes, entries_left}
 use Rattle.pardo_fuse.specs.Wellformed.{IsFusible}
 use Rattle.pardo_fuse.proofs.Lifting.{those-append}
 use Rattle.pardo_fuse.proofs.Settling.{leads_first}
@@ -36,7 +36,7 @@ first_cases P q (x ∷ xs) ys h f g = f h
 
 part_first : (k n q : ℕ) (c : Place) (x : Node) (r : Place → Place) → n < k
     → HasSteps IsOneStep x
-    → is_first q (those (calls_on c) (parts_of k n (reread r x))) ≡ true → q < k
+    → is_first q (those (calls_on c) (parts_of_node k n (reread r x))) ≡ true → q < k
 part_first k n q c (Pdo d f) r l a h = by f (row_of f a) (same_place c (r d)) refl h
   where
     by : (f : Forest) → IsRow 0 f → (b : Bool) → same_place c (r d) ≡ b
@@ -61,9 +61,9 @@ pub first_low : (k q : ℕ) (c : Place) (r : Place → Place) (es : List Entry)
     → is_first q (readers (all_parts k r es) c) ≡ true → q < k
 first_low k q c r [] a s h = absurd (false≢true h)
 first_low k q c r (e ∷ es) a s h =
-    first_cases (q < k) q (those (calls_on c) (parts_of k e.number (reread r e.node)))
+    first_cases (q < k) q (those (calls_on c) (parts_of_node k e.number (reread r e.node)))
     (readers (all_parts k r es) c)
-    (ap (is_first q) (sym (those-append (calls_on c) (parts_of k e.number (reread r e.node))
+    (ap (is_first q) (sym (those-append (calls_on c) (parts_of_node k e.number (reread r e.node))
     (all_parts k r es))) ∙ h)
     (part_first k e.number q c e.node r a.0 s.0)
     (first_low k q c r es a.1 s.1)
@@ -77,13 +77,13 @@ leads_low b k r all e a s q c h = first_low k q c r all a s
 
 later_none : (b : Cut) (k n i : ℕ) (c : Place) (f : Forest) → n < k → IsRow (suc i) f
     → ((q : ℕ) → leads b q c ≡ true → q < k)
-    → flat_map (λ (h : Entry). left_of b h.number h.node) (parts k n c f) ≡ []
+    → flat_map (λ (h : Entry). entries_left b h.number h.node) (parts k n c f) ≡ []
 later_none b k n i c Bare l r h = refl
 later_none b k n i c (Grow m kids rest) l r h =
     ap (λ (t : Bool). cond t ((record {
       number = part_number k n m.at;
-      node = Pdo c (forest_of b c);
-    }) ∷ []) [] ++ flat_map (λ (h : Entry). left_of b h.number h.node) (parts k n c rest))
+      node = Pdo c (forest_reading b c);
+    }) ∷ []) [] ++ flat_map (λ (h : Entry). entries_left b h.number h.node) (parts k n c rest))
     (not_true (leads b (part_number k n m.at) c) (λ t.
     let q : ℕ = part_number k n m.at in
     let low : q < k = h q t in
@@ -95,8 +95,8 @@ later_none b k n i c (Grow m kids rest) l r h =
 
 left_parts : (b : Cut) (k n : ℕ) (x : Node) → n < k → HasSteps IsOneStep x
     → ((q : ℕ) (c : Place) → leads b q c ≡ true → q < k) → (r : Place → Place)
-    → flat_map (λ (h : Entry). left_of b h.number h.node) (parts_of k n (reread r x))
-    ≡ left_of b n (reread r x)
+    → flat_map (λ (h : Entry). entries_left b h.number h.node) (parts_of_node k n (reread r x))
+    ≡ entries_left b n (reread r x)
 left_parts b k n (Source s) l a h r = refl
 left_parts b k n (Flatten ins) l a h r = refl
 left_parts b k n (Pdo c f) l a h r = by f (row_of f a) filled
@@ -105,14 +105,15 @@ left_parts b k n (Pdo c f) l a h r = by f (row_of f a) filled
     filled e = let bad : ⊥ = let q = sym a.alone ∙ e in cc in bad
 
     by : (f : Forest) → IsRow 0 f → (f ≡ Bare → ⊥)
-        → flat_map (λ (h : Entry). left_of b h.number h.node) (parts k n (r c) f)
-        ≡ left_of b n (Pdo (r c) f)
+        → flat_map (λ (h : Entry). entries_left b h.number h.node) (parts k n (r c) f)
+        ≡ entries_left b n (Pdo (r c) f)
     by Bare w z = absurd (z refl)
     by (Grow m kids rest) w z =
-        ap (λ (xs : List Entry). left_of b (part_number k n m.at) (Pdo (r c) (sole m)) ++ xs)
+        ap (λ (xs : List Entry). entries_left b (part_number k n m.at) (Pdo (r c) (sole_output m))
+        ++ xs)
         (later_none b k n 0 (r c) rest l w.2 (λ q t. h q (r c) t))
-        ∙ append-nil (left_of b (part_number k n m.at) (Pdo (r c) (sole m)))
-        ∙ ap (λ (q : ℕ). left_of b q (Pdo (r c) (sole m)))
+        ∙ append-nil (entries_left b (part_number k n m.at) (Pdo (r c) (sole_output m)))
+        ∙ ap (λ (q : ℕ). entries_left b q (Pdo (r c) (sole_output m)))
         (ap (part_number k n) w.0 ∙ first_number k n)
 left_parts b k n (Gbk c o t m) l a h r = refl
 left_parts b k n (Barrier ins o y d) l a h r = refl
@@ -122,22 +123,22 @@ left_all : (b : Cut) (k : ℕ) (r : Place → Place) (es : List Entry)
     → AllByRecursion (λ (e : Entry). e.number < k) es
     → AllByRecursion (λ (e : Entry). HasSteps IsOneStep e.node) es
     → ((q : ℕ) (c : Place) → leads b q c ≡ true → q < k)
-    → flat_map (λ (h : Entry). left_of b h.number h.node) (all_parts k r es)
-    ≡ flat_map (λ (e : Entry). left_of b e.number (reread r e.node)) es
+    → flat_map (λ (h : Entry). entries_left b h.number h.node) (all_parts k r es)
+    ≡ flat_map (λ (e : Entry). entries_left b e.number (reread r e.node)) es
 left_all b k r [] a s h = refl
 left_all b k r (e ∷ es) a s h =
-    flat_map-append (λ (h : Entry). left_of b h.number h.node)
-    (parts_of k e.number (reread r e.node))
+    flat_map-append (λ (h : Entry). entries_left b h.number h.node)
+    (parts_of_node k e.number (reread r e.node))
     (all_parts k r es)
     ∙ ap (λ (xs : List Entry). xs
-    ++ flat_map (λ (h : Entry). left_of b h.number h.node) (all_parts k r es))
+    ++ flat_map (λ (h : Entry). entries_left b h.number h.node) (all_parts k r es))
     (left_parts b k e.number e.node a.0 s.0 h r)
-    ∙ ap (λ (xs : List Entry). left_of b e.number (reread r e.node) ++ xs)
+    ∙ ap (λ (xs : List Entry). entries_left b e.number (reread r e.node) ++ xs)
     (left_all b k r es a.1 s.1 h)
 
 pub joined_parted : (a : Blocked) → CanPart a.graph
     → joined_nodes (cut_of (parted a))
-    ≡ flat_map (λ (e : Entry). left_of (cut_of (parted a)) e.number
+    ≡ flat_map (λ (e : Entry). entries_left (cut_of (parted a)) e.number
     (reread (part_place a.graph) e.node))
     a.graph.nodes
 joined_parted a can =
@@ -166,7 +167,7 @@ row_size k n c (Grow l kids rest) i r hs =
     omega arith
 
 part_size : (k n : ℕ) (x : Node) (r : Place → Place) → HasSteps IsOneStep x → (hs : List Entry)
-    → total_size (parts_of k n (reread r x) ++ hs) ≡ size x + total_size hs
+    → total_size (parts_of_node k n (reread r x) ++ hs) ≡ size x + total_size hs
 part_size k n (Pdo c f) r a hs = row_size k n (r c) f 0 (row_of f a) hs
 part_size k n _ r a hs = refl
 
@@ -190,7 +191,7 @@ step_some (Grow l kids rest) r z =
 
 part_length : (k n : ℕ) (x : Node) (r : Place → Place) → HasSteps IsOneStep x
     → HasSteps (λ f. width f ≤ most_outputs) x
-    → length (parts_of k n (reread r x)) ≤ 8 * size x
+    → length (parts_of_node k n (reread r x)) ≤ 8 * size x
 part_length k n (Pdo c f) r a w =
     let e = row_length k n (r c) f in
     let s = step_some f (row_of f a) filled in
@@ -208,7 +209,7 @@ all_length k r [] a w = omega arith
 all_length k r (e ∷ es) a w =
     let i = all_length k r es a.1 w.1 in
     let p = part_length k e.number e.node r a.0 w.0 in
-    omega (arith, length-append (parts_of k e.number (reread r e.node)) (all_parts k r es))
+    omega (arith, length-append (parts_of_node k e.number (reread r e.node)) (all_parts k r es))
 
 pub few_parts : (b : Blocked) → IsFusible b → length (parted_nodes b.graph) < 2 ^ 32
 few_parts b fu =

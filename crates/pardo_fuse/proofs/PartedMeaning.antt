@@ -22,7 +22,7 @@ use Rattle.graph_laws.proofs.Joining.{map_reread, holds_reread}
 use Rattle.graph_laws.proofs.Numbering.{label_old}
 use Rattle.graph_laws.proofs.TypedGraphs.{types_reread}
 use Rattle.graph_laws.specs.Joining.{reread}
-use Rattle.pardo_fuse.specs.Parting.{part_number, sole, parts, parts_of, part_place, parted_nodes, parted_graph}
+use Rattle.pardo_fuse.specs.Parting.{part_number, sole_output, parts, parts_of_node, part_place, parted_nodes, parted_graph}
 use Rattle.pardo_fuse.proofs.Meaning.{IsSum, own_sum, traps_sum}
 use Rattle.pardo_fuse.proofs.Parting.{EachLabel, IsRow, all_parts, label_both, parts_each, row_of}
 use Rattle.pardo_fuse.proofs.Unparting.{CanPart, back, back_label, back_same, each_part, is_parted, step_at_node}
@@ -52,13 +52,17 @@ before_read g m can n c f at = ap m (is_parted g can c (there_node g can n (Pdo 
 parts_hold : (g : Graph) → CanPart g → (n : ℕ) (c : Place) (f : Forest)
     → node_at g.nodes n ≡ Some (Pdo c f) → (P : Entry → Type 0) (Q : Label → Type 0)
     → ((l : Label) → back g (place (part_number g.next n l.at) 0) ≡ place n (label_old l.out)
-    → Q l → P (record { number = part_number g.next n l.at; node = Pdo (part_place g c) (sole l) }))
-    → EachLabel Q f → AllByRecursion P (parts_of g.next n (reread (part_place g) (Pdo c f)))
+    → Q l
+    → P (record {
+      number = part_number g.next n l.at;
+      node = Pdo (part_place g c) (sole_output l);
+    }))
+    → EachLabel Q f → AllByRecursion P (parts_of_node g.next n (reread (part_place g) (Pdo c f)))
 parts_hold g can n c f at P Q holds a =
     let q : Label → ℕ = λ l. part_number g.next n l.at in
     parts_each P g.next n (part_place g c) f
     (label_both (λ l. back g (place (q l) 0) ≡ place n (label_old l.out)) Q
-    (λ l. P (record { number = q l; node = Pdo (part_place g c) (sole l) })) holds f
+    (λ l. P (record { number = q l; node = Pdo (part_place g c) (sole_output l) })) holds f
     (back_label g can n c f at) a)
 
 -- ---- each node holds
@@ -77,7 +81,7 @@ kept_sole m k n q (Some j) u e h = e ∙ h
 node_holds : (w : World) (g : Graph) (m : Place → Collection) → CanPart g → (n : ℕ) (x : Node)
     → node_at g.nodes n ≡ Some x → Holds w m n x
     → AllByRecursion (λ (h : Entry). Holds w (before g m) h.number h.node)
-    (parts_of g.next n (reread (part_place g) x))
+    (parts_of_node g.next n (reread (part_place g) x))
 node_holds w g m can n (Source r) at h = (
   holds_reread w (before g m) m (part_place g) n (Source r) tt
       (λ j. ap m (back_same g can n j (Source r) at refl)) h,
@@ -122,7 +126,7 @@ row_total : {Y : Type 0} (w : World) (part : (Place → Collection) → Node →
 row_total w part p is m d v e k n i Bare r = refl
 row_total {Y = Y} w part p is m d v e k n i (Grow l kids rest) r =
     ap (λ (xs : List Y). xs ++ flat_map (λ (h : Entry). part m h.node) (parts k n d rest))
-    (is.steps m d (sole l) ∙ append-nil (p (m d) (new_label 0 l))
+    (is.steps m d (sole_output l) ∙ append-nil (p (m d) (new_label 0 l))
     ∙ is.numbered (m d) (new_out 0 l.out) l ∙ ap (λ (u : Collection). p u l) e)
     ∙ ap (λ (xs : List Y). p v l ++ xs) (row_total w part p is m d v e k n (suc i) rest r.2)
     ∙ ap (λ (x : Forest). p v l ++ (total w p (through w l v) x ++ total w p v rest)) (sym r.1)
@@ -131,7 +135,7 @@ node_sum : {Y : Type 0} (w : World) (part : (Place → Collection) → Node → 
     (p : Collection → Label → List Y) → IsSum w part p → (g : Graph) (m : Place → Collection)
     → CanPart g → (n : ℕ) (x : Node) → node_at g.nodes n ≡ Some x
     → flat_map (λ (h : Entry). part (before g m) h.node)
-    (parts_of g.next n (reread (part_place g) x))
+    (parts_of_node g.next n (reread (part_place g) x))
     ≡ part m x
 node_sum w part p is g m can n (Source r) at =
     append-nil (part (before g m) (Source r)) ∙ is.moved (before g m) m (part_place g) (Source r) tt
@@ -154,11 +158,11 @@ node_sum w part p is g m can n (Barrier ins o l a) at =
     (before_part g m can ins (there_node g can n (Barrier ins o l a) at))
 
 sum_parts : {Y : Type 0} (F G : Entry → List Y) (k : ℕ) (r : Place → Place) (es : List Entry)
-    → AllByRecursion (λ e. flat_map F (parts_of k e.number (reread r e.node)) ≡ G e) es
+    → AllByRecursion (λ e. flat_map F (parts_of_node k e.number (reread r e.node)) ≡ G e) es
     → flat_map F (all_parts k r es) ≡ flat_map G es
 sum_parts F G k r [] a = refl
 sum_parts {Y = Y} F G k r (e ∷ es) a =
-    flat_map-append F (parts_of k e.number (reread r e.node)) (all_parts k r es)
+    flat_map-append F (parts_of_node k e.number (reread r e.node)) (all_parts k r es)
     ∙ ap (λ (xs : List Y). xs ++ flat_map F (all_parts k r es)) a.0
     ∙ ap (λ (xs : List Y). G e ++ xs) (sum_parts F G k r es a.1)
 
@@ -172,7 +176,7 @@ all_sum w part p is g m can =
     (part_place g) g.nodes
     (Each-weaker (λ (e : Entry). node_at g.nodes e.number ≡ Some e.node)
     (λ (e : Entry). flat_map (λ (h : Entry). part (before g m) h.node)
-    (parts_of g.next e.number (reread (part_place g) e.node)) ≡ part m e.node)
+    (parts_of_node g.next e.number (reread (part_place g) e.node)) ≡ part m e.node)
     (λ e at. node_sum w part p is g m can e.number e.node at) g.nodes
     (each_found g.nodes can.ok.differ))
 
@@ -220,7 +224,7 @@ inputs_typed g types can t u e (c ∷ cs) a b = (
 node_typed : (s : Signatures) (g : Graph) (types : Place → Ty) → CanPart g → (n : ℕ) (x : Node)
     → node_at g.nodes n ≡ Some x → NodeTyped s types n x
     → AllByRecursion (λ (h : Entry). NodeTyped s (before g types) h.number h.node)
-    (parts_of g.next n (reread (part_place g) x))
+    (parts_of_node g.next n (reread (part_place g) x))
 node_typed s g types can n (Source r) at h = (
   ap types (back_same g can n 0 (Source r) at refl) ∙ h,
   tt,
@@ -235,7 +239,7 @@ node_typed s g types can n (Pdo c f) at h =
     parts_hold g can n c f at (λ (e : Entry). NodeTyped s (before g types) e.number e.node)
     (λ l. (u : Ty) × StepTyped s l.does l.at (types c) u × OutTyped types n l.out u)
     (λ l b a. subst (λ (t : Ty).
-    ForestTyped s (before g types) (part_number g.next n l.at) t (sole l))
+    ForestTyped s (before g types) (part_number g.next n l.at) t (sole_output l))
     (sym (before_read g types can n c f at)) (
       (
         a.0,

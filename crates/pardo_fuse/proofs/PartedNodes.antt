@@ -20,7 +20,7 @@ use Rattle.exec_graph.proofs.Solving.{each_found}
 use Rattle.graph_laws.specs.Joining.{reread}
 use Rattle.graph_laws.specs.Single.{HasSteps, IsOneStep}
 use Rattle.pardo_fuse.specs.Readers.{cut_of, is_pdo, is_marked}
-use Rattle.pardo_fuse.specs.Parting.{part_number, sole, parts, parts_of, part_place, parted_nodes, parted_graph, parted}
+use Rattle.pardo_fuse.specs.Parting.{part_number, sole_output, parts, parts_of_node, part_place, parted_nodes, parted_graph, parted}
 use Rattle.pardo_fuse.specs.SingleFusing.{CanFuse}
 use Rattle.pardo_fuse.specs.Wellformed.{IsFusible}
 use Rattle.pardo_fuse.proofs.Places.{and_left, same_is, same_self}
@@ -58,7 +58,7 @@ can_fuse b fu =
 -- ---- what is read
 
 uses_part : (r : Place → Place) (c : Place) (k n : ℕ) (x : Node) → HasSteps IsOneStep x
-    → uses c x ≡ true → any_node (uses (r c)) (parts_of k n (reread r x)) ≡ true
+    → uses c x ≡ true → any_node (uses (r c)) (parts_of_node k n (reread r x)) ≡ true
 uses_part r c k n (Source s) a h = absurd (false≢true h)
 uses_part r c k n (Flatten ins) a h =
     or_first (among (r c) (map r ins)) false (among_map r c ins h)
@@ -92,16 +92,16 @@ used_parts : (r : Place → Place) (c : Place) (k : ℕ) (es : List Entry)
     → any_node (uses c) es ≡ true → any_node (uses (r c)) (all_parts k r es) ≡ true
 used_parts r c k [] a h = h
 used_parts r c k (e ∷ es) a h =
-    any_append (uses (r c)) (parts_of k e.number (reread r e.node)) (all_parts k r es)
+    any_append (uses (r c)) (parts_of_node k e.number (reread r e.node)) (all_parts k r es)
     ∙ by (used_parts r c k es a.1) (uses c e.node) refl h
   where
     by : (any_node (uses c) es ≡ true → any_node (uses (r c)) (all_parts k r es) ≡ true)
         → (t : Bool) → uses c e.node ≡ t → (t || any_node (uses c) es) ≡ true
-        → (any_node (uses (r c)) (parts_of k e.number (reread r e.node))
+        → (any_node (uses (r c)) (parts_of_node k e.number (reread r e.node))
         || any_node (uses (r c)) (all_parts k r es)) ≡ true
-    by f true q h = or_first (any_node (uses (r c)) (parts_of k e.number (reread r e.node)))
+    by f true q h = or_first (any_node (uses (r c)) (parts_of_node k e.number (reread r e.node)))
         (any_node (uses (r c)) (all_parts k r es)) (uses_part r c k e.number e.node a.0 q)
-    by f false q h = right (any_node (uses (r c)) (parts_of k e.number (reread r e.node)))
+    by f false q h = right (any_node (uses (r c)) (parts_of_node k e.number (reread r e.node)))
         (any_node (uses (r c)) (all_parts k r es)) (f h)
 
 pub read_part : (g : Graph) → CanPart g → (c : Place) → is_read g c ≡ true
@@ -120,7 +120,7 @@ read_part g can c h = by (any_node (uses c) g.nodes) refl h
 -- ---- each node
 
 sole_ok : (g : Graph) (q : ℕ) (l : Label)
-    → ((j : ℕ) → l.out ≡ Some j → is_read g (place q 0) ≡ true) → IsForestOk g q (sole l)
+    → ((j : ℕ) → l.out ≡ Some j → is_read g (place q 0) ≡ true) → IsForestOk g q (sole_output l)
 sole_ok g q l h = record {
   order = numbered_again 0 (Grow l Bare Bare);
   read = λ j e. by l.out (λ i p. h i p) j e;
@@ -139,14 +139,14 @@ sole_ok g q l h = record {
 pdo_ok : (g : Graph) → CanPart g → (n : ℕ) (c : Place) (f : Forest)
     → node_at g.nodes n ≡ Some (Pdo c f) → IsForestOk g n f
     → AllByRecursion (λ (h : Entry). IsNodeOk (parted_graph g) h.number h.node)
-    (parts_of g.next n (reread (part_place g) (Pdo c f)))
+    (parts_of_node g.next n (reread (part_place g) (Pdo c f)))
 pdo_ok g can n c f at ok =
     parts_each (λ (h : Entry). IsNodeOk (parted_graph g) h.number h.node) g.next n
     (part_place g c) f
     (label_both (λ l. (j : ℕ) → l.out ≡ Some j
     → part_place g (place n j) ≡ place (part_number g.next n l.at) 0)
     (λ l. (j : ℕ) → l.out ≡ Some j → has_out j f ≡ true)
-    (λ l. IsForestOk (parted_graph g) (part_number g.next n l.at) (sole l))
+    (λ l. IsForestOk (parted_graph g) (part_number g.next n l.at) (sole_output l))
     (λ l a b. sole_ok (parted_graph g) (part_number g.next n l.at) l
     (λ j e. subst (λ (d : Place). is_read (parted_graph g) d ≡ true) (a j e)
     (read_part g can (place n j) (ok.read j (b j e)))))
@@ -163,7 +163,7 @@ collects_back r c (Gbk d o l k) a h = same_back r c d a.0 h
 collects_back r c (Barrier ins o l d) a h = among_back r c ins a h
 
 parts_uncollected : (c : Place) (k n : ℕ) (x : Node) → collects c x ≡ false
-    → any_node (collects c) (parts_of k n x) ≡ false
+    → any_node (collects c) (parts_of_node k n x) ≡ false
 parts_uncollected c k n (Source r) h = refl
 parts_uncollected c k n (Pdo d f) h = by f
   where
@@ -192,7 +192,7 @@ uncollected_parts : (g : Graph) → CanPart g → (n : ℕ) (x : Node) → node_
     → any_node (collects (place n 0)) (all_parts g.next (part_place g) es) ≡ false
 uncollected_parts g can n x at h [] t a = refl
 uncollected_parts g can n x at h (e ∷ es) t a =
-    any_append (collects (place n 0)) (parts_of g.next e.number (reread (part_place g) e.node))
+    any_append (collects (place n 0)) (parts_of_node g.next e.number (reread (part_place g) e.node))
     (all_parts g.next (part_place g) es)
     ∙ ap (λ (b : Bool). b || any_node (collects (place n 0)) (all_parts g.next (part_place g) es))
     (parts_uncollected (place n 0) g.next e.number (reread (part_place g) e.node)
@@ -213,7 +213,7 @@ apart_calls c d k n (Grow l kids rest) h =
 part_calls : (g : Graph) → CanPart g → (n : ℕ) (y : Node) → node_at g.nodes n ≡ Some y
     → is_pdo (Some y) ≡ false → (m : ℕ) (x : Node)
     → AllByRecursion (IsThere g.nodes) (reads x) → IsRoot (place n 0) m x
-    → those (calls_on (place n 0)) (parts_of g.next m (reread (part_place g) x))
+    → those (calls_on (place n 0)) (parts_of_node g.next m (reread (part_place g) x))
     ≡ cond (calls_on (place n 0) x) (m ∷ []) []
 part_calls g can n y at h m (Pdo d f) t i = by (same_place (place n 0) d) refl
   where
@@ -242,7 +242,8 @@ readers_parts : (g : Graph) → CanPart g → (n : ℕ) (y : Node) → node_at g
     → readers (all_parts g.next (part_place g) es) (place n 0) ≡ readers es (place n 0)
 readers_parts g can n y at h [] t i = refl
 readers_parts g can n y at h (e ∷ es) t i =
-    those-append (calls_on (place n 0)) (parts_of g.next e.number (reread (part_place g) e.node))
+    those-append (calls_on (place n 0)) (parts_of_node g.next e.number
+    (reread (part_place g) e.node))
     (all_parts g.next (part_place g) es)
     ∙ ap (λ (l : List ℕ). l ++ readers (all_parts g.next (part_place g) es) (place n 0))
     (part_calls g can n y at h e.number e.node t.0 i.0)
@@ -333,7 +334,7 @@ lifted_part g can n c o b k at lift =
         let l : Label = w.0 in
         let found = subst (EachLabel
         (λ l. node_at (parted_nodes g) (part_number g.next lift.reader l.at)
-        ≡ Some (Pdo (part_place g d) (sole l)))) w.1 (label_found g can lift.reader d f e) in
+        ≡ Some (Pdo (part_place g d) (sole_output l)))) w.1 (label_found g can lift.reader d f e) in
         ap (λ (x : ℕ). comb_at (node_at (parted_nodes g) x))
         (sym (ap (part_number g.next lift.reader) w.2 ∙ first_number g.next lift.reader))
         ∙ ap comb_at found.0 ∙ sym (ap root_comb w.1) ∙ h
@@ -342,7 +343,7 @@ lifted_part g can n c o b k at lift =
 pub node_ok : (g : Graph) → CanPart g → (n : ℕ) (x : Node) → node_at g.nodes n ≡ Some x
     → IsNodeOk g n x
     → AllByRecursion (λ (h : Entry). IsNodeOk (parted_graph g) h.number h.node)
-    (parts_of g.next n (reread (part_place g) x))
+    (parts_of_node g.next n (reread (part_place g) x))
 node_ok g can n (Flatten ins) at h =
     let e = length-map (part_place g) ins in
     let x = h.0 in let y = h.1 in

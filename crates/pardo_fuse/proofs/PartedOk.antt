@@ -17,8 +17,8 @@ use Rattle.exec_graph.proofs.Entries.{all_found, all_map}
 use Rattle.graph_laws.specs.Joining.{reread, reread_entry}
 use Rattle.graph_laws.proofs.ObjectNodes.{flags_reread, object_mapped}
 use Rattle.pardo_fuse.specs.Readers.{Cut, cut_of}
-use Rattle.pardo_fuse.specs.Parting.{parts, parts_of, part_place, parted_nodes, parted_graph, parted}
-use Rattle.pardo_fuse.specs.SingleFusing.{joined_nodes, left_of}
+use Rattle.pardo_fuse.specs.Parting.{parts, parts_of_node, part_place, parted_nodes, parted_graph, parted}
+use Rattle.pardo_fuse.specs.SingleFusing.{joined_nodes, entries_left}
 use Rattle.pardo_fuse.specs.Wellformed.{IsFusible}
 use Rattle.pardo_fuse.proofs.BlockedOk.{IsCutOk, cut_outer, joined_ascends}
 use Rattle.pardo_fuse.proofs.Naming.{all_numbers}
@@ -47,7 +47,7 @@ parts_objects es k n c (Grow l kids rest) = (refl, parts_objects es k n c rest)
 node_objects : (g : Graph) → CanPart g → (n : ℕ) (x : Node) → node_at g.nodes n ≡ Some x
     → has_objects g.nodes x ≡ true
     → AllByRecursion (λ (h : Entry). has_objects (parted_nodes g) h.node ≡ true)
-    (parts_of g.next n (reread (part_place g) x))
+    (parts_of_node g.next n (reread (part_place g) x))
 node_objects g can n (Pdo c f) at h = parts_objects (parted_nodes g) g.next n (part_place g c) f
 node_objects g can n (Barrier ins o l d) at h = (
   ap (takes_such d) (flags_reread (is_object_at (parted_nodes g)) (is_object_at g.nodes)
@@ -66,9 +66,9 @@ cut_ok b fu =
     let can : CanPart g = can_part b fu in
     let c : Cut = cut_of (parted b) in
     let es : List Entry = map (reread_entry (part_place g)) g.nodes in
-    let joined : joined_nodes c ≡ flat_map (λ (e : Entry). left_of c e.number e.node) es =
+    let joined : joined_nodes c ≡ flat_map (λ (e : Entry). entries_left c e.number e.node) es =
     joined_parted b can
-    ∙ sym (flat_map-map (λ (e : Entry). left_of c e.number e.node)
+    ∙ sym (flat_map-map (λ (e : Entry). entries_left c e.number e.node)
     (reread_entry (part_place g)) g.nodes) in
     record {
       ascends = subst Ascends (sym joined)

@@ -12,7 +12,7 @@ use Rattle.exec_graph.specs.declared.graph.Node.TheVariants.{Pdo}
 use Rattle.exec_graph.specs.declared.graph.Entry.{Entry}
 use Rattle.graph_laws.specs.Joining.{reread}
 use Rattle.graph_laws.specs.Single.{HasSteps, IsOneStep}
-use Rattle.pardo_fuse.specs.Parting.{part_number, sole, parts, parts_of, at_of}
+use Rattle.pardo_fuse.specs.Parting.{part_number, sole_output, parts, parts_of_node, at_of}
 use Rattle.graph_laws.proofs.NumberedHas.{last as or_last}
 
 -- ---- numbers
@@ -134,7 +134,7 @@ ats_of (Grow l kids rest) d = (
 -- ---- the parts of a node
 
 pub parts_mod : (k n : ℕ) (x : Node) → n < k
-    → AllByRecursion (λ h. h.number % k ≡ n) (parts_of k n x)
+    → AllByRecursion (λ h. h.number % k ≡ n) (parts_of_node k n x)
 parts_mod k n (Pdo c f) h = by f
   where
     by : (f : Forest) → AllByRecursion (λ (h : Entry). h.number % k ≡ n) (parts k n c f)
@@ -144,14 +144,14 @@ parts_mod k n _ h = (small_mod k n h, tt)
 
 -- What holds of each output's Pdo.
 pub parts_each : (P : Entry → Type 0) (k n : ℕ) (c : Place) (f : Forest)
-    → EachLabel (λ l. P (record { number = part_number k n l.at; node = Pdo c (sole l) })) f
+    → EachLabel (λ l. P (record { number = part_number k n l.at; node = Pdo c (sole_output l) })) f
     → AllByRecursion P (parts k n c f)
 parts_each P k n c Bare a = tt
 parts_each P k n c (Grow l kids rest) a = (a.0, parts_each P k n c rest a.1)
 
 pub each_parts : (P : Entry → Type 0) (k n : ℕ) (c : Place) (f : Forest)
     → AllByRecursion P (parts k n c f)
-    → EachLabel (λ l. P (record { number = part_number k n l.at; node = Pdo c (sole l) })) f
+    → EachLabel (λ l. P (record { number = part_number k n l.at; node = Pdo c (sole_output l) })) f
 each_parts P k n c Bare a = tt
 each_parts P k n c (Grow l kids rest) a = (a.0, each_parts P k n c rest a.1)
 
@@ -172,7 +172,7 @@ row_differ k n i c (Grow l kids rest) h r = (
 )
 
 differ_node : (k n : ℕ) (x : Node) → n < k → HasSteps IsOneStep x → (r : Place → Place)
-    → AllDiffer (parts_of k n (reread r x))
+    → AllDiffer (parts_of_node k n (reread r x))
 differ_node k n (Pdo c f) h a r = row_differ k n 0 (r c) f h (row_of f a)
 differ_node k n _ h a r = (tt, tt)
 
@@ -188,22 +188,23 @@ differ_append (x ∷ xs) ys a b c = (
 -- ---- the parts of all nodes
 
 abbrev pub all_parts : ℕ → (Place → Place) → List Entry → List Entry
-all_parts k r es = flat_map (λ e. parts_of k e.number (reread r e.node)) es
+all_parts k r es = flat_map (λ e. parts_of_node k e.number (reread r e.node)) es
 
 pub parts_from : (P : Entry → Type 0) (k : ℕ) (r : Place → Place) (es : List Entry)
-    → AllByRecursion (λ e. AllByRecursion P (parts_of k e.number (reread r e.node))) es
+    → AllByRecursion (λ e. AllByRecursion P (parts_of_node k e.number (reread r e.node))) es
     → AllByRecursion P (all_parts k r es)
 parts_from P k r [] a = tt
-parts_from P k r (e ∷ es) a = Each-append P (parts_of k e.number (reread r e.node))
+parts_from P k r (e ∷ es) a = Each-append P (parts_of_node k e.number (reread r e.node))
     (all_parts k r es) a.0 (parts_from P k r es a.1)
 
 pub from_parts : (P : Entry → Type 0) (k : ℕ) (r : Place → Place) (es : List Entry)
     → AllByRecursion P (all_parts k r es)
-    → AllByRecursion (λ e. AllByRecursion P (parts_of k e.number (reread r e.node))) es
+    → AllByRecursion (λ e. AllByRecursion P (parts_of_node k e.number (reread r e.node))) es
 from_parts P k r [] a = tt
 from_parts P k r (e ∷ es) a = (
-  Each-left P (parts_of k e.number (reread r e.node)) (all_parts k r es) a,
-  from_parts P k r es (Each-right P (parts_of k e.number (reread r e.node)) (all_parts k r es) a),
+  Each-left P (parts_of_node k e.number (reread r e.node)) (all_parts k r es) a,
+  from_parts P k r es (Each-right P (parts_of_node k e.number (reread r e.node)) (all_parts k r es)
+      a),
 )
 
 others_mod : (k n : ℕ) (r : Place → Place) (es : List Entry)
@@ -212,10 +213,10 @@ others_mod : (k n : ℕ) (r : Place → Place) (es : List Entry)
     → AllByRecursion (λ (h : Entry). h.number % k ≡ n → ⊥) (all_parts k r es)
 others_mod k n r [] a d = tt
 others_mod k n r (e ∷ es) a d =
-    Each-append (λ (h : Entry). h.number % k ≡ n → ⊥) (parts_of k e.number (reread r e.node))
+    Each-append (λ (h : Entry). h.number % k ≡ n → ⊥) (parts_of_node k e.number (reread r e.node))
     (all_parts k r es)
     (Each-weaker (λ (h : Entry). h.number % k ≡ e.number) (λ (h : Entry). h.number % k ≡ n → ⊥)
-    (λ h i j. d.0 (sym i ∙ j)) (parts_of k e.number (reread r e.node))
+    (λ h i j. d.0 (sym i ∙ j)) (parts_of_node k e.number (reread r e.node))
     (parts_mod k e.number (reread r e.node) a.0))
     (others_mod k n r es a.1 d.1)
 
@@ -224,7 +225,7 @@ pub differ_parts : (k : ℕ) (r : Place → Place) (es : List Entry) → AllDiff
     → AllByRecursion (λ (e : Entry). HasSteps IsOneStep e.node) es → AllDiffer (all_parts k r es)
 differ_parts k r [] d a s = tt
 differ_parts k r (e ∷ es) d a s =
-    let mine : List Entry = parts_of k e.number (reread r e.node) in
+    let mine : List Entry = parts_of_node k e.number (reread r e.node) in
     differ_append mine (all_parts k r es) (differ_node k e.number e.node a.0 s.0 r)
     (differ_parts k r es d.1 a.1 s.1)
     (Each-weaker (λ (h : Entry). h.number % k ≡ e.number)

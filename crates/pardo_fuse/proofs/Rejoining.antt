@@ -13,8 +13,8 @@ use Rattle.exec_graph.specs.declared.graph.Blocked.{Blocked}
 use Rattle.exec_graph.proofs.Solving.{each_found}
 use Rattle.graph_laws.specs.Joining.{reread}
 use Rattle.pardo_fuse.specs.Readers.{Cut, cut_of}
-use Rattle.pardo_fuse.specs.Parting.{part_number, sole, part_place, parted_nodes, parted}
-use Rattle.pardo_fuse.specs.Fusing.{finished, forest_over, joined_by, kept_nodes, kept_of, leads, moved_to, with_numbers}
+use Rattle.pardo_fuse.specs.Parting.{part_number, sole_output, part_place, parted_nodes, parted}
+use Rattle.pardo_fuse.specs.Fusing.{finished_entry, forest_over, joined_by, kept_nodes, kept_of, leads, moved_to, with_numbers}
 use Rattle.pardo_fuse.specs.SingleFusing.{fused_by, joined_nodes, new_place}
 use Rattle.pardo_fuse.specs.Wellformed.{IsFusible}
 use Rattle.pardo_fuse.proofs.BlockedOk.{mark_seen}
@@ -39,11 +39,11 @@ root_found g can n c f at =
   where
     by : (f : Forest) → IsRow 0 f → (f ≡ Bare → ⊥)
         → EachLabel (λ l. node_at (parted_nodes g) (part_number g.next n l.at)
-        ≡ Some (Pdo (part_place g c) (sole l))) f
+        ≡ Some (Pdo (part_place g c) (sole_output l))) f
         → (h : Forest) × (node_at (parted_nodes g) n ≡ Some (Pdo (part_place g c) h))
     by Bare r z a = absurd (z refl)
     by (Grow l kids rest) r z a = (
-      sole l,
+      sole_output l,
       ap (node_at (parted_nodes g))
           (sym (ap (part_number g.next n) r.0 ∙ first_number g.next n)) ∙ a.0,
     )
@@ -136,8 +136,8 @@ done_same a (Barrier ins o l d) y h m =
 
 finished_same : (a : Blocked) (ds es : List Entry) → Alike a ds es
     → AllByRecursion (λ (h : Entry). AllByRecursion (Moves a) (reads h.node)) ds
-    → map (finished (moved_to (kept_nodes (cut_of a)))) ds
-    ≡ map (finished (new_place (joined_nodes (cut_of (parted a))))) es
+    → map (finished_entry (moved_to (kept_nodes (cut_of a)))) ds
+    ≡ map (finished_entry (new_place (joined_nodes (cut_of (parted a))))) es
 finished_same a [] [] h m = refl
 finished_same a [] (e ∷ es) h m = absurd h
 finished_same a (d ∷ ds) [] h m = absurd h
@@ -148,10 +148,10 @@ finished_same a (d ∷ ds) (e ∷ es) h m =
     ap (λ (x : ℕ). let y : Entry = record {
       number = x;
       node = reread (moved_to (kept_nodes (cut_of a))) (with_numbers d.node);
-    } in y ∷ map (finished (moved_to (kept_nodes (cut_of a)))) ds) q
+    } in y ∷ map (finished_entry (moved_to (kept_nodes (cut_of a)))) ds) q
     ∙ ap (λ (x : Node). let y : Entry = record { number = e.number; node = x } in
-    y ∷ map (finished (moved_to (kept_nodes (cut_of a)))) ds) n
-    ∙ ap (λ (l : List Entry). finished (new_place (joined_nodes (cut_of (parted a)))) e ∷ l) i
+    y ∷ map (finished_entry (moved_to (kept_nodes (cut_of a)))) ds) n
+    ∙ ap (λ (l : List Entry). finished_entry (new_place (joined_nodes (cut_of (parted a)))) e ∷ l) i
 
 -- ---- the whole
 
@@ -168,7 +168,7 @@ joined_is a fu =
     let can : CanPart g = can_part a fu in
     let ds : List Entry = kept_nodes b in
     let es : List Entry = joined_nodes p in
-    let nodes : map (finished (moved_to ds)) ds ≡ map (finished (new_place es)) es =
+    let nodes : map (finished_entry (moved_to ds)) ds ≡ map (finished_entry (new_place es)) es =
     finished_same a ds es (nodes_alike a fu)
     (nodes_move a fu g.nodes (each_found g.nodes can.ok.differ)) in
     let outputs : map (moved_to ds) g.outputs ≡ map (new_place es) (map (part_place g) g.outputs) =
@@ -178,7 +178,7 @@ joined_is a fu =
     (mark_seen p (can_fuse a fu) (cut_ok a fu))) in
     ap (λ (x : List Entry). made g.next x (map (moved_to ds) g.outputs)
     (map (moved_to ds) a.marks)) nodes
-    ∙ ap (λ (x : List Place). made g.next (map (finished (new_place es)) es) x
+    ∙ ap (λ (x : List Place). made g.next (map (finished_entry (new_place es)) es) x
     (map (moved_to ds) a.marks)) outputs
-    ∙ ap (made g.next (map (finished (new_place es)) es)
+    ∙ ap (made g.next (map (finished_entry (new_place es)) es)
     (map (new_place es) (map (part_place g) g.outputs))) marks

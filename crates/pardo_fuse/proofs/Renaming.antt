@@ -1,7 +1,7 @@
 -- The names of all outputs say where each collection is, so what is made is the fused graph.
 use Rattle.std.proofs.Common.{◌≡◌, ℕ, Bool, true, false, cond, eqb, ◌||◌, List, [], ◌∷◌, ◌++◌, map, Option, Some, None, refl, sym, ap, ◌∙◌, append_assoc, append-nil}
 use Rattle.std.specs.List.{flat_map}
-use Rattle.exec_graph.specs.Forests.{Forest, Bare, Grow, after, after_out, numbered}
+use Rattle.exec_graph.specs.Forests.{Forest, Bare, Grow, next_after, after_out, numbered}
 use Rattle.exec_graph.specs.declared.graph.Place.{Place}
 use Rattle.exec_graph.specs.declared.graph.Node.{Node}
 use Rattle.exec_graph.specs.declared.graph.Node.TheVariants.{Source, Flatten, Pdo, Gbk, Barrier}
@@ -9,10 +9,10 @@ use Rattle.exec_graph.specs.declared.graph.Entry.{Entry}
 use Rattle.exec_graph.specs.declared.graph.Blocked.{Blocked}
 use Rattle.exec_graph.specs.Meaning.{place, is_out, has_out}
 use Rattle.graph_laws.specs.Joining.{reread, reread_entry}
-use Rattle.graph_laws.specs.Kids.{number_in}
+use Rattle.graph_laws.specs.Kids.{number_after}
 use Rattle.pardo_fuse.specs.declared.names.Name.{Name}
 use Rattle.pardo_fuse.specs.Readers.{Cut}
-use Rattle.pardo_fuse.specs.Fusing.{finished, forest_over, joined_by, kept_nodes, kept_of, leads, moved_to}
+use Rattle.pardo_fuse.specs.Fusing.{finished_entry, forest_over, joined_by, kept_nodes, kept_of, leads, moved_to}
 use Rattle.exec_graph.specs.Places.{code}
 use Rattle.pardo_fuse.specs.inner.Naming.{all_names, by_name, left_names, names_from, numbered_entry, out_names}
 
@@ -36,19 +36,19 @@ joint c h s x y (Some j) k r z rest e = by (eqb j (code c)) refl k r e
 
 by_forest : (c : Place) (h s : ℕ) (f : Forest) (ys : List Name)
     → by_name (names_from h s f ++ ys) c
-    ≡ cond (has_out (code c) f) (place h (number_in s f (code c))) (by_name ys c)
+    ≡ cond (has_out (code c) f) (place h (number_after s f (code c))) (by_name ys c)
 by_forest c h s Bare ys = refl
 by_forest c h s (Grow l kids rest) ys =
     let a : List Name = names_from h (after_out s l.out) kids in
-    let b : List Name = names_from h (after (after_out s l.out) kids) rest in
+    let b : List Name = names_from h (next_after (after_out s l.out) kids) rest in
     ap (λ (xs : List Name). by_name xs c) (append_assoc (out_names h s l.out) (a ++ b) ys
     ∙ ap (λ (xs : List Name). out_names h s l.out ++ xs) (append_assoc a b ys))
-    ∙ joint c h s (number_in (after_out s l.out) kids (code c))
-    (number_in (after (after_out s l.out) kids) rest (code c)) l.out (has_out (code c) kids)
+    ∙ joint c h s (number_after (after_out s l.out) kids (code c))
+    (number_after (next_after (after_out s l.out) kids) rest (code c)) l.out (has_out (code c) kids)
     (has_out (code c) rest) (by_name ys c) (a ++ (b ++ ys))
     (by_forest c h (after_out s l.out) kids (b ++ ys)
-    ∙ ap (cond (has_out (code c) kids) (place h (number_in (after_out s l.out) kids (code c))))
-    (by_forest c h (after (after_out s l.out) kids) rest ys))
+    ∙ ap (cond (has_out (code c) kids) (place h (number_after (after_out s l.out) kids (code c))))
+    (by_forest c h (next_after (after_out s l.out) kids) rest ys))
 
 by_left : (b : Cut) (c : Place) (n : ℕ) (x : Node) (ys : List Name) (hs : List Entry)
     → by_name ys c ≡ moved_to hs c
@@ -60,7 +60,7 @@ by_left b c n (Pdo d f) ys hs e = by (leads b n d)
         (cond r ((record { number = n; node = Pdo d (forest_over b d) }) ∷ []) [] ++ hs) c
     by true = by_forest c n 0 (forest_over b d) ys
         ∙ ap (cond (has_out (code c) (forest_over b d))
-        (place n (number_in 0 (forest_over b d) (code c)))) e
+        (place n (number_after 0 (forest_over b d) (code c)))) e
     by false = e
 by_left b c n _ ys hs e = e
 
@@ -99,7 +99,7 @@ map-append {Y = Y} f (x ∷ xs) ys = ap (λ (l : List Y). f x ∷ l) (map-append
 left_finished : (b : Cut) (r : Place → Place) (es : List Entry)
     → map (reread_entry r)
     (flat_map (λ e. map numbered_entry (kept_of b e.number e.node)) es)
-    ≡ map (finished r) (flat_map (λ e. kept_of b e.number e.node) es)
+    ≡ map (finished_entry r) (flat_map (λ e. kept_of b e.number e.node) es)
 left_finished b r [] = refl
 left_finished b r (e ∷ es) =
     map-append (reread_entry r) (map numbered_entry (kept_of b e.number e.node))
@@ -107,14 +107,15 @@ left_finished b r (e ∷ es) =
     ∙ ap (λ (l : List Entry). l ++ map (reread_entry r)
     (flat_map (λ e. map numbered_entry (kept_of b e.number e.node)) es))
     (twice (kept_of b e.number e.node))
-    ∙ ap (λ (l : List Entry). map (finished r) (kept_of b e.number e.node) ++ l)
+    ∙ ap (λ (l : List Entry). map (finished_entry r) (kept_of b e.number e.node) ++ l)
     (left_finished b r es)
-    ∙ sym (map-append (finished r) (kept_of b e.number e.node)
+    ∙ sym (map-append (finished_entry r) (kept_of b e.number e.node)
     (flat_map (λ e. kept_of b e.number e.node) es))
   where
-    twice : (hs : List Entry) → map (reread_entry r) (map numbered_entry hs) ≡ map (finished r) hs
+    twice : (hs : List Entry)
+        → map (reread_entry r) (map numbered_entry hs) ≡ map (finished_entry r) hs
     twice [] = refl
-    twice (h ∷ hs) = ap (λ (l : List Entry). finished r h ∷ l) (twice hs)
+    twice (h ∷ hs) = ap (λ (l : List Entry). finished_entry r h ∷ l) (twice hs)
 
 abbrev made : Cut → (Place → Place) → List Entry → Blocked
 made b r es = record {
@@ -132,7 +133,7 @@ fused_is b ns r h n =
     let now : Place → Place = moved_to (kept_nodes b) in
     let same : (d : Place) → r d ≡ moved_to (kept_nodes b) d =
     λ d. n d ∙ names_place b b.graph.nodes d in
-    let x : map (reread_entry r) ns ≡ map (finished now) (kept_nodes b) =
+    let x : map (reread_entry r) ns ≡ map (finished_entry now) (kept_nodes b) =
     map_same (reread_entry r) (reread_entry now) (entry_same r now same) ns
     ∙ ap (map (reread_entry now)) h ∙ left_finished b now b.graph.nodes in
     let y : map r b.graph.outputs ≡ map now b.graph.outputs = map_same r now same b.graph.outputs in
@@ -140,7 +141,7 @@ fused_is b ns r h n =
     ap (made b r) x
     ∙ ap (λ (l : List Place). let d : Blocked = record {
       graph = record {
-        nodes = map (finished now) (kept_nodes b);
+        nodes = map (finished_entry now) (kept_nodes b);
         outputs = l;
         next = b.graph.next;
       };
@@ -148,7 +149,7 @@ fused_is b ns r h n =
     } in d) y
     ∙ ap (λ (l : List Place). let d : Blocked = record {
       graph = record {
-        nodes = map (finished now) (kept_nodes b);
+        nodes = map (finished_entry now) (kept_nodes b);
         outputs = map now b.graph.outputs;
         next = b.graph.next;
       };

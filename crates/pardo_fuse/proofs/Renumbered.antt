@@ -11,7 +11,7 @@ use Rattle.exec_graph.specs.declared.graph.Graph.{Graph}
 use Rattle.exec_graph.proofs.Entries.{all_found, all_map, flat_map_alike}
 use Rattle.exec_graph.proofs.Solving.{each_found}
 use Rattle.graph_laws.proofs.Kids.{IsKept}
-use Rattle.pardo_fuse.specs.Renumbering.{in_order, renumbered_entry, renumbered_graph}
+use Rattle.pardo_fuse.specs.Renumbering.{entries_in_order, renumbered_entry, renumbered_graph}
 use Rattle.pardo_fuse.proofs.Carried.{IsMoved, moved_kept}
 use Rattle.pardo_fuse.proofs.OtherNumbers.{AreApart, former, moved_at, moved_differ, moved_size}
 use Rattle.pardo_fuse.proofs.Sorting.{order_all, order_ascends, order_at, order_differ, order_size, order_sum}
@@ -29,7 +29,7 @@ module _ (g : Graph) (l : ℕ → ℕ) (ok : IsSound g) (apart : AreApart l g.no
   differ_moved : AllDiffer moved
   differ_moved = moved_differ l g.nodes g.nodes apart all_at ok.differ
 
-  pub is_moved : IsMoved g l (former l g.nodes) (in_order moved)
+  pub is_moved : IsMoved g l (former l g.nodes) (entries_in_order moved)
   is_moved = record {
     differ = order_differ moved differ_moved;
     back = λ n z at. (moved_at l g.nodes g.nodes apart all_at n z at at).0;
@@ -48,7 +48,7 @@ module _ (g : Graph) (l : ℕ → ℕ) (ok : IsSound g) (apart : AreApart l g.no
   pub number_kept : ((n : ℕ) → l n ≤ n) → IsKept g (renumbered_graph l g)
   number_kept low =
       let L : Entry → Type 0 = λ e. e.number < g.next in
-      moved_kept g l (former l g.nodes) (in_order moved) ok is_moved
+      moved_kept g l (former l g.nodes) (entries_in_order moved) ok is_moved
       (order_size moved ∙ moved_size l g.nodes)
       (λ good. (
         order_ascends moved differ_moved,

@@ -13,7 +13,7 @@ use Rattle.exec_graph.specs.declared.graph.Graph.{Graph}
 use Rattle.exec_graph.specs.declared.graph.Blocked.{Blocked}
 use Rattle.exec_graph.proofs.Bools.{or_cases, or_left, or_right}
 use Rattle.pardo_fuse.specs.Readers.{Cut, cut_of, is_pdo, is_unmarked}
-use Rattle.pardo_fuse.specs.Fusing.{finished, fused, fused_by_parents, hanging, hung, in_turn, joined_by, kept_nodes, kept_of, kids_on, leads, least, least_at, least_of, members, moved_to, named, over_outs, step_in}
+use Rattle.pardo_fuse.specs.Fusing.{finished_entry, fused, fused_by_parents, hanging, hung, trees_in_turn, joined_by, kept_nodes, kept_of, kids_on, leads, least_number, least_at, least_of, members, moved_to, name_for, over_outs, step_in}
 use Rattle.pardo_fuse.specs.Renumbering.{at_number, renumbered_graph}
 use Rattle.pardo_fuse.proofs.Places.{same_is, same_self}
 
@@ -26,7 +26,7 @@ module _ (g : Graph) (m n : List Place) (inner : Place → Bool) where
   abbrev right : Cut
   right = record { graph = g; marks = n; inner = inner }
 
-  named_at : (k : ℕ) (o : Option ℕ) → named left k o ≡ named right k o
+  named_at : (k : ℕ) (o : Option ℕ) → name_for left k o ≡ name_for right k o
   named_at k None = refl
   named_at k (Some j) = refl
 
@@ -40,15 +40,15 @@ module _ (g : Graph) (m n : List Place) (inner : Place → Bool) where
   hung_same k over under e (Grow l kids more) rest =
       ap (λ (o : Option ℕ). Grow (with_out o l) (over l.out) (hung left k over more rest))
       (named_at k l.out)
-      ∙ ap (λ (t : Option ℕ → Forest). Grow (with_out (named right k l.out) l) (t l.out)
+      ∙ ap (λ (t : Option ℕ → Forest). Grow (with_out (name_for right k l.out) l) (t l.out)
       (hung left k over more rest)) e
-      ∙ ap (λ (h : Forest). Grow (with_out (named right k l.out) l) (under l.out) h)
+      ∙ ap (λ (h : Forest). Grow (with_out (name_for right k l.out) l) (under l.out) h)
       (hung_same k over under e more rest)
 
   turn_same : (t u : ℕ → Forest → Forest) → ((k : ℕ) (rest : Forest) → t k rest ≡ u k rest)
-      → (ns : List ℕ) → in_turn t ns ≡ in_turn u ns
+      → (ns : List ℕ) → trees_in_turn t ns ≡ trees_in_turn u ns
   turn_same t u e [] = refl
-  turn_same t u e (k ∷ ns) = ap (t k) (turn_same t u e ns) ∙ e k (in_turn u ns)
+  turn_same t u e (k ∷ ns) = ap (t k) (turn_same t u e ns) ∙ e k (trees_in_turn u ns)
 
   over_same : {Y : Type 0} (f h : List ℕ → Y) → ((ns : List ℕ) → f ns ≡ h ns) → (j : ℕ)
       (o : Option ℕ) → f (kids_on left j o) ≡ h (kids_on right j o)
@@ -90,7 +90,7 @@ module _ (g : Graph) (m n : List Place) (inner : Place → Bool) where
     where
       by : (o : Option Node) → least_at left k o ≡ least_at right k o
       by (Some (Pdo c f)) =
-          ap (λ (ms : List ℕ). cond (leads right k c) (least k ms) k)
+          ap (λ (ms : List ℕ). cond (leads right k c) (least_number k ms) k)
           (members_same (length g.nodes) (readers g.nodes c))
       by _ = refl
 
@@ -169,7 +169,7 @@ left_same g m n same =
 
 abbrev graph_of : Graph → List Entry → Graph
 graph_of g hs = record {
-  nodes = map (finished (moved_to hs)) hs;
+  nodes = map (finished_entry (moved_to hs)) hs;
   outputs = map (moved_to hs) g.outputs;
   next = g.next;
 }

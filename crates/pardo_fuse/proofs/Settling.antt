@@ -12,8 +12,8 @@ use Rattle.exec_graph.proofs.Entries.{all_found}
 use Rattle.exec_graph.proofs.Solving.{each_found}
 use Rattle.exec_graph.specs.declared.graph.Blocked.{Blocked}
 use Rattle.pardo_fuse.specs.Readers.{Cut, cut_of, same_place, among, is_pdo, is_marked, is_unmarked, is_inner, readers}
-use Rattle.pardo_fuse.specs.Fusing.{finished, is_first, leads}
-use Rattle.pardo_fuse.specs.SingleFusing.{CanFuse, forest_of, fused_by, joined_nodes, left_of, new_place}
+use Rattle.pardo_fuse.specs.Fusing.{finished_entry, is_first, leads}
+use Rattle.pardo_fuse.specs.SingleFusing.{CanFuse, forest_reading, fused_by, joined_nodes, entries_left, new_place}
 use Rattle.pardo_fuse.specs.Wellformed.{IsSettled}
 use Rattle.pardo_fuse.proofs.Places.{same_is, same_self}
 use Rattle.pardo_fuse.proofs.Once.{AllGrown}
@@ -28,7 +28,7 @@ abbrev pub now : Cut → Place → Place
 now b = new_place (joined_nodes b)
 
 abbrev pub nodes_now : Cut → List Entry
-nodes_now b = map (finished (now b)) (joined_nodes b)
+nodes_now b = map (finished_entry (now b)) (joined_nodes b)
 
 -- The Pdo n of the fused graph leads those that read c.
 pub record IsLeader (b : Cut) (n : ℕ) (c : Place) : Type 0 where
@@ -37,22 +37,23 @@ pub record IsLeader (b : Cut) (n : ℕ) (c : Place) : Type 0 where
   pub leads : leads b n c ≡ true
 
 abbrev Led : Cut → Entry → Type 0
-Led b h = (c : Place) (f : Forest) → h.node ≡ Pdo c f → IsLeader b h.number c × (f ≡ forest_of b c)
+Led b h =
+    (c : Place) (f : Forest) → h.node ≡ Pdo c f → IsLeader b h.number c × (f ≡ forest_reading b c)
 
 left_led : (b : Cut) (n : ℕ) (x : Node) → node_at b.graph.nodes n ≡ Some x
-    → AllByRecursion (Led b) (left_of b n x)
+    → AllByRecursion (Led b) (entries_left b n x)
 left_led b n (Pdo d g) at =
-    all_cond (Led b) (leads b n d) (record { number = n; node = Pdo d (forest_of b d) })
+    all_cond (Led b) (leads b n d) (record { number = n; node = Pdo d (forest_reading b d) })
     (λ i c f e.
     let p : d ≡ c = cc in
-    let q : forest_of b d ≡ f = cc in (
+    let q : forest_reading b d ≡ f = cc in (
       record {
         old = g;
         at = at ∙ ap (λ (x : Place). Some (Pdo x g)) p;
         leads =
             ap (leads b n) (sym p) ∙ i;
       },
-      sym q ∙ ap (forest_of b) p,
+      sym q ∙ ap (forest_reading b) p,
     ))
 left_led b n _ at = (λ c f e. let bad : ⊥ = cc in absurd bad, tt)
 
@@ -60,8 +61,8 @@ pub record IsLed (b : Cut) (n : ℕ) (d : Place) (h : Forest) : Type 0 where
   pub from : Place
   pub leader : IsLeader b n from
   pub is : now b from ≡ d
-  pub joined : node_at (joined_nodes b) n ≡ Some (Pdo from (forest_of b from))
-  pub forest : numbered 0 (forest_of b from) ≡ h
+  pub joined : node_at (joined_nodes b) n ≡ Some (Pdo from (forest_reading b from))
+  pub forest : numbered 0 (forest_reading b from) ≡ h
 
 done_pdo : (r : Place → Place) (o : Option Node) (d : Place) (h : Forest) → done_node r o
     ≡ Some (Pdo d h) → (c : Place) × (f : Forest) × (o ≡ Some (Pdo c f)) × (r c

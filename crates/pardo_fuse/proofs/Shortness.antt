@@ -13,7 +13,7 @@ use Rattle.exec_graph.proofs.Solving.{each_found}
 use Rattle.graph_laws.specs.Kids.{kept_by}
 use Rattle.pardo_fuse.specs.Readers.{Cut, cut_of}
 use Rattle.pardo_fuse.specs.Fusing.{forest_over, leads}
-use Rattle.pardo_fuse.specs.SingleFusing.{CanFuse, forest_of, keeps_output}
+use Rattle.pardo_fuse.specs.SingleFusing.{CanFuse, forest_reading, keeps_output}
 use Rattle.pardo_fuse.specs.Parting.{part_place, parted}
 use Rattle.pardo_fuse.specs.Wellformed.{IsFusible}
 use Rattle.pardo_fuse.specs.inner.Naming.{AllShort, LeadsShort, labels}
@@ -73,7 +73,7 @@ node_short a fu n (Pdo c f) h = λ l.
     let w = root_found g can n c f h in
     let s = lead_short p (can_fuse a fu) (few_parts a fu) n (part_place g c) w.0 w.1
     (leads_part a (can_mark a fu) n c t ∙ l) in
-    let e = matched_labels a (forest_over (cut_of a) c) (forest_of p (part_place g c))
+    let e = matched_labels a (forest_over (cut_of a) c) (forest_reading p (part_place g c))
     (forest_matches a fu c t) in
     let k = labels_kept (keeps_output p) (all_of p (part_place g c)) in
     omega arith

@@ -15,7 +15,7 @@ use Rattle.exec_graph.proofs.Rooted.{read_either}
 use Rattle.graph_laws.specs.Joining.{reread}
 use Rattle.graph_laws.specs.Single.{HasSteps, IsOneStep}
 use Rattle.pardo_fuse.specs.Readers.{cut_of, is_inner, is_kept, is_outer, is_pdo, is_unmarked}
-use Rattle.pardo_fuse.specs.Parting.{part_number, parts, parts_of, part_place, parted_nodes, parted_graph, parted}
+use Rattle.pardo_fuse.specs.Parting.{part_number, parts, parts_of_node, part_place, parted_nodes, parted_graph, parted}
 use Rattle.pardo_fuse.specs.Fusing.{is_first, kids_on, leads, step_in}
 use Rattle.pardo_fuse.proofs.Finding.{any_append}
 use Rattle.pardo_fuse.proofs.Parting.{EachLabel, IsRow, all_parts, first_number, label_both, labels_has, row_of}
@@ -40,7 +40,7 @@ parts_called q k n d (Grow l kids rest) z true e = rw e refl
 
 node_calls : (g : Graph) (q : Place) (t : Place → Bool) → Tells g q t → (n : ℕ) (x : Node)
     → HasSteps IsOneStep x → AllByRecursion (IsThere g.nodes) (reads x)
-    → any_node (calls_on q) (parts_of g.next n (reread (part_place g) x)) ≡ calls_by t x
+    → any_node (calls_on q) (parts_of_node g.next n (reread (part_place g) x)) ≡ calls_by t x
 node_calls g q t h n (Pdo d f) s a =
     parts_called q g.next n (part_place g d) f (filled f s) (t d) (h d a.0)
 node_calls g q t h n _ s a = refl
@@ -51,7 +51,7 @@ calls_all : (g : Graph) (q : Place) (t : Place → Bool) → Tells g q t → (es
     → any_node (calls_on q) (all_parts g.next (part_place g) es) ≡ any_node (calls_by t) es
 calls_all g q t h [] s a = refl
 calls_all g q t h (e ∷ es) s a =
-    any_append (calls_on q) (parts_of g.next e.number (reread (part_place g) e.node))
+    any_append (calls_on q) (parts_of_node g.next e.number (reread (part_place g) e.node))
     (all_parts g.next (part_place g) es)
     ∙ ap (λ (b : Bool). b || any_node (calls_on q) (all_parts g.next (part_place g) es))
     (node_calls g q t h e.number e.node s.0 a.0)

@@ -12,7 +12,7 @@ use Rattle.exec_graph.specs.declared.graph.Entry.{Entry}
 use Rattle.exec_graph.specs.declared.graph.Graph.{Graph}
 use Rattle.exec_graph.proofs.Solving.{each_found}
 use Rattle.graph_laws.specs.Joining.{reread}
-use Rattle.pardo_fuse.specs.Parting.{part_number, parts, parts_of, at_of, part_at, part_place, parted_nodes}
+use Rattle.pardo_fuse.specs.Parting.{part_number, parts, parts_of_node, at_of, part_at, part_place, parted_nodes}
 use Rattle.pardo_fuse.specs.Fusing.{step_in}
 use Rattle.pardo_fuse.proofs.Finding.{any_append}
 use Rattle.pardo_fuse.proofs.Lifting.{those-append}
@@ -123,7 +123,7 @@ or_false false = refl
 
 node_collects : (g : Graph) (q : Place) (t : Place → Bool) → Tells g q t → (n : ℕ) (x : Node)
     → AllByRecursion (IsThere g.nodes) (reads x)
-    → any_node (collects q) (parts_of g.next n (reread (part_place g) x)) ≡ collects_by t x
+    → any_node (collects q) (parts_of_node g.next n (reread (part_place g) x)) ≡ collects_by t x
 node_collects g q t h n (Source r) a = refl
 node_collects g q t h n (Flatten ins) a = or_false (among q (map (part_place g) ins))
     ∙ among_by g q t h ins a
@@ -137,7 +137,7 @@ pub collects_all : (g : Graph) (q : Place) (t : Place → Bool) → Tells g q t 
     → any_node (collects q) (all_parts g.next (part_place g) es) ≡ any_node (collects_by t) es
 collects_all g q t h [] a = refl
 collects_all g q t h (e ∷ es) a =
-    any_append (collects q) (parts_of g.next e.number (reread (part_place g) e.node))
+    any_append (collects q) (parts_of_node g.next e.number (reread (part_place g) e.node))
     (all_parts g.next (part_place g) es)
     ∙ ap (λ (b : Bool). b || any_node (collects q) (all_parts g.next (part_place g) es))
     (node_collects g q t h e.number e.node a.0)
@@ -158,7 +158,7 @@ parts_readers q k n d (Grow l kids rest) false e =
 
 node_readers : (g : Graph) (q : Place) (t : Place → Bool) → Tells g q t → (n : ℕ) (x : Node)
     → node_at g.nodes n ≡ Some x → AllByRecursion (IsThere g.nodes) (reads x)
-    → those (calls_on q) (parts_of g.next n (reread (part_place g) x))
+    → those (calls_on q) (parts_of_node g.next n (reread (part_place g) x))
     ≡ cond (calls_by t x) (sites g n) []
 node_readers g q t h n (Pdo d f) at a =
     parts_readers q g.next n (part_place g d) f (same_place q (part_place g d)) refl
@@ -172,7 +172,7 @@ readers_all : (g : Graph) (q : Place) (t : Place → Bool) → Tells g q t → (
     → readers (all_parts g.next (part_place g) es) q ≡ all_sites g (those (calls_by t) es)
 readers_all g q t h [] f a = refl
 readers_all g q t h (e ∷ es) f a =
-    those-append (calls_on q) (parts_of g.next e.number (reread (part_place g) e.node))
+    those-append (calls_on q) (parts_of_node g.next e.number (reread (part_place g) e.node))
     (all_parts g.next (part_place g) es)
     ∙ ap (λ (l : List ℕ). l ++ readers (all_parts g.next (part_place g) es) q)
     (node_readers g q t h e.number e.node f.0 a.0)

@@ -9,7 +9,7 @@ use Rattle.exec_graph.specs.Meaning.{AllDiffer, node_at}
 use Rattle.exec_graph.specs.Wellformed.{Ascends, size, total_size}
 use Rattle.exec_graph.specs.declared.graph.Node.{Node}
 use Rattle.exec_graph.specs.declared.graph.Entry.{Entry}
-use Rattle.pardo_fuse.specs.Renumbering.{in_order, put_entry}
+use Rattle.pardo_fuse.specs.Renumbering.{entries_in_order, put_entry}
 
 -- ---- what holds of each
 put_all : (P : Entry → Type 0) (e : Entry) (ds : List Entry) → P e → Each P ds
@@ -22,9 +22,9 @@ put_all P e (d ∷ ds) p a = by (ltb e.number d.number) (put_all P e ds p a.1)
     by true i = (p, a)
     by false i = (a.0, i)
 
-pub order_all : (P : Entry → Type 0) (es : List Entry) → Each P es → Each P (in_order es)
+pub order_all : (P : Entry → Type 0) (es : List Entry) → Each P es → Each P (entries_in_order es)
 order_all P [] a = tt
-order_all P (e ∷ es) a = put_all P e (in_order es) a.0 (order_all P es a.1)
+order_all P (e ∷ es) a = put_all P e (entries_in_order es) a.0 (order_all P es a.1)
 
 -- ---- numbers that differ
 abbrev Lacks : ℕ → List Entry → Type 0
@@ -40,10 +40,10 @@ put_differ e (d ∷ ds) a u = by (ltb e.number d.number) (put_differ e ds a.1 u.
     by true i = (a, u)
     by false i = (put_all (λ x. x.number ≡ d.number → ⊥) e ds (λ q. a.0 (sym q)) u.0, i)
 
-pub order_differ : (es : List Entry) → AllDiffer es → AllDiffer (in_order es)
+pub order_differ : (es : List Entry) → AllDiffer es → AllDiffer (entries_in_order es)
 order_differ [] u = tt
 order_differ (e ∷ es) u =
-    put_differ e (in_order es) (order_all (λ d. d.number ≡ e.number → ⊥) es u.0)
+    put_differ e (entries_in_order es) (order_all (λ d. d.number ≡ e.number → ⊥) es u.0)
     (order_differ es u.1)
 
 -- ---- the node under a number
@@ -70,10 +70,10 @@ put_at e (d ∷ ds) n a = by (ltb e.number d.number) (put_at e ds n a.1)
         ∙ swap (eqb e.number n) (eqb d.number n) refl refl
 
 pub order_at : (es : List Entry) (n : ℕ) → AllDiffer es
-    → node_at (in_order es) n ≡ node_at es n
+    → node_at (entries_in_order es) n ≡ node_at es n
 order_at [] n u = refl
 order_at (e ∷ es) n u =
-    put_at e (in_order es) n (order_all (λ d. d.number ≡ e.number → ⊥) es u.0)
+    put_at e (entries_in_order es) n (order_all (λ d. d.number ≡ e.number → ⊥) es u.0)
     ∙ ap (λ (o : Option Node). cond (eqb e.number n) (Some e.node) o) (order_at es n u.1)
 
 -- ---- sums
@@ -85,13 +85,13 @@ put_is e [] = refl
 put_is e (d ∷ ds) =
     ap (λ (l : List Entry). cond (ltb e.number d.number) (e ∷ (d ∷ ds)) (d ∷ l)) (put_is e ds)
 
-order_is : (es : List Entry) → in_order es ≡ bag_by below es
+order_is : (es : List Entry) → entries_in_order es ≡ bag_by below es
 order_is [] = refl
-order_is (e ∷ es) = put_is e (in_order es) ∙ ap (put_by below e) (order_is es)
+order_is (e ∷ es) = put_is e (entries_in_order es) ∙ ap (put_by below e) (order_is es)
 
 pub order_sum : {Y B : Type 0} (s : Y → B → B) → Swaps s → (F : Entry → List Y)
     (es : List Entry) (b : B)
-    → gather s (flat_map F (in_order es)) b ≡ gather s (flat_map F es) b
+    → gather s (flat_map F (entries_in_order es)) b ≡ gather s (flat_map F es) b
 order_sum s sw F es b =
     ap (λ (l : List Entry). gather s (flat_map F l) b) (order_is es)
     ∙ spread-bag below s sw F es b
@@ -107,10 +107,10 @@ put_size e (d ∷ ds) = by (ltb e.number d.number) (put_size e ds)
     by true i = refl
     by false i = omega (arith, i)
 
-pub order_size : (es : List Entry) → total_size (in_order es) ≡ total_size es
+pub order_size : (es : List Entry) → total_size (entries_in_order es) ≡ total_size es
 order_size [] = refl
 order_size (e ∷ es) =
-    let i = order_size es in let j = put_size e (in_order es) in omega (arith, i, j)
+    let i = order_size es in let j = put_size e (entries_in_order es) in omega (arith, i, j)
 
 -- ---- their order
 less_of : (m n : ℕ) → m ≤ n → (m ≡ n → ⊥) → m < n
@@ -144,10 +144,10 @@ put_ascends e (d ∷ ds) a u =
       h,
     )
 
-pub order_ascends : (es : List Entry) → AllDiffer es → Ascends (in_order es)
+pub order_ascends : (es : List Entry) → AllDiffer es → Ascends (entries_in_order es)
 order_ascends [] u = tt
 order_ascends (e ∷ es) u =
-    put_ascends e (in_order es) (order_all (λ d. d.number ≡ e.number → ⊥) es u.0)
+    put_ascends e (entries_in_order es) (order_all (λ d. d.number ≡ e.number → ⊥) es u.0)
     (order_ascends es u.1)
 
 -- ---- those that ascend stay
@@ -157,6 +157,6 @@ put_first e [] a = refl
 put_first e (d ∷ ds) a =
     ap (λ (b : Bool). cond b (e ∷ (d ∷ ds)) (d ∷ put_entry e ds)) (lt-ltb e.number d.number a.0)
 
-pub order_same : (es : List Entry) → Ascends es → in_order es ≡ es
+pub order_same : (es : List Entry) → Ascends es → entries_in_order es ≡ es
 order_same [] u = refl
 order_same (e ∷ es) u = ap (put_entry e) (order_same es u.1) ∙ put_first e es u.0

@@ -19,7 +19,7 @@ use Rattle.graph_laws.specs.Joining.{reread}
 use Rattle.graph_laws.specs.Single.{HasSteps, IsOneStep}
 use Rattle.pardo_fuse.specs.Readers.{is_pdo}
 use Rattle.pardo_fuse.specs.SingleFusing.{HasOneStep, IsLoneOutput}
-use Rattle.pardo_fuse.specs.Parting.{part_number, sole, parts_of, at_of, part_at, part_place, parted_nodes, parted_graph}
+use Rattle.pardo_fuse.specs.Parting.{part_number, sole_output, parts_of_node, at_of, part_at, part_place, parted_nodes, parted_graph}
 use Rattle.pardo_fuse.proofs.Parting.{EachLabel, IsRow, ats_of, differ_parts, each_parts, from_parts, label_weaker, number_div, number_mod, out_at, outs_at, parts_each, parts_from, row_of, small_mod}
 
 -- The nodes have one step each, and numbers below the next one.
@@ -139,26 +139,26 @@ parts_found g can = each_found (parted_nodes g)
 
 node_parts : (P : Entry → Type 0) (g : Graph) (n : ℕ) (x : Node) → node_at g.nodes n ≡ Some x
     → AllByRecursion P (parted_nodes g)
-    → AllByRecursion P (parts_of g.next n (reread (part_place g) x))
+    → AllByRecursion P (parts_of_node g.next n (reread (part_place g) x))
 node_parts P g n x at a =
     all_found (λ (e : Entry). AllByRecursion P
-    (parts_of g.next e.number (reread (part_place g) e.node)))
+    (parts_of_node g.next e.number (reread (part_place g) e.node)))
     g.nodes n x at (from_parts P g.next (part_place g) g.nodes a)
 
 -- What holds of the parts of each node.
 pub each_part : (P : Entry → Type 0) (g : Graph) → AllDiffer g.nodes
     → ((n : ℕ) (x : Node) → node_at g.nodes n ≡ Some x
-    → AllByRecursion P (parts_of g.next n (reread (part_place g) x)))
+    → AllByRecursion P (parts_of_node g.next n (reread (part_place g) x)))
     → AllByRecursion P (parted_nodes g)
 each_part P g d f = parts_from P g.next (part_place g) g.nodes
     (Each-weaker (λ (e : Entry). node_at g.nodes e.number ≡ Some e.node)
-    (λ (e : Entry). AllByRecursion P (parts_of g.next e.number (reread (part_place g) e.node)))
+    (λ (e : Entry). AllByRecursion P (parts_of_node g.next e.number (reread (part_place g) e.node)))
     (λ e at. f e.number e.node at) g.nodes (each_found g.nodes d))
 
 pub label_found : (g : Graph) → CanPart g → (n : ℕ) (c : Place) (f : Forest)
     → node_at g.nodes n ≡ Some (Pdo c f)
     → EachLabel (λ l. node_at (parted_nodes g) (part_number g.next n l.at)
-    ≡ Some (Pdo (part_place g c) (sole l))) f
+    ≡ Some (Pdo (part_place g c) (sole_output l))) f
 label_found g can n c f at =
     each_parts (λ (h : Entry). node_at (parted_nodes g) h.number ≡ Some h.node) g.next n
     (part_place g c) f
@@ -166,7 +166,7 @@ label_found g can n c f at =
     (parts_found g can))
 
 other_first : (P : Entry → Type 0) (k n : ℕ) (r : Place → Place) (x : Node)
-    → is_pdo (Some x) ≡ false → AllByRecursion P (parts_of k n (reread r x))
+    → is_pdo (Some x) ≡ false → AllByRecursion P (parts_of_node k n (reread r x))
     → P (record { number = n; node = reread r x })
 other_first P k n r (Pdo c f) h a = absurd (false≢true (sym h))
 other_first P k n r _ h a = a.0
@@ -196,7 +196,8 @@ parted_pdo g can c d f at h =
     let k : ℕ = g.next in
     let row = row_of f (step_at_node g can c.node d f at) in
     let i = at_out (λ l. node_at (parted_nodes g) (part_number k c.node l.at)
-    ≡ Some (Pdo (part_place g d) (sole l))) 0 c.out f row (label_found g can c.node d f at) h in
+    ≡ Some (Pdo (part_place g d) (sole_output l))) 0 c.out f row (label_found g can c.node d f
+    at) h in
     let b = at_out (λ l. out_at l.at f ≡ l.out) 0 c.out f row (outs_at 0 f row) h in
     let q : ℕ = part_number k c.node (at_of c.out f) in
     let is : part_place g c ≡ place q 0 = ap (part_at k c) at in
@@ -257,11 +258,11 @@ kind_part t same pdos g can c there =
         → t (node_at (parted_nodes g) (part_place g c).node) ≡ t (node_at g.nodes c.node)
     by (Pdo d f) at has =
         let i = at_out (λ l. node_at (parted_nodes g) (part_number g.next c.node l.at)
-        ≡ Some (Pdo (part_place g d) (sole l))) 0 c.out f
+        ≡ Some (Pdo (part_place g d) (sole_output l))) 0 c.out f
         (row_of f (step_at_node g can c.node d f at)) (label_found g can c.node d f at) has in
         ap (λ (o : Option Node). t (node_at (parted_nodes g) (part_at g.next c o).node)) at
         ∙ ap (λ (n : ℕ). t (node_at (parted_nodes g) (part_number g.next c.node n))) i.at
-        ∙ ap t i.holds ∙ pdos (part_place g d) d (sole i.label) f ∙ sym (ap t at)
+        ∙ ap t i.holds ∙ pdos (part_place g d) d (sole_output i.label) f ∙ sym (ap t at)
     by x at has =
         ap (λ (d : Place). t (node_at (parted_nodes g) d.node)) (part_same g c x at refl)
         ∙ ap t (other_found g can c.node x at refl) ∙ same (part_place g) x ∙ sym (ap t at)
@@ -287,7 +288,8 @@ reads_parted Q g can h (Barrier ins o l d) t = all_map (part_place g) (IsThere g
 -- What holds of what a node reads holds of what its parts read.
 parts_read : (Q : ℕ → Place → Type 0) (k n : ℕ) (x : Node) → n < k
     → ((m : ℕ) → m % k ≡ n → AllByRecursion (Q m) (reads x))
-    → AllByRecursion (λ (h : Entry). AllByRecursion (Q h.number) (reads h.node)) (parts_of k n x)
+    → AllByRecursion (λ (h : Entry). AllByRecursion (Q h.number) (reads h.node))
+    (parts_of_node k n x)
 parts_read Q k n (Source r) h f = (tt, tt)
 parts_read Q k n (Pdo c g) h f =
     parts_each (λ (d : Entry). AllByRecursion (Q d.number) (reads d.node)) k n c g
@@ -301,9 +303,10 @@ there_node g can n x at = all_found (λ (e : Entry). AllByRecursion (IsThere g.n
     g.nodes n x at can.ok.there
 
 parts_outs : (k n : ℕ) (x : Node) (r : Place → Place)
-    → AllByRecursion (λ (h : Entry). HasOuts h.node) (parts_of k n (reread r x))
+    → AllByRecursion (λ (h : Entry). HasOuts h.node) (parts_of_node k n (reread r x))
 parts_outs k n (Pdo c f) r = parts_each (λ (h : Entry). HasOuts h.node) k n (r c) f
-    (each_label (λ l. HasOuts (Pdo (r c) (sole l))) (λ l. numbered_differ 0 (Grow l Bare Bare)) f)
+    (each_label (λ l. HasOuts (Pdo (r c) (sole_output l)))
+    (λ l. numbered_differ 0 (Grow l Bare Bare)) f)
 parts_outs k n _ r = (tt, tt)
 
 -- A rank of the former nodes ranks their parts.
@@ -311,7 +314,7 @@ pub parts_ranked : (g : Graph) → CanPart g → (r : ℕ → ℕ) → IsRankedB
     → node_at g.nodes n ≡ Some x
     → AllByRecursion (λ (h : Entry). AllByRecursion
     (λ (c : Place). r (c.node % g.next) < r (h.number % g.next))
-    (reads h.node)) (parts_of g.next n (reread (part_place g) x))
+    (reads h.node)) (parts_of_node g.next n (reread (part_place g) x))
 parts_ranked g can r ra n x at =
     let lower : AllByRecursion (λ (c : Place). r c.node < r n) (reads x) =
     ranked_at r g.nodes n x ra at in
@@ -372,9 +375,9 @@ first_is None = tt
 first_is (Some j) = refl
 
 parts_single : (k n : ℕ) (x : Node) (r : Place → Place)
-    → AllByRecursion (λ (h : Entry). HasOneStep h.node) (parts_of k n (reread r x))
+    → AllByRecursion (λ (h : Entry). HasOneStep h.node) (parts_of_node k n (reread r x))
 parts_single k n (Pdo c f) r = parts_each (λ (h : Entry). HasOneStep h.node) k n (r c) f
-    (each_label (λ l. HasOneStep (Pdo (r c) (sole l))) (λ l. first_is l.out) f)
+    (each_label (λ l. HasOneStep (Pdo (r c) (sole_output l))) (λ l. first_is l.out) f)
 parts_single k n _ r = (tt, tt)
 
 pub HasOneStep-parted : (g : Graph) → AllDiffer g.nodes

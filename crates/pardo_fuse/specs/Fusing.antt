@@ -7,7 +7,7 @@ use Rattle.std.specs.List.{flat_map}
 use Rattle.exec_graph.specs.Forests.{Forest, Bare, Grow, numbered, with_out}
 use Rattle.exec_graph.specs.Meaning.{place, node_at, has_out}
 use Rattle.graph_laws.specs.Joining.{reread}
-use Rattle.graph_laws.specs.Kids.{number_in}
+use Rattle.graph_laws.specs.Kids.{number_after}
 use Rattle.exec_graph.specs.Places.{code}
 use Rattle.exec_graph.specs.declared.graph.Place.{Place}
 use Rattle.exec_graph.specs.declared.graph.Node.{Node}
@@ -19,9 +19,9 @@ use Rattle.pardo_fuse.specs.Renumbering.{renumbered}
 
 -- ---- forests, whose kept outputs have the codes of their former collections
 
-abbrev pub named : Cut → ℕ → Option ℕ → Option ℕ
-named b n None = None
-named b n (Some j) = cond (is_kept b (place n j)) (Some (code (place n j))) None
+abbrev pub name_for : Cut → ℕ → Option ℕ → Option ℕ
+name_for b n None = None
+name_for b n (Some j) = cond (is_kept b (place n j)) (Some (code (place n j))) None
 
 -- the Pdos whose steps become kids on an output of Pdo n
 abbrev pub kids_on : Cut → ℕ → Option ℕ → List ℕ
@@ -32,22 +32,22 @@ kids_on b n (Some j) = cond (is_inner b (place n j)) (readers b.graph.nodes (pla
 abbrev pub hung : Cut → ℕ → (Option ℕ → Forest) → Forest → Forest → Forest
 hung b n over Bare rest = rest
 hung b n over (Grow l kids more) rest =
-    Grow (with_out (named b n l.out) l) (over l.out) (hung b n over more rest)
+    Grow (with_out (name_for b n l.out) l) (over l.out) (hung b n over more rest)
 
 abbrev pub step_in : Option Node → Forest
 step_in (Some (Pdo c f)) = f
 step_in _ = Bare
 
-abbrev pub in_turn : (ℕ → Forest → Forest) → List ℕ → Forest
-in_turn tree [] = Bare
-in_turn tree (n ∷ ns) = tree n (in_turn tree ns)
+abbrev pub trees_in_turn : (ℕ → Forest → Forest) → List ℕ → Forest
+trees_in_turn tree [] = Bare
+trees_in_turn tree (n ∷ ns) = tree n (trees_in_turn tree ns)
 
 -- the trees of the Pdos ns side by side, down to a number of levels: over each output of a step the
 -- trees of its kids
 unfoldable pub hanging : Cut → ℕ → List ℕ → Forest
 hanging b zero ns = Bare
 hanging b (suc k) ns =
-    in_turn (λ n rest. hung b n (λ o. hanging b k (kids_on b n o))
+    trees_in_turn (λ n rest. hung b n (λ o. hanging b k (kids_on b n o))
     (step_in (node_at b.graph.nodes n))
     rest) ns
 
@@ -65,7 +65,7 @@ over_out b n (Some j) = cond (is_inner b (place n j)) (forest_over b (place n j)
 -- the steps that read c side by side, each with what stands over its outputs
 abbrev pub trees_over : Cut → Place → Forest
 trees_over b c =
-    in_turn (λ n rest. hung b n (over_out b n) (step_in (node_at b.graph.nodes n)) rest)
+    trees_in_turn (λ n rest. hung b n (over_out b n) (step_in (node_at b.graph.nodes n)) rest)
     (readers b.graph.nodes c)
 
 -- ---- the nodes that are left
@@ -93,7 +93,7 @@ holds_out n (Pdo c f) = has_out n f
 holds_out n _ = false
 
 abbrev pub out_number : ℕ → Node → ℕ
-out_number n (Pdo c f) = number_in 0 f n
+out_number n (Pdo c f) = number_after 0 f n
 out_number n _ = 0
 
 -- where a former collection is now
@@ -106,15 +106,15 @@ abbrev pub with_numbers : Node → Node
 with_numbers (Pdo c f) = Pdo c (numbered 0 f)
 with_numbers x = x
 
-abbrev pub finished : (Place → Place) → Entry → Entry
-finished r h = record { number = h.number; node = reread r (with_numbers h.node) }
+abbrev pub finished_entry : (Place → Place) → Entry → Entry
+finished_entry r h = record { number = h.number; node = reread r (with_numbers h.node) }
 
 -- the nodes that are left, where former collections are elsewhere
 abbrev pub moved_by : (Place → Place) → List Entry → Cut → Blocked
 moved_by r hs b =
     record {
       graph = record {
-        nodes = map (finished r) hs;
+        nodes = map (finished_entry r) hs;
         outputs = map r b.graph.outputs;
         next = b.graph.next;
       };
@@ -145,16 +145,16 @@ members b (suc k) ns = flat_map (λ n.
 abbrev pub members_over : Cut → Place → List ℕ
 members_over b c = members b (length b.graph.nodes) (readers b.graph.nodes c)
 
-abbrev pub lesser : ℕ → ℕ → ℕ
-lesser n q = cond (ltb q n) q n
+abbrev pub lesser_number : ℕ → ℕ → ℕ
+lesser_number n q = cond (ltb q n) q n
 
-abbrev pub least : ℕ → List ℕ → ℕ
-least n [] = n
-least n (q ∷ qs) = least (lesser n q) qs
+abbrev pub least_number : ℕ → List ℕ → ℕ
+least_number n [] = n
+least_number n (q ∷ qs) = least_number (lesser_number n q) qs
 
 -- the least number of those that become one with the node n, which leads them
 abbrev pub least_at : Cut → ℕ → Option Node → ℕ
-least_at b n (Some (Pdo c f)) = cond (leads b n c) (least n (members_over b c)) n
+least_at b n (Some (Pdo c f)) = cond (leads b n c) (least_number n (members_over b c)) n
 least_at b n _ = n
 
 abbrev pub least_of : Cut → ℕ → ℕ

@@ -18,18 +18,18 @@ abbrev pub part_number : ℕ → ℕ → ℕ → ℕ
 part_number k n at = at * k + n
 
 -- the output alone: its number is 0, where it is kept
-abbrev pub sole : Label → Forest
-sole l = Grow (new_label 0 l) Bare Bare
+abbrev pub sole_output : Label → Forest
+sole_output l = Grow (new_label 0 l) Bare Bare
 
 abbrev pub parts : ℕ → ℕ → Place → Forest → List Entry
 parts k n c Bare = []
 parts k n c (Grow l kids rest) =
-    record { number = part_number k n l.at; node = Pdo c (sole l) } ∷ parts k n c rest
+    record { number = part_number k n l.at; node = Pdo c (sole_output l) } ∷ parts k n c rest
 
 -- what a node becomes
-abbrev pub parts_of : ℕ → ℕ → Node → List Entry
-parts_of k n (Pdo c f) = parts k n c f
-parts_of k n x = record { number = n; node = x } ∷ []
+abbrev pub parts_of_node : ℕ → ℕ → Node → List Entry
+parts_of_node k n (Pdo c f) = parts k n c f
+parts_of_node k n x = record { number = n; node = x } ∷ []
 
 -- the place of the output of that number among those of its step
 abbrev pub at_of : ℕ → Forest → ℕ
@@ -46,7 +46,7 @@ part_place g c = part_at g.next c (node_at g.nodes c.node)
 
 abbrev pub parted_nodes : Graph → List Entry
 parted_nodes g =
-    flat_map (λ e. parts_of g.next e.number (reread (part_place g) e.node)) g.nodes
+    flat_map (λ e. parts_of_node g.next e.number (reread (part_place g) e.node)) g.nodes
 
 abbrev pub parted_graph : Graph → Graph
 parted_graph g = record {

@@ -18,13 +18,13 @@ abbrev pub put_entry : Entry → List Entry → List Entry
 put_entry e [] = e ∷ []
 put_entry e (d ∷ ds) = cond (ltb e.number d.number) (e ∷ d ∷ ds) (d ∷ put_entry e ds)
 
-abbrev pub in_order : List Entry → List Entry
-in_order [] = []
-in_order (e ∷ es) = put_entry e (in_order es)
+abbrev pub entries_in_order : List Entry → List Entry
+entries_in_order [] = []
+entries_in_order (e ∷ es) = put_entry e (entries_in_order es)
 
 abbrev pub renumbered_graph : (ℕ → ℕ) → Graph → Graph
 renumbered_graph l g = record {
-  nodes = in_order (map (renumbered_entry l) g.nodes);
+  nodes = entries_in_order (map (renumbered_entry l) g.nodes);
   outputs = map (at_number l) g.outputs;
   next = g.next;
 }

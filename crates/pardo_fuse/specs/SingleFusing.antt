@@ -41,8 +41,8 @@ pub record CanFuse (b : Cut) : Type 0 where
 
 -- ---- forests whose outputs have the numbers of the former Pdos
 
-abbrev pub named : ℕ → Label → Label
-named n l = with_out (Some n) l
+abbrev pub label_named : ℕ → Label → Label
+label_named n l = with_out (Some n) l
 
 abbrev pub blank : Label
 blank = record { origin = 0; last = false; does = does.Pair; at = 0; out = None }
@@ -58,7 +58,7 @@ step_of _ = blank
 
 -- the step of the Pdo n, under the Pdo's number
 abbrev pub step_at : Cut → ℕ → Label
-step_at b n = named n (step_of (node_at b.graph.nodes n))
+step_at b n = label_named n (step_of (node_at b.graph.nodes n))
 
 -- the Pdos whose parent is the Pdo n
 abbrev pub kids_of : Cut → ℕ → List ℕ
@@ -90,18 +90,19 @@ keeps_output b n = is_kept b (place n 0)
 
 -- all that is computed from c without a kept collection in between: as many levels as there are
 -- nodes are enough
-abbrev pub forest_of : Cut → Place → Forest
-forest_of b c = kept_by (keeps_output b) (trees b (length b.graph.nodes) (readers b.graph.nodes c))
+abbrev pub forest_reading : Cut → Place → Forest
+forest_reading b c =
+    kept_by (keeps_output b) (trees b (length b.graph.nodes) (readers b.graph.nodes c))
 
 -- ---- the nodes that are left
 
-abbrev pub left_of : Cut → ℕ → Node → List Entry
-left_of b n (Pdo c f) =
-    cond (leads b n c) (record { number = n; node = Pdo c (forest_of b c) } ∷ []) []
-left_of b n x = record { number = n; node = x } ∷ []
+abbrev pub entries_left : Cut → ℕ → Node → List Entry
+entries_left b n (Pdo c f) =
+    cond (leads b n c) (record { number = n; node = Pdo c (forest_reading b c) } ∷ []) []
+entries_left b n x = record { number = n; node = x } ∷ []
 
 abbrev pub joined_nodes : Cut → List Entry
-joined_nodes b = flat_map (λ e. left_of b e.number e.node) b.graph.nodes
+joined_nodes b = flat_map (λ e. entries_left b e.number e.node) b.graph.nodes
 
 -- ---- outputs get the numbers from 0 in preorder, and what reads them reads these
 

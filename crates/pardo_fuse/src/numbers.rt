@@ -2,7 +2,7 @@
 ghost use Rattle.std.specs.Prelude.{◌≡◌, ◌∷◌, ℕ, cond, Some, IfOk};
 ghost use Rattle.exec_graph.specs.Forests.{Bare, limb};
 ghost use Rattle.pardo_fuse.specs.Readers.{cut_of};
-ghost use Rattle.pardo_fuse.specs.Fusing.{kids_on, leads, least, least_at, lesser, members, members_over, over_outs};
+ghost use Rattle.pardo_fuse.specs.Fusing.{kids_on, leads, least_number, least_at, lesser_number, members, members_over, over_outs};
 ghost use Rattle.pardo_fuse.specs.inner.Naming.{steps_at};
 ghost use Rattle.pardo_fuse.specs.inner.Numbers.{least_from, members_at, number_in};
 ghost use Rattle.pardo_fuse.specs.inner.Tables.{AreTables};
@@ -49,7 +49,7 @@ fn least_at(blocked: &Blocked, tables: &Tables, number: u32, node: &Node) -> u32
 fn least_over(blocked: &Blocked, tables: &Tables, number: u32, c: Place) -> u32
     requires { AreTables blocked.now tables.now }
     ensures { result ≡ cond (leads (cut_of blocked.now) number c)
-        (least number (members_over (cut_of blocked.now) c)) number }
+        (least_number number (members_over (cut_of blocked.now) c)) number }
 {
     if leads(blocked, tables, number, c) {
         let roots = readers_of(blocked, tables, c);
@@ -63,7 +63,7 @@ fn least_over(blocked: &Blocked, tables: &Tables, number: u32, c: Place) -> u32
 #[cycle(least)]
 fn least_in(blocked: &Blocked, tables: &Tables, levels: usize, numbers: &[u32], so_far: u32) -> u32
     requires { AreTables blocked.now tables.now }
-    ensures { result ≡ least so_far (members (cut_of blocked.now) levels numbers.now) }
+    ensures { result ≡ least_number so_far (members (cut_of blocked.now) levels numbers.now) }
 {
     let mut least = so_far;
     if levels == 0 {
@@ -79,7 +79,7 @@ fn least_in(blocked: &Blocked, tables: &Tables, levels: usize, numbers: &[u32], 
 #[cycle(least)]
 fn least_with(blocked: &Blocked, tables: &Tables, levels: usize, number: u32, so_far: u32) -> u32
     requires { AreTables blocked.now tables.now }
-    ensures { result ≡ least so_far (number ∷ over_outs
+    ensures { result ≡ least_number so_far (number ∷ over_outs
         (members_at (cut_of blocked.now) levels number) (steps_at (cut_of blocked.now) number)) }
 {
     let mut least = lesser(so_far, number);
@@ -100,7 +100,7 @@ fn least_on(
     so_far: u32,
 ) -> u32
     requires { AreTables blocked.now tables.now }
-    ensures { result ≡ least so_far
+    ensures { result ≡ least_number so_far
         (over_outs (members_at (cut_of blocked.now) levels number) (limb step.now Bare)) }
 {
     let mut least = least_above(blocked, tables, levels, number, step.first.number, so_far);
@@ -121,14 +121,14 @@ fn least_above(
     so_far: u32,
 ) -> u32
     requires { AreTables blocked.now tables.now }
-    ensures { result ≡ least so_far (members_at (cut_of blocked.now) levels number out) }
+    ensures { result ≡ least_number so_far (members_at (cut_of blocked.now) levels number out) }
 {
     let kids = kids_on(blocked, tables, number, out);
     least_in(blocked, tables, levels, kids, so_far)
 }
 
 fn lesser(n: u32, q: u32) -> u32
-    ensures { result ≡ lesser n q }
+    ensures { result ≡ lesser_number n q }
 {
     if q < n { q } else { n }
 }

@@ -4,7 +4,7 @@ ghost use Rattle.exec_graph.specs.Places.{code};
 ghost use Rattle.exec_graph.specs.Meaning.{node_at};
 ghost use Rattle.exec_graph.specs.Readers.{readers};
 ghost use Rattle.pardo_fuse.specs.Readers.{cut_of, is_kept, is_pdo, is_unmarked};
-ghost use Rattle.pardo_fuse.specs.Fusing.{is_first, kids_on, leads, named};
+ghost use Rattle.pardo_fuse.specs.Fusing.{is_first, kids_on, leads, name_for};
 ghost use Rattle.pardo_fuse.specs.inner.Tables.{AreTables};
 
 use crate::tables::Tables;
@@ -87,7 +87,7 @@ pub(crate) fn kept_code(
     out: Option<u32>,
 ) -> Option<u64>
     requires { AreTables blocked.now tables.now }
-    ensures { result ≡ named (cut_of blocked.now) number out }
+    ensures { result ≡ name_for (cut_of blocked.now) number out }
 {
     match out {
         Some(j) => code_if_kept(

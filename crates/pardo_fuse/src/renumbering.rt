@@ -2,7 +2,7 @@
 ghost use Rattle.std.specs.Prelude.{◌≡◌, ◌≤◌, ◌==◌, cond, length, map, IfOk};
 ghost use Rattle.std.specs.List.{list_all};
 ghost use Rattle.graph_laws.specs.Joining.{reread};
-ghost use Rattle.pardo_fuse.specs.Renumbering.{at_number, in_order, renumbered, renumbered_entry};
+ghost use Rattle.pardo_fuse.specs.Renumbering.{at_number, entries_in_order, renumbered, renumbered_entry};
 ghost use Rattle.pardo_fuse.specs.inner.Numbers.{number_in, place_before};
 
 use exec_graph::{Blocked, Entry, Graph, Node, Place};
@@ -132,7 +132,7 @@ fn place_under(c: Place, numbers: &HashMap<u32, u32>) -> Place
 
 /// The nodes in ascending order of their numbers.
 fn in_order(alloc: Global, nodes: Vec<Entry>) -> Result<Pile<Entry>, AllocError>
-    ensures { IfOk result (λ all. all ≡ in_order nodes.items) }
+    ensures { IfOk result (λ all. all ≡ entries_in_order nodes.items) }
 {
     let mut left = nodes;
     let mut ordered = Vec::new(alloc);

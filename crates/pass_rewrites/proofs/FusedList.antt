@@ -15,7 +15,7 @@ use Rattle.fuse_chain.proofs.Keeping.{lead_good}
 use Rattle.fuse_chain.proofs.LeastKids.{kids_to_least}
 use Rattle.fuse_chain.proofs.StepSiblings.{steps_lead}
 use Rattle.fusion_blocks.specs.Blocks.{unmarked}
-use Rattle.graph_rewrites.specs.Replays.{Leads, group_of}
+use Rattle.graph_rewrites.specs.Replays.{Leads, rewrite_group}
 use Rattle.graph_rewrites.specs.declared.rewrite.Rewrite.{Rewrite}
 use Rattle.fuse_chain.specs.of_pardo_fuse.Fusing.{fused, fused_by_parents, least_of}
 use Rattle.fuse_chain.specs.of_pardo_fuse.Parting.{parted}
@@ -24,7 +24,7 @@ use Rattle.fuse_chain.specs.of_pardo_fuse.Renumbering.{renumbered_graph}
 use Rattle.fuse_chain.specs.of_pardo_fuse.SingleFusing.{fused_by}
 use Rattle.fuse_chain.specs.of_pardo_fuse.Wellformed.{IsFusible}
 use Rattle.fuse_chain.proofs.of_pardo_fuse.Fused.{IsBlockedOk-parents, same_numbers}
-use Rattle.pass_rewrites.specs.Passes.{ByFusing, as_rewrite, keeper_of, present}
+use Rattle.pass_rewrites.specs.Passes.{ByFusing, as_rewrite, keeper_of, present_fusions}
 use Rattle.pass_rewrites.proofs.Fusing.{fusions_all, sibling_can, sibling_same}
 use Rattle.pass_rewrites.proofs.LesserKids.{kids_renumbered, numbers_agree}
 use Rattle.pass_rewrites.proofs.Lists.{leads_both}
@@ -61,7 +61,7 @@ fusing_list b fu =
     let k : KidsToLeast b = kids_to_least b fu in
     let ok : IsGraphOk middle = (lead_good s.rewrites b.graph middle fu.ok.ok s.leads).formed in
     let first : List Rewrite = map as_rewrite s.rewrites in
-    let behind : List Rewrite = map as_rewrite (present (λ n. n) k.kids.rewrites) in
+    let behind : List Rewrite = map as_rewrite (present_fusions (λ n. n) k.kids.rewrites) in
     let begun : renumbered_graph (λ n. n) middle ≡ middle =
     ap (λ (x : Blocked). x.graph)
     (same_numbers (unmarked middle) ok.founded.ascends (λ n. n) (λ n. refl)) in
@@ -84,7 +84,7 @@ fusing_list b fu =
       lesser = siblings_lesser s.rewrites b.graph middle s.all s.leads;
       leads = subst (λ (rs : List Rewrite). Leads 2 rs (unmarked b.graph)
           (unmarked (fused b).graph))
-          (sym (map_both s.rewrites (present (λ n. n) k.kids.rewrites)))
+          (sym (map_both s.rewrites (present_fusions (λ n. n) k.kids.rewrites)))
           (leads_both 2 2 first behind (unmarked b.graph) (unmarked middle)
           (unmarked (fused b).graph) (fusions_all s.rewrites) (omega arith)
           (siblings_leading s.rewrites b.graph middle s.all s.leads) kids);

@@ -10,7 +10,7 @@ use Rattle.fuse_chain.specs.Rewrites.{IsKid, IsSibling, Fusion}
 use Rattle.fuse_chain.specs.Rewrites as fusion
 use Rattle.graph_laws.specs.Kids.{CanKid, CanPair, with_kid, with_sibling}
 use Rattle.sink_laws.specs.Chain.{forest_of}
-use Rattle.graph_rewrites.specs.Replays.{group_of}
+use Rattle.graph_rewrites.specs.Replays.{rewrite_group}
 use Rattle.graph_rewrites.specs.Rewrites.{forest_at, input_at, input_of, kid_under, rewritten}
 use Rattle.pass_rewrites.specs.Passes.{as_rewrite}
 
@@ -71,7 +71,7 @@ sibling_same p q g h m =
 
 -- ---- both
 
-pub fusions_all : (rs : List Fusion) → Each (λ r. group_of r ≡ 2) (map as_rewrite rs)
+pub fusions_all : (rs : List Fusion) → Each (λ r. rewrite_group r ≡ 2) (map as_rewrite rs)
 fusions_all [] = tt
 fusions_all (fusion.Kid p k q ∷ rs) = (refl, fusions_all rs)
 fusions_all (fusion.Sibling p q ∷ rs) = (refl, fusions_all rs)

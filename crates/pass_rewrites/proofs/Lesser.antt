@@ -19,7 +19,7 @@ use Rattle.graph_laws.specs.Kids.{with_kid}
 use Rattle.graph_laws.proofs.Wellness.{differ_map, mapped, node_at-map, node_at-set_other, node_at-set_same, reads_lower}
 use Rattle.graph_rewrites.specs.Exchange.{exchanged, other_number, swapped}
 use Rattle.graph_rewrites.proofs.Numbers.{other_far, other_left, other_right, other_twice}
-use Rattle.fuse_chain.specs.of_pardo_fuse.Renumbering.{at_number, in_order, renumbered_entry, renumbered_graph}
+use Rattle.fuse_chain.specs.of_pardo_fuse.Renumbering.{at_number, entries_in_order, renumbered_entry, renumbered_graph}
 use Rattle.fuse_chain.proofs.of_pardo_fuse.Sorting.{order_ascends, order_at, order_differ}
 use Rattle.fuse_chain.proofs.KidNumbers.{Holds, differ_numbered, kid_numbered}
 use Rattle.fuse_chain.proofs.Renumbers.{IsWithin, order_reread, order_set, same_eqb, set_differ}
@@ -80,18 +80,19 @@ node_under l inj g d k =
 
 -- ---- nodes that are the same under each number stand in one order
 same_order : (xs ys : List Entry) → AllDiffer xs → AllDiffer ys
-    → ((n : ℕ) → node_at xs n ≡ node_at ys n) → in_order xs ≡ in_order ys
+    → ((n : ℕ) → node_at xs n ≡ node_at ys n) → entries_in_order xs ≡ entries_in_order ys
 same_order xs ys u v same =
-    one_list (in_order xs) (in_order ys) (order_ascends xs u) (order_ascends ys v)
+    one_list (entries_in_order xs) (entries_in_order ys) (order_ascends xs u) (order_ascends ys v)
     (stand xs ys u v same) (stand ys xs v u (λ n. sym (same n)))
   where
     stand : (xs ys : List Entry) → AllDiffer xs → AllDiffer ys
-        → ((n : ℕ) → node_at xs n ≡ node_at ys n) → StandIn (in_order xs) (in_order ys)
+        → ((n : ℕ) → node_at xs n ≡ node_at ys n)
+        → StandIn (entries_in_order xs) (entries_in_order ys)
     stand xs ys u v same =
-        Each-weaker (λ (e : Entry). node_at (in_order xs) e.number ≡ Some e.node)
-        (λ (e : Entry). node_at (in_order ys) e.number ≡ Some e.node)
+        Each-weaker (λ (e : Entry). node_at (entries_in_order xs) e.number ≡ Some e.node)
+        (λ (e : Entry). node_at (entries_in_order ys) e.number ≡ Some e.node)
         (λ e at. order_at ys e.number v ∙ sym (same e.number) ∙ sym (order_at xs e.number u) ∙ at)
-        (in_order xs) (each_found (in_order xs) (order_differ xs u))
+        (entries_in_order xs) (each_found (entries_in_order xs) (order_differ xs u))
 
 none_set : (es : List Entry) (n k : ℕ) (z : Node) → (k ≡ n → ⊥) → node_at es k ≡ None
     → node_at (set_node es n z) k ≡ None
@@ -214,8 +215,8 @@ swap_numbered g l inj u p q c d f h at_p at_q differ =
     let at_a : node_at X a ≡ Some z = node_moved l inj g.nodes p ∙ ap (mapped x) at_p in
     let at_b : node_at X b ≡ Some y = node_moved l inj g.nodes q ∙ ap (mapped x) at_q in
     let last : List Entry = map (reread_entry E) two in
-    let nodes : map (reread_entry E) (set_node (set_node (in_order X) a y) b z)
-    ≡ in_order (map (renumbered_entry m) g.nodes) =
+    let nodes : map (reread_entry E) (set_node (set_node (entries_in_order X) a y) b z)
+    ≡ entries_in_order (map (renumbered_entry m) g.nodes) =
     ap (map (reread_entry E)) (ap (λ (k : List Entry). set_node k b z) (sym (order_set X a y dX))
     ∙ sym (order_set one b z d_one))
     ∙ sym (order_reread E two)

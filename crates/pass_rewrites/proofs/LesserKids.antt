@@ -14,7 +14,7 @@ use Rattle.exec_graph.specs.declared.graph.Place.{Place}
 use Rattle.exec_graph.proofs.Entries.{entry}
 use Rattle.exec_graph.proofs.Solving.{each_found, gives_found}
 use Rattle.exec_graph.proofs.Soundness.{IsSound-ok}
-use Rattle.fuse_chain.specs.Numbers.{after_kid, after_kids, other_of_two}
+use Rattle.fuse_chain.specs.Numbers.{numbers_after_kid, after_kids, other_of_two}
 use Rattle.fuse_chain.specs.Rewrites.{IsKid, FusesTo as Fuses, Fusion, is_sibling}
 use Rattle.fuse_chain.specs.Rewrites as fusion
 use Rattle.fuse_chain.proofs.Keeping.{lead_good}
@@ -26,8 +26,8 @@ use Rattle.graph_laws.proofs.Wellness.{mapped, reads_lower}
 use Rattle.graph_rewrites.specs.Exchange.{other_number, swapped}
 use Rattle.graph_rewrites.specs.Replays.{Leads}
 use Rattle.graph_rewrites.specs.Rewrites.{forest_at, input_at, kid_under, kid_under_other, rewritten}
-use Rattle.fuse_chain.specs.of_pardo_fuse.Renumbering.{at_number, in_order, renumbered_entry, renumbered_graph}
-use Rattle.pass_rewrites.specs.Passes.{as_rewrite, present}
+use Rattle.fuse_chain.specs.of_pardo_fuse.Renumbering.{at_number, entries_in_order, renumbered_entry, renumbered_graph}
+use Rattle.pass_rewrites.specs.Passes.{as_rewrite, present_fusions}
 use Rattle.pass_rewrites.proofs.Fusing.{forest_is, input_is, kid_can, kid_made}
 use Rattle.pass_rewrites.proofs.Lesser.{KeepsAll, kid_kept, kid_other, node_under}
 
@@ -90,7 +90,7 @@ module _ (g h : Graph) (l : ℕ → ℕ) (keeps : KeepsAll l) (ok : IsSound g) (
       ∙ ap (renumbered_graph (λ n. other_number (l p) (l q) (l n))) m.is
 
   pub kid_renumbered : rewritten now (as_rewrite (fusion.Kid (l p) k (l q)))
-      ≡ renumbered_graph (after_kid l p q) h
+      ≡ renumbered_graph (numbers_after_kid l p q) h
   kid_renumbered = by (ltb (l q) (l p))
     where
       by : (t : Bool)
@@ -103,7 +103,7 @@ module _ (g h : Graph) (l : ℕ → ℕ) (keeps : KeepsAll l) (ok : IsSound g) (
       (forest_at now (l q))
   kid_allowed = kid_can (l p) k (l q) now made kid_now
 
-  pub keeps_after : KeepsAll (after_kid l p q)
+  pub keeps_after : KeepsAll (numbers_after_kid l p q)
   keeps_after i j e = keeps i j (by (ltb (l q) (l p)) e)
     where
       by : (t : Bool)
@@ -119,18 +119,19 @@ module _ (g h : Graph) (l : ℕ → ℕ) (keeps : KeepsAll l) (ok : IsSound g) (
 -- ---- kids one after another
 pub kids_renumbered : (rs : List Fusion) (g h : Graph) (l : ℕ → ℕ) → KeepsAll l → IsGraphOk g
     → Each (λ r. is_sibling r ≡ false) rs → Fuses rs g h
-    → Leads 2 (map as_rewrite (present l rs)) (unmarked (renumbered_graph l g))
+    → Leads 2 (map as_rewrite (present_fusions l rs)) (unmarked (renumbered_graph l g))
     (unmarked (renumbered_graph (after_kids rs l) h))
 kids_renumbered [] g h l keeps ok all f = ap (λ (x : Graph). unmarked (renumbered_graph l x)) f
 kids_renumbered (fusion.Kid p k q ∷ rs) g h l keeps ok all f =
     let sound : IsSound g = IsSound-ok g ok in
-    let new : ℕ → ℕ = after_kid l p q in
-    let rest : Leads 2 (map as_rewrite (present new rs)) (unmarked (renumbered_graph new f.0))
+    let new : ℕ → ℕ = numbers_after_kid l p q in
+    let rest : Leads 2 (map as_rewrite (present_fusions new rs))
+    (unmarked (renumbered_graph new f.0))
     (unmarked (renumbered_graph (after_kids rs new) h)) =
     kids_renumbered rs f.0 h new (keeps_after g f.0 l keeps sound p k q f.1)
     (lead_good (fusion.Kid p k q ∷ []) g f.0 ok (f.0, f.1, refl)).formed all.1 f.2 in (
       (let at : 2 ≤ 2 = omega arith in at, kid_allowed g f.0 l keeps sound p k q f.1),
-      subst (λ (x : Graph). Leads 2 (map as_rewrite (present new rs)) (unmarked x)
+      subst (λ (x : Graph). Leads 2 (map as_rewrite (present_fusions new rs)) (unmarked x)
           (unmarked (renumbered_graph (after_kids rs new) h)))
           (sym (kid_renumbered g f.0 l keeps sound p k q f.1)) rest,
     )
@@ -176,5 +177,5 @@ module _ (g : Graph) (ok : IsSound g) (l m : ℕ → ℕ)
         outputs = cs;
         next = g.next;
       } in h)
-      (ap in_order (entries_agree g.nodes (each_found g.nodes ok.differ) ok.there))
+      (ap entries_in_order (entries_agree g.nodes (each_found g.nodes ok.differ) ok.there))
       (places_agree g.outputs ok.told)

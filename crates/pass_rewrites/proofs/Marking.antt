@@ -20,7 +20,7 @@ use Rattle.exec_graph.proofs.Soundness.{IsSound-ok}
 use Rattle.fusion_blocks.specs.Blocks.{CanMark, IsBlocked, MarksLead, takes_mark, unmarked}
 use Rattle.fusion_blocks.proofs.Blocking.{blocked_can}
 use Rattle.graph_laws.specs.Joining.{reread}
-use Rattle.fuse_chain.specs.of_pardo_fuse.Fusing.{finished, forest_over, fused, fused_by_parents, holds_out, joined_by, kept_nodes, kept_of, leads, least_of, moved_to, out_number, with_numbers}
+use Rattle.fuse_chain.specs.of_pardo_fuse.Fusing.{finished_entry, forest_over, fused, fused_by_parents, holds_out, joined_by, kept_nodes, kept_of, leads, least_of, moved_to, out_number, with_numbers}
 use Rattle.fuse_chain.specs.of_pardo_fuse.Renumbering.{at_number}
 use Rattle.fuse_chain.specs.of_pardo_fuse.Readers.{Cut, cut_of}
 use Rattle.fuse_chain.specs.of_pardo_fuse.Wellformed.{IsFusible}
@@ -82,18 +82,18 @@ module _ (b : Cut) where
       by false i f = f
 
   kinds_finished : (r : Place → Place) (hs : List Entry) → Each IsOfKind hs
-      → Each IsOfKind (map (finished r) hs)
+      → Each IsOfKind (map (finished_entry r) hs)
   kinds_finished r hs a =
-      all_map (finished r) IsOfKind IsOfKind (λ h k. takes_finished r h.node ∙ k) hs a
+      all_map (finished_entry r) IsOfKind IsOfKind (λ h k. takes_finished r h.node ∙ k) hs a
 
   -- so it can be marked where it is there
   mark_there : (r : Place → Place) (hs : List Entry) (c : Place) (g : Graph)
-      → g.nodes ≡ map (finished r) hs → Each IsOfKind hs
+      → g.nodes ≡ map (finished_entry r) hs → Each IsOfKind hs
       → takes_mark (node_at es c.node) ≡ true → IsThere g.nodes c → CanMark g c
   mark_there r hs c g is a t there =
       let x = gives_found (node_at g.nodes c.node) c.out there in
       let kind : takes_mark (Some x.0) ≡ takes_mark (node_at es c.node) =
-      all_found IsOfKind (map (finished r) hs) c.node x.0
+      all_found IsOfKind (map (finished_entry r) hs) c.node x.0
       (ap (λ (l : List Entry). node_at l c.node) (sym is) ∙ x.1) (kinds_finished r hs a) in
       record { there = there; kind = ap takes_mark x.1 ∙ kind ∙ t }
 
@@ -120,7 +120,7 @@ all_marks : (b : Blocked) → Each (CanMark b.graph) b.marks → ByRewrites 3 (u
 all_marks b a = marks_list b.marks (unmarked b.graph) b (lead_marks b.marks [] b.graph a)
 
 moved_can : (b : Cut) (r : Place → Place) (hs : List Entry) (g : Graph) (cs : List Place)
-    → g.nodes ≡ map (finished r) hs → r ≡ moved_to hs → Each (IsOfKind b) hs
+    → g.nodes ≡ map (finished_entry r) hs → r ≡ moved_to hs → Each (IsOfKind b) hs
     → Each (λ c. takes_mark (node_at b.graph.nodes c.node) ≡ true) cs
     → Each (IsThere g.nodes) (map r cs) → Each (CanMark g) (map r cs)
 moved_can b r hs g [] is same a t there = tt

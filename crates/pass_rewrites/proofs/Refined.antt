@@ -18,7 +18,7 @@ use Rattle.sink_laws.proofs.Nexts.{kept_sunk}
 use Rattle.sink_laws.proofs.TypesKept.{AllSteps-kept}
 use Rattle.graph_rewrites.specs.Replays.{Leads}
 use Rattle.graph_rewrites.specs.declared.rewrite.Rewrite.{Rewrite}
-use Rattle.pass_rewrites.specs.Passes.{ByFusing, ByRewrites, as_rewrite, present}
+use Rattle.pass_rewrites.specs.Passes.{ByFusing, ByRewrites, as_rewrite, present_fusions}
 use Rattle.pass_rewrites.proofs.FusedList.{fusing_list}
 use Rattle.pass_rewrites.proofs.Fusing.{fusions_all}
 use Rattle.pass_rewrites.proofs.Lists.{leads_both}
@@ -32,11 +32,12 @@ fused_lead : (g : Graph) (b : Blocked) → b.graph ≡ g → IsFusible b
     → (rs : List Rewrite) × Leads 2 rs (unmarked g) (fused b)
 fused_lead g b same fu m =
     let f : ByFusing b.graph (fused b).graph = fusing_list b fu in
-    let rs : List Rewrite = map as_rewrite (f.siblings ++ present (λ n. n) f.formers) in (
+    let rs : List Rewrite = map as_rewrite (f.siblings ++ present_fusions (λ n. n) f.formers) in (
       rs ++ m.rewrites,
       subst (λ (x : Graph). Leads 2 (rs ++ m.rewrites) (unmarked x) (fused b)) same
           (leads_both 2 3 rs m.rewrites (unmarked b.graph) (unmarked (fused b).graph) (fused b)
-          (fusions_all (f.siblings ++ present (λ n. n) f.formers)) (omega arith) f.leads m.leads),
+          (fusions_all (f.siblings ++ present_fusions (λ n. n) f.formers)) (omega arith) f.leads
+          m.leads),
     )
 
 -- ---- sinking and lifting, and then these

@@ -12,7 +12,7 @@ use Rattle.graph_laws.proofs.LiftChain.{lifts_lead}
 use Rattle.sink_laws.specs.Chain.{IsLink, SinksTo as Sinks, go, stay}
 use Rattle.sink_laws.specs.Kept.{KeepsTypesAndSteps}
 use Rattle.sink_laws.proofs.Nexts.{kept_sunk, next_link}
-use Rattle.graph_rewrites.specs.Replays.{CanFollow, Leads, group_of}
+use Rattle.graph_rewrites.specs.Replays.{CanFollow, Leads, rewrite_group}
 use Rattle.graph_rewrites.specs.Rewrites.{applied}
 use Rattle.graph_rewrites.specs.declared.rewrite.Rewrite.{Rewrite}
 use Rattle.graph_rewrites.specs.declared.rewrite.Rewrite.TheVariants.{Merge, Sink, Lift, Mark}
@@ -26,11 +26,11 @@ behind : (a b : Blocked) (s : ByRewrites 0 a b) → last_group 0 s.rewrites ≤ 
 behind a b s = let last : last_group 0 s.rewrites ≡ 0 = last_is 0 s.rewrites s.all in omega arith
 
 one_more : (g h i : Graph) (r : Rewrite) (s : ByRewrites 0 (unmarked g) (unmarked h))
-    → group_of r ≡ 0 → CanFollow (last_group 0 s.rewrites) (unmarked h) r
+    → rewrite_group r ≡ 0 → CanFollow (last_group 0 s.rewrites) (unmarked h) r
     → applied (unmarked h) r ≡ unmarked i → ByRewrites 0 (unmarked g) (unmarked i)
 one_more g h i r s e f is = record {
   rewrites = s.rewrites ++ r ∷ [];
-  all = Each-append (λ (x : Rewrite). group_of x ≡ 0) s.rewrites (r ∷ []) s.all (e, tt);
+  all = Each-append (λ (x : Rewrite). rewrite_group x ≡ 0) s.rewrites (r ∷ []) s.all (e, tt);
   leads = subst (λ (x : Blocked). Leads 0 (s.rewrites ++ r ∷ []) (unmarked g) x) is
       (leads_more 0 s.rewrites r (unmarked g) (unmarked h) s.leads f);
 }
@@ -60,7 +60,7 @@ lifts_by [] g h l = ap unmarked l
 lifts_by (n ∷ ns) g h l =
     ((let at : 1 ≤ 1 = omega arith in at, l.0), lifts_by ns (lifted_at n g) h l.1)
 
-lifts_all : (ns : List ℕ) → Each (λ r. group_of r ≡ 1) (map (λ n. Lift n) ns)
+lifts_all : (ns : List ℕ) → Each (λ r. rewrite_group r ≡ 1) (map (λ n. Lift n) ns)
 lifts_all [] = tt
 lifts_all (n ∷ ns) = (refl, lifts_all ns)
 
@@ -81,7 +81,7 @@ marks_by [] a b l = l
 marks_by (c ∷ cs) a b l =
     ((let at : 3 ≤ 3 = omega arith in at, l.0), marks_by cs (with_mark a c) b l.1)
 
-marks_all : (cs : List Place) → Each (λ r. group_of r ≡ 3) (map (λ c. Mark c.node c.out) cs)
+marks_all : (cs : List Place) → Each (λ r. rewrite_group r ≡ 3) (map (λ c. Mark c.node c.out) cs)
 marks_all [] = tt
 marks_all (c ∷ cs) = (refl, marks_all cs)
 

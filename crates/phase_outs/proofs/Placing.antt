@@ -4,7 +4,7 @@ use Rattle.std.specs.Prelude.{slice_get, slice_index, All}
 use Rattle.std.specs.Option.{option_map}
 use Rattle.std.proofs.lemmas.List.{length-map}
 use Rattle.std.proofs.lemmas.Option.{get_or_from_slice_get, none-some, same_Some, slice_get-map, slice_get_within}
-use Rattle.claim_board.specs.Protocol.{BoardState, word}
+use Rattle.claim_board.specs.Protocol.{BoardState, word_of_task}
 use Rattle.flume_collection.specs.declared.trap.Trap.{Trap}
 use Rattle.crew.specs.declared.kept.KeptOut.{KeptOut}
 use Rattle.crew.specs.Drills.{Settings}
@@ -95,7 +95,7 @@ module _ (tasks : ℕ) (s : Settings) {O : Type 0} (is_value : ℕ → Result O 
       → slice_index board.words t ≡ k.attempt
   word_at t k e =
       subst (λ i. slice_index board.words i ≡ k.attempt) (task_at t k e)
-      (held (λ k. word board k.task ≡ k.attempt) a.winners t k e)
+      (held (λ k. word_of_task board k.task ≡ k.attempt) a.winners t k e)
 
   made_at : (t : ℕ) (k : KeptOut (Result O Trap)) (out : Result O Trap)
       → slice_get ks t ≡ Some k → k.out ≡ out

@@ -15,7 +15,7 @@ use Rattle.graph_rewrites.specs.Replays.{StopsAt}
 use Rattle.graph_rewrites.specs.declared.rewrite.Rewrite.{Rewrite}
 use Rattle.graph_rewrites.proofs.Replaying.{leads_ok, leads_on, leads_one, stops_once}
 use Rattle.optimise.specs.Optimised.{source_count}
-use Rattle.plan_files.specs.Forms.{file_of}
+use Rattle.plan_files.specs.Forms.{plan_file_of}
 use Rattle.plan_files.specs.Reads.{HasNoShape, HasValue, IsFile, IsNoJson}
 use Rattle.plan_files.specs.declared.file.PlanFile.{PlanFile}
 use Rattle.plan_json.specs.PlanJson.{plan_json_of}
@@ -42,15 +42,15 @@ no_value bytes d none a =
 file_one : (bytes : List ℕ) (f h : PlanFile) → IsFile bytes f → IsFile bytes h → f ≡ h
 file_one bytes f h a b =
     let same : a.0 ≡ b.0 = value_one bytes a.0 b.0 a.1 b.1 in
-    let p : file_of a.0 ≡ Some f = a.2 in
-    let q : file_of a.0 ≡ Some h = ap file_of same ∙ b.2 in
+    let p : plan_file_of a.0 ≡ Some f = a.2 in
+    let q : plan_file_of a.0 ≡ Some h = ap plan_file_of same ∙ b.2 in
     cc
 
 no_file : (bytes : List ℕ) (f : PlanFile) → HasNoShape bytes → IsFile bytes f → ⊥
 no_file bytes f a b =
     let same : a.0 ≡ b.0 = value_one bytes a.0 b.0 a.1 b.1 in
-    let p : file_of a.0 ≡ None = a.2 in
-    let q : file_of a.0 ≡ Some f = ap file_of same ∙ b.2 in
+    let p : plan_file_of a.0 ≡ None = a.2 in
+    let q : plan_file_of a.0 ≡ Some f = ap plan_file_of same ∙ b.2 in
     cc
 
 -- ---- what rewrites lead to

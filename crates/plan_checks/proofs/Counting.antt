@@ -3,18 +3,19 @@ use Rattle.std.proofs.Common.{◌≡◌, ℕ, ◌+◌, ◌≤◌, List, [], ◌�
 use Rattle.exec_graph.specs.Forests.{Branch, Twig, Forest, twigs, limb, grown}
 use Rattle.exec_graph.specs.Twigs.{twig}
 use Rattle.exec_graph.specs.declared.step.Output.{Output}
-use Rattle.exec_plan.specs.Wellformed.{kept, out_count}
+use Rattle.exec_plan.specs.Wellformed.{outputs_told, out_count}
 use Rattle.plan_checks.specs.inner.Counts.{branch_from, branch_kept, branches_from, branches_kept, out_from, outs_from, then_from, twig_from, twigs_from, twigs_kept}
 
 twigs_counted : (b : Branch) (n : ℕ) (ts : List Twig) (rest : Forest)
-    → kept (twigs b n ts rest) ≡ twigs_kept ts + kept rest
+    → outputs_told (twigs b n ts rest) ≡ twigs_kept ts + outputs_told rest
 twigs_counted b n [] rest = omega arith
 twigs_counted b n (t ∷ ts) rest = omega (arith, twigs_counted b (suc n) ts rest)
 
-limb_counted : (b : Branch) (rest : Forest) → kept (limb b rest) ≡ branch_kept b + kept rest
+limb_counted : (b : Branch) (rest : Forest)
+    → outputs_told (limb b rest) ≡ branch_kept b + outputs_told rest
 limb_counted b rest = twigs_counted b 0 (b.first ∷ b.more) rest
 
-pub grown_counted : (bs : List Branch) → kept (grown bs) ≡ branches_kept bs
+pub grown_counted : (bs : List Branch) → outputs_told (grown bs) ≡ branches_kept bs
 grown_counted [] = refl
 grown_counted (b ∷ bs) = omega (arith, limb_counted b (grown bs), grown_counted bs)
 
@@ -23,7 +24,7 @@ out_few None = omega arith
 out_few (Some j) = omega arith
 
 pub kids_counted : (o : Output) (items : List Branch) → items ≡ o.kids.items
-    → branches_kept items ≡ kept (grown o.kids.items)
+    → branches_kept items ≡ outputs_told (grown o.kids.items)
 kids_counted o items e = ap branches_kept e ∙ sym (grown_counted o.kids.items)
 
 -- ---- numbers

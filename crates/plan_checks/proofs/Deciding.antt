@@ -5,7 +5,7 @@ use Rattle.std.proofs.lemmas.Bool.Decides.{nat_tests}
 use Rattle.std.specs.Bool.{Decides}
 use Rattle.std.specs.List.{AllByRecursion, list_all, slice_get}
 use Rattle.combine_table.specs.declared.comb.Comb.{Comb}
-use Rattle.exec_graph.specs.Forests.{Label, Forest, Bare, Grow, after, after_out, new_label, new_out, numbered, with_out}
+use Rattle.exec_graph.specs.Forests.{Label, Forest, Bare, Grow, next_after, after_out, new_label, new_out, numbered, with_out}
 use Rattle.exec_graph.specs.Wellformed.{root_comb}
 use Rattle.graph_checks.proofs.Combs.{comb_from, comb_to}
 use Rattle.exec_plan.specs.declared.plan.PlanPlace.{PlanPlace}
@@ -19,7 +19,7 @@ use Rattle.exec_plan.specs.declared.plan.Mscr.{Mscr as Channels}
 use Rattle.exec_plan.specs.declared.plan.Stage.{Stage}
 use Rattle.exec_plan.specs.declared.plan.Stage.TheVariants.{Mscr, Flatten, Operate}
 use Rattle.exec_plan.specs.declared.plan.Plan.{Plan}
-use Rattle.exec_plan.specs.Wellformed.{AreOutChannels, AreStages, stage_has_objects, Exists, IsGroupOk, IsLiftOk, IsPlaceSoFar, IsMscrOk, IsNumbered, IsOutOk, IsPlanOk, IsStageOk, is_pass, most_channels, outs_at, results_at, width}
+use Rattle.exec_plan.specs.Wellformed.{AreOutChannels, AreStages, stage_has_objects, Exists, IsGroupOk, IsLiftOk, IsPlaceSoFar, IsMscrOk, IsNumbered, IsOutOk, IsPlanOk, IsStageOk, is_pass, most_channels, outputs_count_at, results_at, results_given}
 use Rattle.exec_plan.specs.Meaning.{in_reads}
 use Rattle.plan_checks.specs.inner.Counts.{out_from, outs_from, then_from}
 use Rattle.plan_checks.specs.inner.Tests.{combines_by, exists_test, group_test, in_test, is_there, lift_test, made_test, mscr_test, numbered_test, out_test, outs_test, plan_test, stage_test, stages_test}
@@ -72,14 +72,14 @@ grow_parts l m a b c d h = (cc, cc, cc)
 label_out : (n : ℕ) (l : Label) → new_out n l.out ≡ l.out → new_label n l ≡ l
 label_out n l h = ap (λ (o : Option ℕ). with_out o l) h
 
-numbered_found : (n : ℕ) (f : Forest) → numbered n f ≡ f → outs_from n f ≡ Some (after n f)
+numbered_found : (n : ℕ) (f : Forest) → numbered n f ≡ f → outs_from n f ≡ Some (next_after n f)
 numbered_found n Bare h = refl
 numbered_found n (Grow l kids rest) h =
     let p = grow_parts (new_label n l) l (numbered (after_out n l.out) kids)
-    (numbered (after (after_out n l.out) kids) rest) kids rest h in
+    (numbered (next_after (after_out n l.out) kids) rest) kids rest h in
     let o : new_out n l.out ≡ l.out = ap (λ (m : Label). m.out) p.0 in
     rw ((out_kept n l.out).0 o) (rw (numbered_found (after_out n l.out) kids p.1)
-    (numbered_found (after (after_out n l.out) kids) rest p.2))
+    (numbered_found (next_after (after_out n l.out) kids) rest p.2))
 
 found_then : (o : Option ℕ) (f : ℕ → Option ℕ) (k : ℕ) → then_from o f ≡ Some k
     → (i : ℕ) × (o ≡ Some i) × (f i ≡ Some k)
@@ -87,7 +87,7 @@ found_then None f k h = let bad : ⊥ = cc in absurd bad
 found_then (Some i) f k h = (i, refl, h)
 
 found_numbered : (n : ℕ) (f : Forest) (k : ℕ) → outs_from n f ≡ Some k
-    → (numbered n f ≡ f) × (k ≡ after n f)
+    → (numbered n f ≡ f) × (k ≡ next_after n f)
 found_numbered n Bare k h = (refl, cc)
 found_numbered n (Grow l kids rest) k h =
     let a = found_then (then_from (out_from n l.out) (λ k. outs_from k kids))
@@ -99,21 +99,22 @@ found_numbered n (Grow l kids rest) k h =
     let e : b.0 ≡ after_out n l.out = o.1 in
     let x' : numbered (after_out n l.out) kids ≡ kids =
     subst (λ (i : ℕ). numbered i kids ≡ kids) e x.0 in
-    let e' : a.0 ≡ after (after_out n l.out) kids = x.1 ∙ ap (λ (i : ℕ). after i kids) e in
-    let y' : numbered (after (after_out n l.out) kids) rest ≡ rest =
+    let e' : a.0 ≡ next_after (after_out n l.out) kids =
+    x.1 ∙ ap (λ (i : ℕ). next_after i kids) e in
+    let y' : numbered (next_after (after_out n l.out) kids) rest ≡ rest =
     subst (λ (i : ℕ). numbered i rest ≡ rest) e' y.0 in (
       ap (λ (m : Label). Grow m (numbered (after_out n l.out) kids)
-          (numbered (after (after_out n l.out) kids) rest)) (label_out n l o.0)
-          ∙ ap (λ (t : Forest). Grow l t (numbered (after (after_out n l.out) kids) rest)) x'
+          (numbered (next_after (after_out n l.out) kids) rest)) (label_out n l o.0)
+          ∙ ap (λ (t : Forest). Grow l t (numbered (next_after (after_out n l.out) kids) rest)) x'
           ∙ ap (λ (t : Forest). Grow l kids t) y',
-      y.1 ∙ ap (λ (i : ℕ). after i rest) e',
+      y.1 ∙ ap (λ (i : ℕ). next_after i rest) e',
     )
 
 there_decides : (n : ℕ) (f : Forest) (o : Option ℕ) → outs_from n f ≡ o
     → Decides (is_there o) (numbered n f ≡ f)
 there_decides n f None e = (
   λ h. absurd (false≢true h),
-  λ p. let bad : ⊥ = (let x : None ≡ Some (after n f) = sym e ∙ numbered_found n f p in cc) in
+  λ p. let bad : ⊥ = (let x : None ≡ Some (next_after n f) = sym e ∙ numbered_found n f p in cc) in
       absurd bad,
 )
 there_decides n f (Some k) e = (λ h. (found_numbered n f k e).0, λ p. refl)
@@ -137,7 +138,7 @@ lift_decides (Some k) (Some f) = combines_decides k (root_comb f)
 
 -- ---- channels
 exists_decides : (ins : List InChannel) (k : Take) → Decides (exists_test ins k) (Exists ins k)
-exists_decides ins k = less_decides k.out (outs_at (slice_get ins k.channel))
+exists_decides ins k = less_decides k.out (outputs_count_at (slice_get ins k.channel))
 
 group_decides : (ins : List InChannel) (passed : Bool) (n : ℕ) (g : Grouping)
     → Decides (group_test ins passed n g) (IsGroupOk ins passed n g)
@@ -170,20 +171,22 @@ outs_decides : (ins : List InChannel) (passed : Bool) (n : ℕ) (cs : List OutCh
     → Decides (outs_test ins passed n cs) (AreOutChannels ins passed n cs)
 outs_decides ins passed n [] = (λ h. tt, λ p. refl)
 outs_decides ins passed n (c ∷ cs) =
-    and_decides (out_test ins passed n c) (outs_test ins (passed || is_pass c) (n + width c) cs)
-    (out_decides ins passed n c) (outs_decides ins (passed || is_pass c) (n + width c) cs)
+    and_decides (out_test ins passed n c) (outs_test ins (passed || is_pass c) (n + results_given c)
+    cs)
+    (out_decides ins passed n c) (outs_decides ins (passed || is_pass c) (n + results_given c) cs)
 
 pub outs_step : (ins : List InChannel) (passed q : Bool) (k i : ℕ) (outs : List OutChannel)
     (o : OutChannel) → i < length outs → o ≡ get_or outs i o → out_test ins passed k o ≡ true
     → q ≡ (passed || is_pass o)
-    → outs_test ins q (k + width o) (drop (i + 1) outs) ≡ outs_test ins passed k (drop i outs)
+    → outs_test ins q (k + results_given o) (drop (i + 1) outs)
+    ≡ outs_test ins passed k (drop i outs)
 outs_step ins passed q k i outs o lt at ok later =
     let d : drop i outs ≡ o ∷ drop (i + 1) outs = drop-cons outs i o lt
     ∙ ap (λ (x : OutChannel). x ∷ drop (suc i) outs) (sym at)
     ∙ ap (λ (n : ℕ). o ∷ drop n outs) (sym (add-one i)) in
-    ap (λ (b : Bool). outs_test ins b (k + width o) (drop (i + 1) outs)) later
+    ap (λ (b : Bool). outs_test ins b (k + results_given o) (drop (i + 1) outs)) later
     ∙ sym (ap (outs_test ins passed k) d
-    ∙ ap (λ (b : Bool). b && outs_test ins (passed || is_pass o) (k + width o)
+    ∙ ap (λ (b : Bool). b && outs_test ins (passed || is_pass o) (k + results_given o)
     (drop (i + 1) outs)) ok)
 
 -- ---- stages

@@ -1,7 +1,7 @@
 // How many outputs a forest has, and how many results a stage gives.
 ghost use Rattle.std.specs.Prelude.{◌≡◌, ◌-◌, ◌^◌, min};
 ghost use Rattle.exec_graph.specs.Twigs.{twig};
-ghost use Rattle.exec_plan.specs.Wellformed.{kept, out_count, outs, stage_width, width, widths};
+ghost use Rattle.exec_plan.specs.Wellformed.{outputs_told, out_count, count_of_outputs, stage_width, results_given, widths};
 ghost use Rattle.plan_checks.specs.inner.Counts.{branch_kept, twig_kept};
 
 use exec_graph::{Output, Roots, Step};
@@ -9,7 +9,7 @@ use exec_plan::{OutChannel, Stage};
 
 /// How many outputs a forest has, or the identity.
 pub(crate) fn count_outs(does: &Option<Roots>) -> u64
-    ensures { result ≡ min (outs does.now) (2 ^ 64 - 1) }
+    ensures { result ≡ min (count_of_outputs does.now) (2 ^ 64 - 1) }
 {
     match does {
         None => 1,
@@ -19,7 +19,7 @@ pub(crate) fn count_outs(does: &Option<Roots>) -> u64
 
 /// How many outputs are kept, or the greatest number where there are more.
 fn count_roots(roots: &Roots) -> u64
-    ensures { result ≡ min (kept roots.now) (2 ^ 64 - 1) }
+    ensures { result ≡ min (outputs_told roots.now) (2 ^ 64 - 1) }
 {
     let mut count: u64 = 0;
     for step in roots.steps() {
@@ -61,7 +61,7 @@ fn count_out(number: Option<u32>) -> u64
 
 /// How many results a channel gives.
 pub(crate) fn width_of(channel: &OutChannel) -> u64
-    ensures { result ≡ min (width channel.now) (2 ^ 64 - 1) }
+    ensures { result ≡ min (results_given channel.now) (2 ^ 64 - 1) }
 {
     match channel {
         OutChannel::Group(group) => count_outs(&group.does),

@@ -7,7 +7,7 @@ use Rattle.serde_json.specs.Data.{Data, Items, no_items, item, no_members}
 use Rattle.serde_json.specs.View.{items_of}
 use Rattle.serde_json.specs.Written.{compact_text}
 use Rattle.combine_table.specs.declared.comb.Comb.{Comb}
-use Rattle.exec_plan.specs.Channels.{numbers}
+use Rattle.exec_plan.specs.Channels.{output_numbers_of}
 use Rattle.exec_plan.specs.declared.plan.PlanPlace.{PlanPlace}
 use Rattle.exec_plan.specs.declared.plan.InChannel.{InChannel}
 use Rattle.exec_plan.specs.declared.plan.OutChannel.{OutChannel}
@@ -27,7 +27,7 @@ use Rattle.plan_writing.specs.Acts.{act_text}
 use Rattle.plan_writing.specs.Forests.{forest_text}
 use Rattle.plan_writing.specs.Naming.{Naming, Written}
 use Rattle.plan_writing.specs.Places.{dotted, given_text, place_text, take_text}
-use Rattle.plan_file_law.specs.Files.{text_of, told_by}
+use Rattle.plan_file_law.specs.Files.{plan_file_text, told_by}
 use Rattle.plan_file_law.proofs.Ended.{line_feed}
 use Rattle.plan_file_law.proofs.Lossy.{lossy_utf8}
 use Rattle.plan_file_law.proofs.Plain.{ArePlain, IsPlain, counted, line_back, mapped, matched, no_item, no_more, one_item, one_member, plain_array, plain_null, plain_number, plain_object, plain_text, single, value_back}
@@ -82,7 +82,7 @@ out_plain w names stage (Group group) =
     (one_member w 1 no_members (codes "does") _ _ _ (known (codes "does") refl)
     (text w 1 (forest_text names group.does))
     (one_member w 1 _ (codes "gives") _ _ _ (known (codes "gives") refl)
-    (texts w 0 (given_text stage group) (numbers group.does))
+    (texts w 0 (given_text stage group) (output_numbers_of group.does))
     (one_member w 1 _ (codes "kind") _ _ _ (known (codes "kind") refl)
     (plain_text w 1 (codes "group") (known (codes "group") refl))
     (one_member w 1 _ (codes "lift") _ _ _ (known (codes "lift") refl)
@@ -225,17 +225,17 @@ file_had names plan rs bytes a value =
 
 pub file_read : (names : Naming) (plan : Plan) (rs : List Rewrite)
     → AllByRecursion HasSmallNumbers rs
-    → IsFile (text_of names plan rs) (told_by names plan rs)
+    → IsFile (plan_file_text names plan rs) (told_by names plan rs)
 file_read names plan rs a =
-    file_had names plan rs (text_of names plan rs) a
+    file_had names plan rs (plan_file_text names plan rs) a
     (value_back true 7 (file_json (plan_json_of names plan) rs) (file_plain names plan rs a)
     (omega arith))
 
 -- and so with a line feed behind it
 pub line_read : (names : Naming) (plan : Plan) (rs : List Rewrite)
     → AllByRecursion HasSmallNumbers rs
-    → IsFile (text_of names plan rs ++ line_feed) (told_by names plan rs)
+    → IsFile (plan_file_text names plan rs ++ line_feed) (told_by names plan rs)
 line_read names plan rs a =
-    file_had names plan rs (text_of names plan rs ++ line_feed) a
+    file_had names plan rs (plan_file_text names plan rs ++ line_feed) a
     (line_back true 7 (file_json (plan_json_of names plan) rs) (file_plain names plan rs a)
     (omega arith))

@@ -22,7 +22,7 @@ use Rattle.serde_json.proofs.Numbers.{number_of-decimal}
 use Rattle.serde_json.proofs.Texts.{print-outline}
 use Rattle.plan_files.specs.Numbers.{has_number, items_have_number, members_have_number}
 use Rattle.plan_files.specs.Reads.{HasValue}
-use Rattle.plan_writing.specs.Lists.{numbered, paired}
+use Rattle.plan_writing.specs.Lists.{numbered_texts, paired}
 use Rattle.plan_file_law.proofs.Ended.{line_feed, line_tokens}
 
 -- ---- values
@@ -171,10 +171,10 @@ mapped w n make each (x ∷ xs) =
 
 pub counted : {X : Type 0} (w : Bool) (n : ℕ) (make : ℕ → X → Data)
     → ((k : ℕ) (x : X) → IsPlain w n (make k x)) → (k : ℕ) (xs : List X)
-    → ArePlain w n (items_of (numbered make k xs))
+    → ArePlain w n (items_of (numbered_texts make k xs))
 counted w n make each k [] = no_item w n
 counted w n make each k (x ∷ xs) =
-    one_item w n (make k x) (items_of (numbered make (suc k) xs)) (each k x)
+    one_item w n (make k x) (items_of (numbered_texts make (suc k) xs)) (each k x)
     (counted w n make each (suc k) xs)
 
 pub matched : {X Y : Type 0} (w : Bool) (n : ℕ) (make : X → Y → Data)

@@ -9,8 +9,8 @@ use Rattle.plan_json.specs.PlanJson.{plan_json_of}
 use Rattle.plan_writing.specs.Naming.{Naming}
 
 -- its text under these names, without an end of line
-abbrev pub text_of : Naming → Plan → List Rewrite → List ℕ
-text_of names plan rewrites = compact_text (file_json (plan_json_of names plan) rewrites)
+abbrev pub plan_file_text : Naming → Plan → List Rewrite → List ℕ
+plan_file_text names plan rewrites = compact_text (file_json (plan_json_of names plan) rewrites)
 
 -- what it tells: the rewrites, and the plan's own text
 abbrev pub told_by : Naming → Plan → List Rewrite → PlanFile

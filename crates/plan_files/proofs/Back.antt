@@ -8,7 +8,7 @@ use Rattle.serde_json.specs.Data.{Data}
 use Rattle.serde_json.specs.View.{items_of}
 use Rattle.graph_rewrites.specs.declared.rewrite.Rewrite.{Rewrite}
 use Rattle.graph_rewrites.specs.declared.rewrite.Rewrite.TheVariants.{Merge, Sink, Lift, Kid, Sibling, Mark}
-use Rattle.plan_files.specs.Forms.{all_of, file_of, number_of, numbers_of, rewrite_at, rewrite_of, text_of}
+use Rattle.plan_files.specs.Forms.{all_of, plan_file_of, number_in_data, numbers_of, rewrite_at, rewrite_of, numberless_text}
 use Rattle.plan_files.specs.Written.{HasSmallNumbers, file_json, name_of, number_json, numbers_at, numbers_json, rewrite_json}
 use Rattle.plan_files.specs.declared.file.PlanFile.{PlanFile}
 
@@ -22,12 +22,12 @@ all_back of json P each (x ∷ xs) a =
     o) (each x a.0)
     ∙ ap (λ o. option_map (λ ys. x ∷ ys) o) (all_back of json P each xs a.1)
 
-number_back : (n : ℕ) → n < 2 ^ 32 → number_of (number_json n) ≡ Some n
+number_back : (n : ℕ) → n < 2 ^ 32 → number_in_data (number_json n) ≡ Some n
 number_back n h = let e : nat_lt n (2 ^ 32) ≡ true = lt-ltb n (2 ^ 32) h in rw e refl
 
 numbers_back : (ns : List ℕ) → AllByRecursion (λ n. n < 2 ^ 32) ns
     → numbers_of (numbers_json ns) ≡ Some ns
-numbers_back ns a = all_back number_of number_json (λ n. n < 2 ^ 32) number_back ns a
+numbers_back ns a = all_back number_in_data number_json (λ n. n < 2 ^ 32) number_back ns a
 
 named_back : (r : Rewrite) → rewrite_at (name_of r) (numbers_at r) ≡ Some r
 named_back (Merge outer inner) = refl
@@ -43,7 +43,9 @@ rewrite_back r a =
     ∙ named_back r
 
 pub file_back : (plan : Data) (rs : List Rewrite) → AllByRecursion HasSmallNumbers rs
-    → file_of (file_json plan rs) ≡ Some (record { rewrites = rs; plan = text_of plan })
+    → plan_file_of (file_json plan rs)
+    ≡ Some (record { rewrites = rs; plan = numberless_text plan })
 file_back plan rs a =
-    ap (λ o. option_map (λ all. let f : PlanFile = record { rewrites = all; plan = text_of plan }
+    ap (λ o. option_map (λ all. let f : PlanFile = record
+    { rewrites = all; plan = numberless_text plan }
     in f) o) (all_back rewrite_of rewrite_json HasSmallNumbers rewrite_back rs a)

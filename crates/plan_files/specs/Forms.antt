@@ -17,19 +17,19 @@ use Rattle.plan_files.specs.declared.file.FileFault.TheVariants.{NotJson, Shape,
 -- ---- objects of two members, and lists
 
 -- how many members an object has
-abbrev pub count_in : Option Members → ℕ
-count_in None = 0
-count_in (Some ms) = members_len ms
+abbrev pub members_counted : Option Members → ℕ
+members_counted None = 0
+members_counted (Some ms) = members_len ms
 
-abbrev pub both : Option Data → Option Data → Option (Data × Data)
-both None second = None
-both (Some a) None = None
-both (Some a) (Some b) = Some (a, b)
+abbrev pub both_data : Option Data → Option Data → Option (Data × Data)
+both_data None second = None
+both_data (Some a) None = None
+both_data (Some a) (Some b) = Some (a, b)
 
 -- the two members of those names of an object that has no other
-abbrev pub two_of : List ℕ → List ℕ → Data → Option (Data × Data)
-two_of first second d =
-    if count_in (as_object d) == 2 then both (get first d) (get second d) else None
+abbrev pub two_members : List ℕ → List ℕ → Data → Option (Data × Data)
+two_members first second d =
+    if members_counted (as_object d) == 2 then both_data (get first d) (get second d) else None
 
 -- what all values are, where each is something
 abbrev pub all_of : {X : Type 0} → (Data → Option X) → Items → Option (List X)
@@ -42,11 +42,11 @@ all_of of (item d ds) = option_and_then (λ x. option_map (λ xs. x ∷ xs) (all
 abbrev pub small : ℕ → Option ℕ
 small n = if nat_lt n (2 ^ 32) then Some n else None
 
-abbrev pub number_of : Data → Option ℕ
-number_of d = option_and_then small (option_and_then as_u64 (as_number d))
+abbrev pub number_in_data : Data → Option ℕ
+number_in_data d = option_and_then small (option_and_then as_u64 (as_number d))
 
 abbrev pub numbers_of : Data → Option (List ℕ)
-numbers_of d = option_and_then (all_of number_of) (as_array d)
+numbers_of d = option_and_then (all_of number_in_data) (as_array d)
 
 -- the rewrite of that name at two numbers
 abbrev pub rewrite_at_two : List ℕ → ℕ → ℕ → Option Rewrite
@@ -72,7 +72,7 @@ rewrite_from p =
     (numbers_of p.0)
 
 abbrev pub rewrite_of : Data → Option Rewrite
-rewrite_of d = option_and_then rewrite_from (two_of (codes "at") (codes "op") d)
+rewrite_of d = option_and_then rewrite_from (two_members (codes "at") (codes "op") d)
 
 abbrev pub rewrites_of : Data → Option (List Rewrite)
 rewrites_of d = option_and_then (all_of rewrite_of) (as_array d)
@@ -80,21 +80,21 @@ rewrites_of d = option_and_then (all_of rewrite_of) (as_array d)
 -- ---- files
 
 -- the compact text of a value in which no number stands
-abbrev pub text_of : Data → Option (List ℕ)
-text_of d = if has_number d then None else Some (compact_text d)
+abbrev pub numberless_text : Data → Option (List ℕ)
+numberless_text d = if has_number d then None else Some (compact_text d)
 
 -- a plan and rewrites
 abbrev pub file_from : Data × Data → Option PlanFile
 file_from p =
-    option_map (λ rewrites. record { rewrites = rewrites; plan = text_of p.0 })
+    option_map (λ rewrites. record { rewrites = rewrites; plan = numberless_text p.0 })
     (rewrites_of p.1)
 
-abbrev pub file_of : Data → Option PlanFile
-file_of d = option_and_then file_from (two_of (codes "plan") (codes "rewrites") d)
+abbrev pub plan_file_of : Data → Option PlanFile
+plan_file_of d = option_and_then file_from (two_members (codes "plan") (codes "rewrites") d)
 
 -- it is told so of a value: its file, or that it is of another form
 abbrev pub Tells : Data → Result PlanFile FileFault → Type 0
-Tells d (Ok file) = file_of d ≡ Some file
+Tells d (Ok file) = plan_file_of d ≡ Some file
 Tells d (Err NotJson) = ⊥
-Tells d (Err Shape) = file_of d ≡ None
+Tells d (Err Shape) = plan_file_of d ≡ None
 Tells d (Err Memory) = Unit {0}

@@ -4,7 +4,7 @@ use Rattle.serde_json.specs.Data.{Data}
 use Rattle.serde_json.specs.Read.{read}
 use Rattle.serde_json.specs.View.{view}
 use Rattle.serde_json.specs.declared.value.Value.{Value}
-use Rattle.plan_files.specs.Forms.{file_of}
+use Rattle.plan_files.specs.Forms.{plan_file_of}
 use Rattle.plan_files.specs.declared.file.PlanFile.{PlanFile}
 use Rattle.plan_files.specs.declared.file.FileFault.{FileFault}
 use Rattle.plan_files.specs.declared.file.FileFault.TheVariants.{NotJson, Shape, Memory}
@@ -19,11 +19,11 @@ IsNoJson bytes = IsUtf8 bytes → read bytes ≡ None
 
 -- the bytes are JSON that tells no file
 abbrev pub HasNoShape : List ℕ → Type 0
-HasNoShape bytes = (d : Data) × HasValue bytes d × (file_of d ≡ None)
+HasNoShape bytes = (d : Data) × HasValue bytes d × (plan_file_of d ≡ None)
 
 -- the bytes are JSON that tells the file
 abbrev pub IsFile : List ℕ → PlanFile → Type 0
-IsFile bytes file = (d : Data) × HasValue bytes d × (file_of d ≡ Some file)
+IsFile bytes file = (d : Data) × HasValue bytes d × (plan_file_of d ≡ Some file)
 
 -- it is told so of the bytes: their file, or why they are none
 abbrev pub IsReadAs : List ℕ → Result PlanFile FileFault → Type 0

@@ -22,7 +22,7 @@ pub(crate) fn numbers_in(alloc: Global, value: &Value) -> Result<Option<Vec<u32>
 /// The numbers that values are, if all of them are.
 fn numbers_among(alloc: Global, values: &[Value]) -> Result<Option<Vec<u32>>, AllocError>
     ensures { IfOk result (λ found. option_map (λ v. v.items) found
-        ≡ spec.all_of spec.number_of (items_view values.now)) }
+        ≡ spec.all_of spec.number_in_data (items_view values.now)) }
 {
     let mut numbers = Vec::new(alloc);
     for value in values {
@@ -36,7 +36,7 @@ fn numbers_among(alloc: Global, values: &[Value]) -> Result<Option<Vec<u32>>, Al
 
 /// The whole number that a value is, if 32 bits without a sign hold it.
 fn number_in(value: &Value) -> Option<u32>
-    ensures { result ≡ spec.number_of (view value.now) }
+    ensures { result ≡ spec.number_in_data (view value.now) }
 {
     match value.as_u64() {
         Some(number) => small(number),

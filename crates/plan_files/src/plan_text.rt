@@ -10,7 +10,7 @@ use std::alloc::{AllocError, Global};
 
 /// The compact text of a value, if no number stands in it.
 pub(crate) fn text_in(alloc: Global, value: &Value) -> Result<Option<Pile<u8>>, AllocError>
-    ensures { IfOk result (λ text. text ≡ spec.text_of (view value.now)) }
+    ensures { IfOk result (λ text. text ≡ spec.numberless_text (view value.now)) }
 {
     if has_number(value) {
         return Ok(None);

@@ -53,7 +53,7 @@ fn formed(alloc: Global, value: &Value) -> Result<PlanFile, FileFault>
 
 /// The file that a value tells, if it tells one.
 fn file_in(alloc: Global, value: &Value) -> Result<Option<PlanFile>, AllocError>
-    ensures { IfOk result (λ found. found ≡ spec.file_of (view value.now)) }
+    ensures { IfOk result (λ found. found ≡ spec.plan_file_of (view value.now)) }
 {
     match two_in(value, "plan", "rewrites") {
         Some((plan, rewrites)) => file_from(alloc, plan, rewrites),

@@ -13,7 +13,7 @@ use std::alloc::{AllocError, Global};
 
 /// How many members an object has.
 fn count_in(value: &Value) -> usize
-    ensures { result ≡ spec.count_in (as_object (view value.now)) }
+    ensures { result ≡ spec.members_counted (as_object (view value.now)) }
 {
     match value.as_object() {
         Some(members) => members.len(),
@@ -28,7 +28,7 @@ pub(crate) fn two_in<'a>(
     second: &str,
 ) -> Option<(&'a Value, &'a Value)>
     ensures { option_map (λ both. (view both.0.now, view both.1.now)) result
-        ≡ spec.two_of first.now second.now (view value.now) }
+        ≡ spec.two_members first.now second.now (view value.now) }
 {
     if count_in(value) != 2 {
         return None;

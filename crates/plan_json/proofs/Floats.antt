@@ -5,14 +5,14 @@ use Rattle.serde_json.specs.Data.{Data}
 use Rattle.serde_json.specs.View.{items_of}
 use Rattle.serde_json.specs.Written.{has_float, items_have_float, members_have_float}
 use Rattle.combine_table.specs.declared.comb.Comb.{Comb}
-use Rattle.exec_plan.specs.Channels.{numbers}
+use Rattle.exec_plan.specs.Channels.{output_numbers_of}
 use Rattle.exec_plan.specs.declared.plan.PlanPlace.{PlanPlace}
 use Rattle.exec_plan.specs.declared.plan.OutChannel.{OutChannel}
 use Rattle.exec_plan.specs.declared.plan.OutChannel.TheVariants.{Group, Pass}
 use Rattle.exec_plan.specs.declared.plan.Stage.{Stage}
 use Rattle.exec_plan.specs.declared.plan.Stage.TheVariants.{Mscr, Flatten, Operate}
 use Rattle.exec_plan.specs.declared.plan.Plan.{Plan}
-use Rattle.plan_writing.specs.Lists.{numbered, paired}
+use Rattle.plan_writing.specs.Lists.{numbered_texts, paired}
 use Rattle.plan_writing.specs.Places.{given_text, take_text}
 use Rattle.plan_writing.specs.Naming.{Naming}
 use Rattle.plan_json.specs.PlanJson.{beside_json, in_json, lift_json, out_json, output_json, plan_json_of, stage_json, text_json}
@@ -26,7 +26,7 @@ mapped make each [] = refl
 mapped make each (x ∷ xs) = neither _ _ (each x) (mapped make each xs)
 
 counted : {X : Type 0} (make : ℕ → X → Data) → ((n : ℕ) (x : X) → has_float (make n x) ≡ false)
-    → (n : ℕ) (xs : List X) → items_have_float (items_of (numbered make n xs)) ≡ false
+    → (n : ℕ) (xs : List X) → items_have_float (items_of (numbered_texts make n xs)) ≡ false
 counted make each n [] = refl
 counted make each n (x ∷ xs) = neither _ _ (each n x) (counted make each (suc n) xs)
 
@@ -51,7 +51,7 @@ lift names (Some combiner) = refl
 out : (names : Naming) (stage : ℕ) (channel : OutChannel)
     → has_float (out_json names stage channel) ≡ false
 out names stage (Group group) =
-    neither _ _ (texts (given_text stage group) (numbers group.does))
+    neither _ _ (texts (given_text stage group) (output_numbers_of group.does))
     (neither _ _ (lift names group.lifted) (neither _ _ (texts take_text group.takes) refl))
 out names stage (Pass take result) = refl
 

@@ -5,7 +5,7 @@ use Rattle.serde_json.specs.Data.{Data, Members, null, string, array, object, no
 use Rattle.serde_json.specs.View.{items_of}
 use Rattle.combine_table.specs.declared.comb.Comb.{Comb}
 use Rattle.exec_graph.specs.declared.graph.Act.{Act}
-use Rattle.exec_plan.specs.Channels.{numbers}
+use Rattle.exec_plan.specs.Channels.{output_numbers_of}
 use Rattle.exec_plan.specs.declared.plan.PlanPlace.{PlanPlace}
 use Rattle.exec_plan.specs.declared.plan.Take.{Take}
 use Rattle.exec_plan.specs.declared.plan.InChannel.{InChannel}
@@ -16,7 +16,7 @@ use Rattle.exec_plan.specs.declared.plan.Stage.{Stage}
 use Rattle.exec_plan.specs.declared.plan.Stage.TheVariants.{Mscr, Flatten, Operate}
 use Rattle.exec_plan.specs.declared.plan.Plan.{Plan}
 use Rattle.plan_writing.specs.Acts.{act_text}
-use Rattle.plan_writing.specs.Lists.{numbered, paired}
+use Rattle.plan_writing.specs.Lists.{numbered_texts, paired}
 use Rattle.plan_writing.specs.Naming.{Naming, Written}
 use Rattle.plan_writing.specs.Places.{dotted, given_text, place_text, take_text}
 use Rattle.plan_writing.specs.Forests.{forest_text}
@@ -59,7 +59,7 @@ lift_json names (Some combiner) = text_json (names.combiner combiner)
 abbrev pub group_json : Naming → ℕ → Grouping → Data
 group_json names stage group =
     object (member (codes "does") (text_json (forest_text names group.does))
-    (member (codes "gives") (texts_json (given_text stage group) (numbers group.does))
+    (member (codes "gives") (texts_json (given_text stage group) (output_numbers_of group.does))
     (member (codes "kind") (string (codes "group"))
     (member (codes "lift") (lift_json names group.lifted)
     (member (codes "name") (text_json (names.node group.origin))
@@ -117,4 +117,4 @@ plan_json_of names plan =
     object (member (codes "outputs")
     (array (items_of (paired output_json names.outputs plan.outputs)))
     (member (codes "stages")
-    (array (items_of (numbered (stage_json names) 1 plan.stages))) no_members))
+    (array (items_of (numbered_texts (stage_json names) 1 plan.stages))) no_members))

@@ -3,7 +3,7 @@ ghost use Rattle.std.specs.Prelude.{◌≡◌, ◌<◌, IfOk, Some, length, map,
 ghost use Rattle.serde_json.specs.Data.{array};
 ghost use Rattle.serde_json.specs.View.{view, items_of};
 ghost use Rattle.serde_json.specs.Written.{compact_text};
-ghost use Rattle.plan_writing.specs.Lists.{numbered, paired};
+ghost use Rattle.plan_writing.specs.Lists.{numbered_texts, paired};
 ghost use Rattle.plan_writing.specs.Naming.{Written};
 ghost use Rattle.plan_json.specs.PlanJson as spec;
 
@@ -75,7 +75,7 @@ fn output_value<N: Names>(
 
 fn stages_value<N: Names>(alloc: Global, names: &N, stages: &[Stage]) -> Result<Value, AllocError>
     ensures { IfOk result (λ value. view value
-        ≡ array (items_of (numbered (spec.stage_json (N.naming names.now)) 1 stages.now))) }
+        ≡ array (items_of (numbered_texts (spec.stage_json (N.naming names.now)) 1 stages.now))) }
 {
     let mut values = Vec::new(alloc);
     for (i, stage) in stages.iter().enumerate() {

@@ -2,7 +2,7 @@
 ghost use Rattle.std.specs.Prelude.{◌≡◌, IfOk, OnOk};
 ghost use Rattle.serde_json.specs.Data.{array, item, no_items, put as with_member, string};
 ghost use Rattle.serde_json.specs.View.{members_view, view};
-ghost use Rattle.exec_plan.specs.Channels.{numbers};
+ghost use Rattle.exec_plan.specs.Channels.{output_numbers_of};
 ghost use Rattle.plan_writing.specs.Acts.{act_text};
 ghost use Rattle.plan_writing.specs.Forests.{forest_text};
 ghost use Rattle.plan_writing.specs.Places.{dotted, given_text, place_text, take_text};
@@ -154,7 +154,8 @@ pub(crate) fn takes_value(alloc: Global, takes: &[Take]) -> Result<Value, AllocE
 /// The results that a grouping channel of a stage gives.
 pub(crate) fn given_value(alloc: Global, stage: u64, group: &Grouping) -> Result<Value, AllocError>
     ensures { IfOk result (λ value.
-        view value ≡ spec.texts_json (given_text stage group.now) (numbers group.now.does)) }
+        view value
+        ≡ spec.texts_json (given_text stage group.now) (output_numbers_of group.now.does)) }
 {
     let outs = outs_of(alloc, &group.does)?;
     results_value(alloc, stage, group, outs.as_slice())

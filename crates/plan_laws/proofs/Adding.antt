@@ -21,13 +21,13 @@ use Rattle.exec_plan.specs.declared.plan.OutChannel.{OutChannel}
 use Rattle.exec_plan.specs.declared.plan.OutChannel.TheVariants.{Group, Pass}
 use Rattle.exec_plan.specs.Channels.{Fed, groups}
 use Rattle.exec_plan.specs.Meaning.{Parts, in_sum, out_sum, own_parts, total_of, trap_parts}
-use Rattle.exec_plan.specs.Wellformed.{width}
+use Rattle.exec_plan.specs.Wellformed.{results_given}
 use Rattle.plan_laws.specs.declared.operations.Key.{Key}
 use Rattle.plan_laws.specs.declared.operations.Key.TheVariants.{Mapper, Whole}
 use Rattle.plan_laws.specs.declared.operations.Grouped.{Grouped}
 use Rattle.plan_laws.specs.declared.operations.Operation.{Operation}
 use Rattle.plan_laws.specs.declared.operations.Operation.TheVariants.{Flat, Class}
-use Rattle.plan_laws.specs.Operations.{IsSide, side_channel, IsFlat, IsGroupedOk, IsHonest, IsKeyOk, IsPdo, IsReducer, IsPdoOn, TakesInputs, flat_inputs, forest_at, group_at, group_of, group_runs, key_runs, numbered_outs, pass_of, pdo_channel, reducer_of, reducer_runs, runs, valued}
+use Rattle.plan_laws.specs.Operations.{IsSide, side_channel, IsFlat, IsGroupedOk, IsHonest, IsKeyOk, IsPdo, IsReducer, IsPdoOn, TakesInputs, flat_inputs, forest_in, group_at, group_channel, group_runs, key_runs, numbered_outs, pass_of, pdo_channel, reducer_forest, reducer_runs, runs, channel_valued}
 use Rattle.plan_laws.proofs.Running.{carried_sum, flat_part}
 use Rattle.plan_laws.proofs.Carrying.{side_is, IsPlain, feeds, group_at_is, group_does, holds_at, there_at}
 
@@ -61,7 +61,8 @@ traps_are w m (Barrier ins o l a) = refl
 
 side_sum : {Y : Type 0} (w : World) (p : Parts Y) (m : Place → Collection) (n o : ℕ) (l : Bool)
     (a : Act) (ins : List Place) → IsSide a ins
-    → in_sum w p (valued m (side_channel n o l a ins)) ≡ p.groups o l (act_result w o a (map m ins))
+    → in_sum w p (channel_valued m (side_channel n o l a ins))
+    ≡ p.groups o l (act_result w o a (map m ins))
 side_sum w p m n o l (SideInput f) [] h = absurd h
 side_sum w p m n o l (SideInput f) (c ∷ []) h = absurd h
 side_sum w p m n o l (SideInput f) (c ∷ (d ∷ [])) h =
@@ -75,7 +76,7 @@ side_sum w p m n o l (Operates f) ins h = absurd h
 side_sum w p m n o l (Singleton k) ins h = absurd h
 
 pdo_sum : {Y : Type 0} (w : World) (p : Parts Y) (m : Place → Collection) (n : ℕ) (o : Option Node)
-    → IsPdo o → in_sum w p (valued m (pdo_channel n o)) ≡ sum_at w p m o
+    → IsPdo o → in_sum w p (channel_valued m (pdo_channel n o)) ≡ sum_at w p m o
 pdo_sum w p m n None h = absurd h
 pdo_sum w p m n (Some (Source r)) h = absurd h
 pdo_sum w p m n (Some (Flatten ins)) h = absurd h
@@ -95,7 +96,7 @@ keys_sum w p m es (Mapper n ∷ ks) h =
 
 reducer_sum : {Y : Type 0} (w : World) (p : Parts Y) (m : Place → Collection) (es : List Entry)
     (n r : ℕ) (o : Option Node) → IsPdoOn (place n 0) o → total_of w p.steps (m (place n 0))
-    (forest_at o) ≡ sum_at w p m o
+    (forest_in o) ≡ sum_at w p m o
 reducer_sum w p m es n r None h = absurd h
 reducer_sum w p m es n r (Some (Source s)) h = absurd h
 reducer_sum w p m es n r (Some (Flatten ins)) h = absurd h
@@ -104,7 +105,8 @@ reducer_sum w p m es n r (Some (Barrier ins o l a)) h = absurd h
 reducer_sum w p m es n r (Some (Pdo c f)) h = ap (λ (d : Place). total w p.steps (m d) f) (sym h)
 
 reduced_sum : {Y : Type 0} (w : World) (p : Parts Y) (m : Place → Collection) (es : List Entry)
-    (n : ℕ) (r : Option ℕ) → IsReducer es n r → total_of w p.steps (m (place n 0)) (reducer_of es r)
+    (n : ℕ) (r : Option ℕ) → IsReducer es n r
+    → total_of w p.steps (m (place n 0)) (reducer_forest es r)
     ≡ flat_map (λ n. sum_at w p m (node_at es n)) (reducer_runs r)
 reduced_sum w p m es n None h = refl
 reduced_sum w p m es n (Some r) h = reducer_sum w p m es n r (node_at es r) h
@@ -125,29 +127,29 @@ grouping_sum w p m es keys n r (Some (Barrier ins o l d)) a e h = absurd h
 group_sum : {Y : Type 0} (w : World) (p : Parts Y) (m : Place → Collection) (es : List Entry)
     (keys : List Key) (g : Grouped) → IsPlain m → Meets w es m → Each (IsKeyOk es) keys
     → Each (λ e. Each (IsThere es) (reads e.node)) es → IsGroupedOk es keys g → out_sum w p
-    (feeds m es keys) (group_of es keys g) ≡ flat_map (λ n. sum_at w p m (node_at es n))
+    (feeds m es keys) (group_channel es keys g) ≡ flat_map (λ n. sum_at w p m (node_at es n))
     (group_runs g)
 group_sum w p m es keys g pl a ok t i =
     let x : Grouping = group_at es keys g.reducer (node_at es g.gbk) in
     let v : groups w (feeds m es keys) x ≡ m (place g.gbk 0) = group_at_is w m es keys g.gbk
     g.reducer (node_at es g.gbk) pl a ok refl (there_at es g.gbk (node_at es g.gbk) refl t) i.0 in
-    let d : x.does ≡ reducer_of es g.reducer = group_does es keys g.reducer (node_at es g.gbk)
+    let d : x.does ≡ reducer_forest es g.reducer = group_does es keys g.reducer (node_at es g.gbk)
     i.0 in
     ap (λ (c : Collection). p.groups x.origin x.last c ++ total_of w p.steps c x.does) v
     ∙ ap (λ (f : Option Forest). p.groups x.origin x.last (m (place g.gbk 0)) ++ total_of w p.steps
     (m (place g.gbk 0)) f) d
-    ∙ ap (λ l. l ++ total_of w p.steps (m (place g.gbk 0)) (reducer_of es g.reducer))
+    ∙ ap (λ l. l ++ total_of w p.steps (m (place g.gbk 0)) (reducer_forest es g.reducer))
     (grouping_sum w p m es keys g.gbk g.reducer (node_at es g.gbk) a refl i.0)
     ∙ ap (λ l. sum_at w p m (node_at es g.gbk) ++ l) (reduced_sum w p m es g.gbk g.reducer i.1)
 
 groups_sum : {Y : Type 0} (w : World) (p : Parts Y) (m : Place → Collection) (es : List Entry)
     (keys : List Key) (gs : List Grouped) → IsPlain m → Meets w es m → Each (IsKeyOk es) keys
     → Each (λ e. Each (IsThere es) (reads e.node)) es → Each (IsGroupedOk es keys) gs
-    → flat_map (out_sum w p (feeds m es keys)) (map (group_of es keys) gs)
+    → flat_map (out_sum w p (feeds m es keys)) (map (group_channel es keys) gs)
     ≡ flat_map (λ n. sum_at w p m (node_at es n)) (flat_map group_runs gs)
 groups_sum w p m es keys [] pl a ok t i = refl
 groups_sum w p m es keys (g ∷ gs) pl a ok t i =
-    ap (λ l. l ++ flat_map (out_sum w p (feeds m es keys)) (map (group_of es keys) gs))
+    ap (λ l. l ++ flat_map (out_sum w p (feeds m es keys)) (map (group_channel es keys) gs))
     (group_sum w p m es keys g pl a ok t i.0)
     ∙ ap (λ l. flat_map (λ n. sum_at w p m (node_at es n)) (group_runs g) ++ l)
     (groups_sum w p m es keys gs pl a ok t i.1)
@@ -165,7 +167,7 @@ sum_numbered : {Y : Type 0} (w : World) (p : Parts Y) (ins : List Fed) (n : ℕ)
 sum_numbered w p ins n [] = refl
 sum_numbered w p ins n (Pass k i ∷ os) = sum_numbered w p ins (n + 1) os
 sum_numbered w p ins n (Group g ∷ os) = ap (λ l. out_sum w p ins (Group g) ++ l)
-    (sum_numbered w p ins (n + width (Group g)) os)
+    (sum_numbered w p ins (n + results_given (Group g)) os)
 
 flat_sum : {Y : Type 0} (w : World) (p : Parts Y) (m : Place → Collection) (o : Option Node)
     → IsFlat o → flat_part w p o (map m (flat_inputs o)) ≡ sum_at w p m o
@@ -185,15 +187,16 @@ operation_sum w p m es (Flat n) pl a t i = flat_sum w p m (node_at es n) i
 operation_sum {Y = Y} w p m es (Class keys gs cs) pl a t i =
     let ins : List Fed = feeds m es keys in
     let F : ℕ → List Y = λ n. sum_at w p m (node_at es n) in
-    let outs : flat_map (out_sum w p ins) (numbered_outs 0 (map (group_of es keys) gs
+    let outs : flat_map (out_sum w p ins) (numbered_outs 0 (map (group_channel es keys) gs
     ++ map (pass_of keys) cs)) ≡ flat_map F (flat_map group_runs gs) =
-    sum_numbered w p ins 0 (map (group_of es keys) gs ++ map (pass_of keys) cs)
-    ∙ flat_map-append (out_sum w p ins) (map (group_of es keys) gs) (map (pass_of keys) cs)
-    ∙ ap (λ l. flat_map (out_sum w p ins) (map (group_of es keys) gs) ++ l) (passes_sum w p ins keys
+    sum_numbered w p ins 0 (map (group_channel es keys) gs ++ map (pass_of keys) cs)
+    ∙ flat_map-append (out_sum w p ins) (map (group_channel es keys) gs) (map (pass_of keys) cs)
+    ∙ ap (λ l. flat_map (out_sum w p ins) (map (group_channel es keys) gs) ++ l)
+    (passes_sum w p ins keys
     cs)
-    ∙ append-nil (flat_map (out_sum w p ins) (map (group_of es keys) gs))
+    ∙ append-nil (flat_map (out_sum w p ins) (map (group_channel es keys) gs))
     ∙ groups_sum w p m es keys gs pl a i.0 t i.1 in
-    ap (λ l. l ++ flat_map (out_sum w p ins) (numbered_outs 0 (map (group_of es keys) gs
+    ap (λ l. l ++ flat_map (out_sum w p ins) (numbered_outs 0 (map (group_channel es keys) gs
     ++ map (pass_of keys) cs))) (keys_sum w p m es keys i.0)
     ∙ ap (λ l. flat_map F (flat_map key_runs keys) ++ l) outs
     ∙ sym (flat_map-append F (flat_map key_runs keys) (flat_map group_runs gs))

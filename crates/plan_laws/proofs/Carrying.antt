@@ -27,19 +27,19 @@ use Rattle.exec_plan.proofs.of_exec_graph.Bools.{or_left, or_right}
 use Rattle.exec_plan.proofs.of_exec_graph.Solving.{out_lacks, kept_value as kept_at}
 use Rattle.exec_plan.specs.declared.plan.OutChannel.{OutChannel}
 use Rattle.exec_plan.specs.declared.plan.OutChannel.TheVariants.{Group, Pass}
-use Rattle.exec_plan.specs.Channels.{Fed, value_on, world_in, kept_out, outs_of, numbers, output_of, channel_out, taken, groups, given}
-use Rattle.exec_plan.specs.Wellformed.{width}
+use Rattle.exec_plan.specs.Channels.{Fed, value_on, world_in, kept_out, outs_of, output_numbers_of, output_of, channel_out, taken, groups, channel_gives}
+use Rattle.exec_plan.specs.Wellformed.{results_given}
 use Rattle.plan_laws.specs.declared.operations.Key.{Key}
 use Rattle.plan_laws.specs.declared.operations.Key.TheVariants.{Mapper, Whole}
 use Rattle.plan_laws.specs.declared.operations.Grouped.{Grouped}
 use Rattle.plan_laws.specs.declared.operations.Operation.{Operation}
 use Rattle.plan_laws.specs.declared.operations.Operation.TheVariants.{Flat, Class}
-use Rattle.plan_laws.specs.Operations.{HasKey, IsFlat, IsGroupedOk, IsHonest, IsKeyOk, IsPdo, IsReducer, IsSide, IsTakenPlace, one_call, side_channel, IsPdoOn, TakesInputs, channel_of, channels_of, flat_inputs, forest_at, group_at, group_gives, group_of, has_key, inputs_at, read_through, key_out, numbered_out, numbered_outs, out_in, outs_at, pass_of, pdo_channel, position, reduced, reducer_of, take_of, valued}
+use Rattle.plan_laws.specs.Operations.{HasKey, IsFlat, IsGroupedOk, IsHonest, IsKeyOk, IsPdo, IsReducer, IsSide, IsTakenPlace, one_call, side_channel, IsPdoOn, TakesInputs, channel_of, channels_of, flat_inputs, forest_in, group_at, group_gives, group_channel, is_read_under, inputs_at, read_through, key_out, numbered_out, numbered_outs, out_in, outs_at, pass_of, pdo_channel, position, reduced, reducer_forest, take_of, channel_valued}
 use Rattle.plan_laws.proofs.Running.{Carries, flat_value, place_same}
 
 -- the input channels with what they read
 abbrev pub feeds : (Place → Collection) → List Entry → List Key → List Fed
-feeds m es keys = map (valued m) (channels_of es keys)
+feeds m es keys = map (channel_valued m) (channels_of es keys)
 
 -- ---- the outputs of a forest
 either_found : (a b : Option Collection) (x y : Bool) (u : Collection) → (x || y) ≡ true
@@ -132,11 +132,11 @@ fed_out w r j = output_of (world_in w r.beside) (value_on r.value r.beside) r.do
 
 side_out : (w : World) (m : Place → Collection) (n o : ℕ) (l : Bool) (a : Act) (ins : List Place)
     (j : ℕ) → IsSide a ins → m (place n 0) ≡ act_result w o a (map m ins) → j ≡ 0
-    → fed_out w (valued m (side_channel n o l a ins)) j ≡ m (place n j)
+    → fed_out w (channel_valued m (side_channel n o l a ins)) j ≡ m (place n j)
 side_out w m n o l (SideInput f) [] j i h e = absurd i
 side_out w m n o l (SideInput f) (c ∷ []) j i h e = absurd i
 side_out w m n o l (SideInput f) (c ∷ (d ∷ [])) j i h e =
-    let r : Fed = valued m (side_channel n o l (SideInput f) (c ∷ (d ∷ []))) in
+    let r : Fed = channel_valued m (side_channel n o l (SideInput f) (c ∷ (d ∷ []))) in
     ap (fed_out w r) e ∙ side_through w o l f (m c) (m d)
     ∙ sym (h ∙ barrier_side_input w o f (m c) (m d)) ∙ ap (λ (k : ℕ). m (place n k)) (sym e)
 side_out w m n o l (SideInput f) (c ∷ (d ∷ (x ∷ xs))) j i h e = absurd i
@@ -145,7 +145,7 @@ side_out w m n o l (Singleton k) ins j i h e = absurd i
 
 mapper_out : (w : World) (m : Place → Collection) (es : List Entry) (n : ℕ) (c : Place)
     (o : Option Node) → Meets w es m → node_at es n ≡ o → IsPdo o → gives_at o c.out ≡ true
-    → fed_out w (valued m (pdo_channel n o)) c.out ≡ m (place n c.out)
+    → fed_out w (channel_valued m (pdo_channel n o)) c.out ≡ m (place n c.out)
 mapper_out w m es n c None a h p t = absurd p
 mapper_out w m es n c (Some (Source r)) a h p t = absurd p
 mapper_out w m es n c (Some (Flatten ins)) a h p t = absurd p
@@ -157,8 +157,8 @@ mapper_out w m es n c (Some (Pdo d f)) a h p t = ap or_nothing (out_is w m n (m 
     (holds_at w m es n (Pdo d f) a h) t)
 
 key_value : (w : World) (m : Place → Collection) (es : List Entry) (k : Key) (c : Place)
-    → Meets w es m → IsKeyOk es k → IsThere es c → has_key k c ≡ true
-    → fed_out w (valued m (channel_of es k)) (key_out k c) ≡ m c
+    → Meets w es m → IsKeyOk es k → IsThere es c → is_read_under k c ≡ true
+    → fed_out w (channel_valued m (channel_of es k)) (key_out k c) ≡ m c
 key_value w m es (Mapper n) c a ok t h =
     let e : n ≡ c.node = eqb-true n c.node h in
     mapper_out w m es n c (node_at es n) a refl ok (ap (λ (x : ℕ). gives_at (node_at es x) c.out) e
@@ -166,14 +166,14 @@ key_value w m es (Mapper n) c a ok t h =
 key_value w m es (Whole d) c a ok t h = ap m (place_same d c h)
 
 taken_by : (w : World) (m : Place → Collection) (es : List Entry) (k : Key) (ks : List Key)
-    (c : Place) (b : Bool) → has_key k c ≡ b → Meets w es m → IsKeyOk es k → IsThere es c
+    (c : Place) (b : Bool) → is_read_under k c ≡ b → Meets w es m → IsKeyOk es k → IsThere es c
     → (b ≡ false → channel_out w (slice_get (feeds m es ks) (position ks c)) (out_in ks c) ≡ m c)
-    → channel_out w (slice_get (valued m (channel_of es k) ∷ feeds m es ks)
+    → channel_out w (slice_get (channel_valued m (channel_of es k) ∷ feeds m es ks)
     (cond b 0 (suc (position ks c)))) (cond b (key_out k c) (out_in ks c)) ≡ m c
 taken_by w m es k ks c true h a ok t r = key_value w m es k c a ok t h
 taken_by w m es k ks c false h a ok t r = r refl
 
-pub behind : (k : Key) (ks : List Key) (c : Place) → has_key k c ≡ false → HasKey (k ∷ ks) c
+pub behind : (k : Key) (ks : List Key) (c : Place) → is_read_under k c ≡ false → HasKey (k ∷ ks) c
     → HasKey ks c
 behind k ks c e (inl h) = absurd (false≢true (sym e ∙ h))
 behind k ks c e (inr h) = h
@@ -182,7 +182,7 @@ taken_is : (w : World) (m : Place → Collection) (es : List Entry) (keys : List
     → Meets w es m → Each (IsKeyOk es) keys → IsThere es c → HasKey keys c
     → taken w (feeds m es keys) (take_of keys c) ≡ m c
 taken_is w m es [] c a ok t h = absurd h
-taken_is w m es (k ∷ ks) c a ok t h = taken_by w m es k ks c (has_key k c) refl a ok.0 t
+taken_is w m es (k ∷ ks) c a ok t h = taken_by w m es k ks c (is_read_under k c) refl a ok.0 t
     (λ e. taken_is w m es ks c a ok.1 t (behind k ks c e h))
 
 takes_are : (w : World) (m : Place → Collection) (es : List Entry) (keys : List Key)
@@ -215,7 +215,7 @@ inputs_sum w m es c (Some (Barrier ins x l d)) p a h t = p c
 
 reducer_at : (w : World) (m : Place → Collection) (es : List Entry) (n r : ℕ) (o : Option Node)
     → Meets w es m → node_at es r ≡ o → IsPdoOn (place n 0) o → map (output_of w (m (place n 0))
-    (forest_at o)) (numbers (forest_at o)) ≡ map m (map (place r) (outs_at o))
+    (forest_in o)) (output_numbers_of (forest_in o)) ≡ map m (map (place r) (outs_at o))
 reducer_at w m es n r None a h p = absurd p
 reducer_at w m es n r (Some (Source s)) a h p = absurd p
 reducer_at w m es n r (Some (Flatten ins)) a h p = absurd p
@@ -226,8 +226,8 @@ reducer_at w m es n r (Some (Pdo d f)) a h p =
     (holds_at w m es r (Pdo d f) a h)) (outs_has f)
 
 reduced_is : (w : World) (m : Place → Collection) (es : List Entry) (n : ℕ) (r : Option ℕ)
-    → Meets w es m → IsReducer es n r → map (output_of w (m (place n 0)) (reducer_of es r))
-    (numbers (reducer_of es r)) ≡ map m (reduced es n r)
+    → Meets w es m → IsReducer es n r → map (output_of w (m (place n 0)) (reducer_forest es r))
+    (output_numbers_of (reducer_forest es r)) ≡ map m (reduced es n r)
 reduced_is w m es n None a h = refl
 reduced_is w m es n (Some r) a h = reducer_at w m es n r (node_at es r) a refl h
 
@@ -253,7 +253,7 @@ group_at_is w m es keys n r (Some (Gbk c x l k)) p a ok h t i =
 group_at_is w m es keys n r (Some (Barrier ins x l d)) p a ok h t i = absurd i
 
 pub group_does : (es : List Entry) (keys : List Key) (r : Option ℕ) (o : Option Node) → TakesInputs
-    es keys o → (group_at es keys r o).does ≡ reducer_of es r
+    es keys o → (group_at es keys r o).does ≡ reducer_forest es r
 group_does es keys r None i = absurd i
 group_does es keys r (Some (Source s)) i = absurd i
 group_does es keys r (Some (Flatten ins)) i = absurd i
@@ -275,51 +275,55 @@ there_at es n (Some (Barrier ins x l d)) h a = tt
 group_is : (w : World) (m : Place → Collection) (es : List Entry) (keys : List Key) (g : Grouped)
     → IsPlain m → Meets w es m → Each (IsKeyOk es) keys
     → Each (λ e. Each (IsThere es) (reads e.node)) es → IsGroupedOk es keys g
-    → given w (feeds m es keys) (group_of es keys g) ≡ map m (group_gives es g)
+    → channel_gives w (feeds m es keys) (group_channel es keys g) ≡ map m (group_gives es g)
 group_is w m es keys g p a ok t i =
     ap (λ (f : Option Forest). map
     (output_of w (groups w (feeds m es keys) (group_at es keys g.reducer (node_at es g.gbk))) f)
-    (numbers f)) (group_does es keys g.reducer (node_at es g.gbk) i.0)
-    ∙ ap (λ (v : Collection). map (output_of w v (reducer_of es g.reducer))
-    (numbers (reducer_of es g.reducer))) (group_at_is w m es keys g.gbk g.reducer (node_at es g.gbk)
+    (output_numbers_of f)) (group_does es keys g.reducer (node_at es g.gbk) i.0)
+    ∙ ap (λ (v : Collection). map (output_of w v (reducer_forest es g.reducer))
+    (output_numbers_of (reducer_forest es g.reducer))) (group_at_is w m es keys g.gbk g.reducer
+    (node_at es g.gbk)
     p a ok refl (there_at es g.gbk (node_at es g.gbk) refl t) i.0)
     ∙ reduced_is w m es g.gbk g.reducer a i.1
 
 groups_are : (w : World) (m : Place → Collection) (es : List Entry) (keys : List Key)
     (gs : List Grouped) → IsPlain m → Meets w es m → Each (IsKeyOk es) keys
     → Each (λ e. Each (IsThere es) (reads e.node)) es → Each (IsGroupedOk es keys) gs
-    → flat_map (given w (feeds m es keys)) (map (group_of es keys) gs)
+    → flat_map (channel_gives w (feeds m es keys)) (map (group_channel es keys) gs)
     ≡ map m (flat_map (group_gives es) gs)
 groups_are w m es keys [] p a ok t i = refl
 groups_are w m es keys (g ∷ gs) p a ok t i =
-    let x : flat_map (given w (feeds m es keys)) (map (group_of es keys) gs)
+    let x : flat_map (channel_gives w (feeds m es keys)) (map (group_channel es keys) gs)
     ≡ map m (flat_map (group_gives es) gs) = groups_are w m es keys gs p a ok t i.1 in
-    let y : given w (feeds m es keys) (group_of es keys g) ≡ map m (group_gives es g) = group_is w m
+    let y : channel_gives w (feeds m es keys) (group_channel es keys g) ≡ map m (group_gives es g) =
+    group_is w m
     es keys g p a ok t i.0 in
     rw map-append (rw x (rw y refl))
 
 passes_are : (w : World) (m : Place → Collection) (es : List Entry) (keys : List Key)
     (cs : List Place) → Meets w es m → Each (IsKeyOk es) keys → Each (IsTakenPlace es keys) cs
-    → flat_map (given w (feeds m es keys)) (map (pass_of keys) cs) ≡ map m cs
+    → flat_map (channel_gives w (feeds m es keys)) (map (pass_of keys) cs) ≡ map m cs
 passes_are w m es keys [] a ok h = refl
 passes_are w m es keys (c ∷ cs) a ok h =
-    let i : flat_map (given w (feeds m es keys)) (map (pass_of keys) cs) ≡ map m cs = passes_are w m
+    let i : flat_map (channel_gives w (feeds m es keys)) (map (pass_of keys) cs) ≡ map m cs =
+    passes_are w m
     es keys cs a ok h.1 in
     let e : taken w (feeds m es keys) (take_of keys c) ≡ m c = taken_is w m es keys c a ok h.0.1
     h.0.0 in
     cc
 
 -- the numbers of the results say nothing of what they are
-given_numbered : (w : World) (ins : List Fed) (n : ℕ) (o : OutChannel) → given w ins
-    (numbered_out n o) ≡ given w ins o
+given_numbered : (w : World) (ins : List Fed) (n : ℕ) (o : OutChannel) → channel_gives w ins
+    (numbered_out n o) ≡ channel_gives w ins o
 given_numbered w ins n (Group g) = refl
 given_numbered w ins n (Pass k i) = refl
 
-all_numbered : (w : World) (ins : List Fed) (n : ℕ) (os : List OutChannel) → flat_map (given w ins)
-    (numbered_outs n os) ≡ flat_map (given w ins) os
+all_numbered : (w : World) (ins : List Fed) (n : ℕ) (os : List OutChannel)
+    → flat_map (channel_gives w ins)
+    (numbered_outs n os) ≡ flat_map (channel_gives w ins) os
 all_numbered w ins n [] = refl
 all_numbered w ins n (o ∷ os) =
-    let i = all_numbered w ins (n + width o) os in
+    let i = all_numbered w ins (n + results_given o) os in
     let e = given_numbered w ins n o in
     cc
 
@@ -341,10 +345,10 @@ pub sound_carries : (w : World) (m : Place → Collection) (es : List Entry) (o 
     → Carries w m es o
 sound_carries w m es (Flat n) p a t i = flat_is w m es n (node_at es n) a refl i
 sound_carries w m es (Class keys gs cs) p a t i =
-    all_numbered w (feeds m es keys) 0 (map (group_of es keys) gs ++ map (pass_of keys) cs)
-    ∙ flat_map-append (given w (feeds m es keys)) (map (group_of es keys) gs)
+    all_numbered w (feeds m es keys) 0 (map (group_channel es keys) gs ++ map (pass_of keys) cs)
+    ∙ flat_map-append (channel_gives w (feeds m es keys)) (map (group_channel es keys) gs)
     (map (pass_of keys) cs)
-    ∙ ap (λ (l : List Collection). l ++ flat_map (given w (feeds m es keys))
+    ∙ ap (λ (l : List Collection). l ++ flat_map (channel_gives w (feeds m es keys))
     (map (pass_of keys) cs)) (groups_are w m es keys gs p a i.0 t i.1)
     ∙ ap (λ (l : List Collection). map m (flat_map (group_gives es) gs) ++ l)
     (passes_are w m es keys cs a i.0 i.2)

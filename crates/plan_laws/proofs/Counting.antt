@@ -12,7 +12,7 @@ use Rattle.exec_plan.proofs.of_exec_graph.Entries.{flat_map_alike}
 use Rattle.exec_plan.proofs.of_exec_graph.Solving.{each_found}
 use Rattle.exec_plan.specs.Meaning.{Parts, own_parts}
 use Rattle.plan_laws.specs.declared.operations.Operation.{Operation}
-use Rattle.plan_laws.specs.Operations.{DoAll, runs, times, works_at}
+use Rattle.plan_laws.specs.Operations.{DoAll, runs, times_named, works_at}
 use Rattle.plan_laws.proofs.Adding.{node_sum, own_is, sum_at}
 use Rattle.plan_laws.proofs.Totals.{sum_once}
 use Rattle.exec_plan.specs.of_flume_collection.Collection.{Collection}
@@ -36,26 +36,29 @@ nodes_sum w s m es F same d =
     ∙ sym (flat_map-map (λ n. sum_at w s m (node_at es n)) (λ e. e.number) es)
 
 -- each number once
-apart_none : (n : ℕ) (es : List Entry) → Each (λ d. d.number ≡ n → ⊥) es → times n (numbers_of es)
+apart_none : (n : ℕ) (es : List Entry) → Each (λ d. d.number ≡ n → ⊥) es
+    → times_named n (numbers_of es)
     ≡ 0
 apart_none n [] h = refl
 apart_none n (e ∷ es) h =
     let r = apart_none n es h.1 in
-    elim (eqb e.number n) as (λ b. eqb e.number n ≡ b → cond b 1 0 + times n (numbers_of es) ≡ 0)
+    elim (eqb e.number n) as (λ b. eqb e.number n ≡ b → cond b 1 0 + times_named n (numbers_of es) ≡
+    0)
     [ true ↦ λ i. absurd (h.0 (eqb-true e.number n i)) | false ↦ λ i. omega arith ] refl
 
 one_by : (n : ℕ) (x : Node) (e : Entry) (es : List Entry) (b : Bool) → eqb e.number n ≡ b
     → Each (λ d. d.number ≡ e.number → ⊥) es → cond b (Some e.node) (node_at es n) ≡ Some x
-    → (node_at es n ≡ Some x → times n (numbers_of es) ≡ 1) → cond b 1 0 + times n (numbers_of es)
+    → (node_at es n ≡ Some x → times_named n (numbers_of es) ≡ 1)
+    → cond b 1 0 + times_named n (numbers_of es)
     ≡ 1
 one_by n x e es true i d h f =
-    let z : times n (numbers_of es) ≡ 0 = ap (λ (k : ℕ). times k (numbers_of es))
+    let z : times_named n (numbers_of es) ≡ 0 = ap (λ (k : ℕ). times_named k (numbers_of es))
     (sym (eqb-true e.number n i)) ∙ apart_none e.number es d in
     omega arith
-one_by n x e es false i d h f = let z : times n (numbers_of es) ≡ 1 = f h in omega arith
+one_by n x e es false i d h f = let z : times_named n (numbers_of es) ≡ 1 = f h in omega arith
 
 pub times_one : (n : ℕ) (x : Node) (es : List Entry) → AllDiffer es → node_at es n ≡ Some x
-    → times n (numbers_of es) ≡ 1
+    → times_named n (numbers_of es) ≡ 1
 times_one n x [] d h = let bad : ⊥ = cc in absurd bad
 times_one n x (e ∷ es) d h = one_by n x e es (eqb e.number n) refl d.0 h (λ i. times_one n x es d.1
     i)
@@ -70,8 +73,8 @@ idle w m i (Some (Gbk c o l k)) h = absurd (false≢true (sym h))
 idle w m i (Some (Barrier ins o l a)) h = absurd (false≢true (sym h))
 
 once_by : (w : World) (m : Place → Collection) (i : ℕ) (es : List Entry) (ns : List ℕ) (n : ℕ)
-    (o : Option Node) → AllDiffer es → node_at es n ≡ o → (works_at o ≡ true → times n ns ≡ 1)
-    → (sum_at w (own_parts w i) m o ≡ []) ⊎ (times n ns ≡ times n (numbers_of es))
+    (o : Option Node) → AllDiffer es → node_at es n ≡ o → (works_at o ≡ true → times_named n ns ≡ 1)
+    → (sum_at w (own_parts w i) m o ≡ []) ⊎ (times_named n ns ≡ times_named n (numbers_of es))
 once_by w m i es ns n None d h f = inl refl
 once_by w m i es ns n (Some (Source r)) d h f = inl refl
 once_by w m i es ns n (Some (Flatten ins)) d h f = inl refl

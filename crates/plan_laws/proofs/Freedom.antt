@@ -16,7 +16,7 @@ use Rattle.plan_laws.specs.declared.operations.Key.{Key}
 use Rattle.plan_laws.specs.declared.operations.Key.TheVariants.{Mapper, Whole}
 use Rattle.plan_laws.specs.declared.operations.Operation.{Operation}
 use Rattle.plan_laws.specs.declared.operations.Operation.TheVariants.{Flat, Class}
-use Rattle.plan_laws.specs.Operations.{channel_of, channels_of, flat_inputs, flat_stage, gives_of, named, pdo_channel, placed, stage_of, stages_of}
+use Rattle.plan_laws.specs.Operations.{channel_of, channels_of, flat_inputs, flat_stage, gives_of, channel_named, pdo_channel, placed_results, stage_of, stages_of}
 
 abbrev AreFree : List Entry → Type 0
 AreFree es = AllByRecursion (λ e. IsNodeFree e.node) es
@@ -36,7 +36,7 @@ node_stage es n (Some (Barrier ins o l d)) takes a h =
 -- ---- channels
 
 node_channel : (es : List Entry) (f : Place → PlanPlace) (n : ℕ) (o : Option Node) → AreFree es
-    → node_at es n ≡ o → (named f (pdo_channel n o)).beside ≡ None
+    → node_at es n ≡ o → (channel_named f (pdo_channel n o)).beside ≡ None
 node_channel es f n None a h = refl
 node_channel es f n (Some (Source r)) a h = refl
 node_channel es f n (Some (Flatten ins)) a h = refl
@@ -47,12 +47,13 @@ node_channel es f n (Some (Barrier ins o l d)) a h =
     absurd bad
 
 key_channel : (es : List Entry) (f : Place → PlanPlace) (k : Key) → AreFree es
-    → (named f (channel_of es k)).beside ≡ None
+    → (channel_named f (channel_of es k)).beside ≡ None
 key_channel es f (Mapper n) a = node_channel es f n (node_at es n) a refl
 key_channel es f (Whole c) a = refl
 
 key_channels : (es : List Entry) (f : Place → PlanPlace) (ks : List Key) → AreFree es
-    → AllByRecursion (λ (c : InChannel). c.beside ≡ None) (map (named f) (channels_of es ks))
+    → AllByRecursion (λ (c : InChannel). c.beside ≡ None)
+    (map (channel_named f) (channels_of es ks))
 key_channels es f [] a = tt
 key_channels es f (k ∷ ks) a = (key_channel es f k a, key_channels es f ks a)
 
@@ -68,4 +69,4 @@ pub all_stages : (es : List Entry) (k : ℕ) (f : Place → PlanPlace) (os : Lis
     → AreFree es → AllByRecursion IsStageFree (stages_of es k f os)
 all_stages es k f [] a = tt
 all_stages es k f (o ∷ os) a =
-    (one_stage es f o a, all_stages es (suc k) (placed k 0 (gives_of es o) f) os a)
+    (one_stage es f o a, all_stages es (suc k) (placed_results k 0 (gives_of es o) f) os a)

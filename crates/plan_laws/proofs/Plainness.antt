@@ -12,7 +12,7 @@ use Rattle.exec_plan.specs.of_flume_collection.Collection.{Collection, together,
 use Rattle.exec_plan.proofs.of_flume_collection.Bagging.{set-gathered}
 use Rattle.exec_plan.proofs.of_flume_collection.Orders.{trap_order}
 use Rattle.exec_plan.specs.of_exec_graph.World.{World}
-use Rattle.exec_plan.specs.of_exec_graph.Objects.{beside, called_beside, value_object, trap_object, act_result, none_of, side_input_on, value_in}
+use Rattle.exec_plan.specs.of_exec_graph.Objects.{world_beside, called_beside, value_object, trap_object, act_result, none_of, side_input_on, value_in}
 use Rattle.exec_plan.specs.of_exec_graph.declared.graph.Act.{Act}
 use Rattle.exec_plan.specs.of_flume_collection.Calls.{Called, emissions, trap_of}
 use Rattle.exec_plan.specs.of_exec_graph.Calls.{emitted, trapped}
@@ -76,7 +76,7 @@ side_normal : (w : World) (o f : ℕ) (v : Option Value) (c d : Collection)
     → IsNormal (side_input_on w o f v c d)
 side_normal w o f v c d =
     let e : Collection = called_beside v c d in
-    let g : Value → Called = (beside v w).called f in
+    let g : Value → Called = (world_beside v w).called f in
     made_normal (flat_map (λ x. emissions 0 (g x)) e.bag)
     (e.traps ++ flat_map (λ x. trap_of o (g x)) e.bag)
 

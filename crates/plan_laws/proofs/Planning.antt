@@ -8,9 +8,9 @@ use Rattle.exec_plan.specs.of_exec_graph.Meaning.{Holds, IsSound, IsThere, Meets
 use Rattle.exec_plan.proofs.of_exec_graph.Solving.{collection_meets, each_found}
 use Rattle.exec_plan.specs.declared.plan.PlanPlace.{PlanPlace}
 use Rattle.exec_plan.specs.declared.plan.PlanPlace.TheVariants as at
-use Rattle.exec_plan.specs.Meaning.{Parts, own_parts, run, sources, stage_sum, trap_parts}
+use Rattle.exec_plan.specs.Meaning.{Parts, own_parts, stages_run, sources, stage_sum, trap_parts}
 use Rattle.plan_laws.specs.declared.operations.Operation.{Operation}
-use Rattle.plan_laws.specs.Operations.{DoAll, IsHonest, IsIn, SamePlan, at_source, made_by, places_of, plan_of, runs, source_at, source_place, source_places, stages_of}
+use Rattle.plan_laws.specs.Operations.{DoAll, IsHonest, IsIn, SamePlan, at_source, made_after, places_of, plan_of, runs, source_at, source_place, source_places, stages_of}
 use Rattle.plan_laws.proofs.Running.{Carries, Tells, TellsAll, all_in, in_append, run_sums, run_tells, values_named}
 use Rattle.plan_laws.proofs.Carrying.{IsPlain, sound_carries}
 use Rattle.plan_laws.proofs.Adding.{operations_sum, sum_at}
@@ -60,9 +60,9 @@ all_carry w m es os p a t h = Each-weaker (IsHonest es) (Carries w m es) (λ o i
 
 plan_tells : (w : World) (m : Place → Collection) (g : Graph) (os : List Operation) → IsSound g
     → IsPlain m → Meets w g.nodes m → DoAll g os → TellsAll m
-    (run w 1 (stages_of g.nodes 1 (at_source g.nodes) os) (sources w))
+    (stages_run w 1 (stages_of g.nodes 1 (at_source g.nodes) os) (sources w))
     (places_of g.nodes 1 (at_source g.nodes) os) (1 + length os)
-    (made_by g.nodes (source_places g.nodes) os)
+    (made_after g.nodes (source_places g.nodes) os)
 plan_tells w m g os ok p a d =
     run_tells w g.nodes m (sources w) (at_source g.nodes) 1 (source_places g.nodes) os
     (sources_tell w m g.nodes g.nodes (each_found g.nodes ok.differ) a) (all_carry w m g.nodes os p
@@ -71,7 +71,8 @@ plan_tells w m g os ok p a d =
 -- ---- what the stages add up to
 plan_sums : {Y : Type 0} (w : World) (s : Parts Y) (m : Place → Collection) (g : Graph)
     (os : List Operation) → IsSound g → IsPlain m → Meets w g.nodes m → DoAll g os
-    → flat_map (stage_sum w s (run w 1 (stages_of g.nodes 1 (at_source g.nodes) os) (sources w)))
+    → flat_map (stage_sum w s (stages_run w 1 (stages_of g.nodes 1 (at_source g.nodes) os)
+    (sources w)))
     (stages_of g.nodes 1 (at_source g.nodes) os) ≡ flat_map (λ n. sum_at w s m (node_at g.nodes n))
     (flat_map runs os)
 plan_sums w s m g os ok p a d =
@@ -91,10 +92,11 @@ plan_means w n g os ok d =
     let tell = plan_tells w m g os ok p a d in
     let f : Place → PlanPlace = places_of g.nodes 1 (at_source g.nodes) os in
     let t : PlanPlace → Collection =
-    run w 1 (stages_of g.nodes 1 (at_source g.nodes) os) (sources w) in
+    stages_run w 1 (stages_of g.nodes 1 (at_source g.nodes) os) (sources w) in
     record {
       outputs = sym (values_named m t f g.outputs (all_in (λ c. t (f c) ≡ m c)
-          (made_by g.nodes (source_places g.nodes) os) (λ c i. (tell c i).same) g.outputs d.told));
+          (made_after g.nodes (source_places g.nodes) os) (λ c i. (tell c i).same) g.outputs
+          d.told));
       own = λ i. own_same w m g os i ok d
           ∙ sym (ap bag_of (plan_sums w (own_parts w i) m g os ok p a d));
       traps = traps_same w m g os ok a d

@@ -16,12 +16,12 @@ use Rattle.exec_plan.specs.of_exec_graph.declared.graph.Place.{Place}
 use Rattle.exec_plan.specs.of_exec_graph.declared.graph.Entry.{Entry}
 use Rattle.exec_plan.specs.declared.plan.PlanPlace.{PlanPlace}
 use Rattle.exec_plan.specs.declared.plan.PlanPlace.TheVariants as at
-use Rattle.exec_plan.specs.Channels.{Fed, fed, given}
-use Rattle.exec_plan.specs.Meaning.{Parts, channels_sum, results, run, stage_sum, with_results}
+use Rattle.exec_plan.specs.Channels.{Fed, fed, channel_gives}
+use Rattle.exec_plan.specs.Meaning.{Parts, channels_sum, results, stages_run, stage_sum, with_results}
 use Rattle.exec_plan.proofs.Running.{IsBelow, more_below, run_below, with_below}
 use Rattle.plan_laws.specs.declared.operations.Operation.{Operation}
 use Rattle.plan_laws.specs.declared.operations.Operation.TheVariants.{Flat, Class}
-use Rattle.plan_laws.specs.Operations.{AreReady, IsIn, Reading, channels_of, class_outs, flat_inputs, flat_stage, gives_of, made_by, named, placed, places_of, reading_reads, reads_of, with_object, stage_of, stages_of, valued}
+use Rattle.plan_laws.specs.Operations.{AreReady, IsIn, Reading, channels_of, class_outs, flat_inputs, flat_stage, gives_of, made_after, channel_named, placed_results, places_of, reading_reads, reads_of, with_object, stage_of, stages_of, channel_valued}
 use Rattle.exec_plan.specs.of_exec_graph.Meaning.{node_at}
 
 -- ---- what an operation gives, and adds up to, where m says what the graph's collections are
@@ -37,14 +37,16 @@ abbrev pub carried : World → (Place → Collection) → List Entry → Operati
 carried w m es (Flat n) =
     flat_value w (node_at es n) (map m (flat_inputs (node_at es n))) ∷ []
 carried w m es (Class keys groups passes) =
-    flat_map (given w (map (valued m) (channels_of es keys))) (class_outs es keys groups passes)
+    flat_map (channel_gives w (map (channel_valued m) (channels_of es keys)))
+    (class_outs es keys groups passes)
 
 abbrev pub carried_sum : {Y : Type 0} → World → Parts Y → (Place → Collection) → List Entry
     → Operation → List Y
 carried_sum w p m es (Flat n) =
     flat_part w p (node_at es n) (map m (flat_inputs (node_at es n)))
 carried_sum w p m es (Class keys groups passes) =
-    channels_sum w p (map (valued m) (channels_of es keys)) (class_outs es keys groups passes)
+    channels_sum w p (map (channel_valued m) (channels_of es keys))
+    (class_outs es keys groups passes)
 
 -- its results are what it is to give
 abbrev pub Carries : World → (Place → Collection) → List Entry → Operation → Type 0
@@ -59,7 +61,7 @@ object_named m t f (Some c) a = ap (λ (v : Collection). Some v) a.0
 
 fed_named : (m : Place → Collection) (t : PlanPlace → Collection) (f : Place → PlanPlace)
     (rs : List Reading) → Each (λ c. t (f c) ≡ m c) (flat_map reading_reads rs)
-    → map (fed t) (map (named f) rs) ≡ map (valued m) rs
+    → map (fed t) (map (channel_named f) rs) ≡ map (channel_valued m) rs
 fed_named m t f [] a = refl
 fed_named m t f (r ∷ rs) a =
     let P : Place → Type 0 = λ c. t (f c) ≡ m c in
@@ -67,7 +69,7 @@ fed_named m t f (r ∷ rs) a =
     let reads : t (f r.reads) ≡ m r.reads = a.0 in
     let object : option_map t (option_map f r.beside) ≡ option_map m r.beside =
     object_named m t f r.beside (Each-left P (with_object r.beside) more a.1) in
-    let rest : map (fed t) (map (named f) rs) ≡ map (valued m) rs =
+    let rest : map (fed t) (map (channel_named f) rs) ≡ map (channel_valued m) rs =
     fed_named m t f rs (Each-right P (with_object r.beside) more a.1) in
     λ i. (let x : Fed = record { value = reads i; beside = object i; does = r.does } in
     x ∷ rest i)
@@ -107,7 +109,7 @@ results_named w m t f es (Flat n) a =
     ∙ ap (λ (cs : List Collection). flat_value w (node_at es n) cs ∷ [])
     (values_named m t f (flat_inputs (node_at es n)) a)
 results_named w m t f es (Class keys groups passes) a =
-    ap (λ (cs : List Fed). flat_map (given w cs) (class_outs es keys groups passes))
+    ap (λ (cs : List Fed). flat_map (channel_gives w cs) (class_outs es keys groups passes))
     (fed_named m t f (channels_of es keys) a)
 
 sum_named : {Y : Type 0} (w : World) (p : Parts Y) (m : Place → Collection)
@@ -149,9 +151,9 @@ at_place t cs k i v h = rw (eq-eqb k k refl) (ap or_nothing h)
 placed_by : (m : Place → Collection) (t : PlanPlace → Collection) (f : Place → PlanPlace)
     (cs : List Collection) (k i : ℕ) (d : Place) (ds : List Place) (c : Place) (b : Bool)
     → same_place d c ≡ b → slice_get cs i ≡ Some (m d)
-    → (b ≡ false → Tells m (with_results k cs t) (placed k (suc i) ds f) (suc k) c)
+    → (b ≡ false → Tells m (with_results k cs t) (placed_results k (suc i) ds f) (suc k) c)
     → Tells m (with_results k cs t)
-    (λ x. cond (same_place d x) (at.Result k i) (placed k (suc i) ds f x)) (suc k) c
+    (λ x. cond (same_place d x) (at.Result k i) (placed_results k (suc i) ds f x)) (suc k) c
 placed_by m t f cs k i d ds c true e h r = record {
   same = rw e (at_place t cs k i (m d) h ∙ ap m (place_same d c e));
   below = rw e (omega arith);
@@ -173,7 +175,8 @@ without_first d ds c e (inr q) = inr q
 
 placed_tells : (m : Place → Collection) (t : PlanPlace → Collection) (f : Place → PlanPlace)
     (cs : List Collection) (k i : ℕ) (ds : List Place) (c : Place) → HasFrom m cs i ds
-    → IsIn c ds ⊎ Tells m t f k c → Tells m (with_results k cs t) (placed k i ds f) (suc k) c
+    → IsIn c ds ⊎ Tells m t f k c
+    → Tells m (with_results k cs t) (placed_results k i ds f) (suc k) c
 placed_tells m t f cs k i [] c h (inl p) = absurd p
 placed_tells m t f cs k i [] c h (inr p) = record {
   same = with_below t cs k (f c) p.below ∙ p.same;
@@ -211,7 +214,7 @@ one_more : (w : World) (es : List Entry) (m : Place → Collection) (t : PlanPla
     (f : Place → PlanPlace) (k : ℕ) (made : List Place) (o : Operation) → TellsAll m t f k made
     → Carries w m es o → Each (λ c. IsIn c made) (reads_of es o)
     → TellsAll m (with_results k (results w t (stage_of es f o)) t)
-    (placed k 0 (gives_of es o) f) (suc k) (gives_of es o ++ made)
+    (placed_results k 0 (gives_of es o) f) (suc k) (gives_of es o ++ made)
 one_more w es m t f k made o a h r c p =
     let same : results w t (stage_of es f o) ≡ map m (gives_of es o) =
     results_named w m t f es o (all_in (λ c. t (f c) ≡ m c) made (λ c i. (a c i).same)
@@ -227,15 +230,15 @@ pub run_tells : (w : World) (es : List Entry) (m : Place → Collection)
     (t : PlanPlace → Collection) (f : Place → PlanPlace) (k : ℕ) (made : List Place)
     (os : List Operation) → TellsAll m t f k made → Each (Carries w m es) os
     → AreReady es made os
-    → TellsAll m (run w k (stages_of es k f os) t) (places_of es k f os) (k + length os)
-    (made_by es made os)
+    → TellsAll m (stages_run w k (stages_of es k f os) t) (places_of es k f os) (k + length os)
+    (made_after es made os)
 run_tells w es m t f k made [] a h r =
     subst (λ (n : ℕ). TellsAll m t f n made) (let e : k ≡ k + 0 = omega arith in e) a
 run_tells w es m t f k made (o ∷ os) a h r =
     let now : PlanPlace → Collection = with_results k (results w t (stage_of es f o)) t in
-    let names : Place → PlanPlace = placed k 0 (gives_of es o) f in
-    subst (λ (n : ℕ). TellsAll m (run w (suc k) (stages_of es (suc k) names os) now)
-    (places_of es (suc k) names os) n (made_by es (gives_of es o ++ made) os))
+    let names : Place → PlanPlace = placed_results k 0 (gives_of es o) f in
+    subst (λ (n : ℕ). TellsAll m (stages_run w (suc k) (stages_of es (suc k) names os) now)
+    (places_of es (suc k) names os) n (made_after es (gives_of es o ++ made) os))
     (let e : suc k + length os ≡ k + length (o ∷ os) = omega arith in e)
     (run_tells w es m now names (suc k) (gives_of es o ++ made) os
     (one_more w es m t f k made o a h.0 r.0) h.1 r.1)
@@ -245,13 +248,13 @@ pub run_sums : {Y : Type 0} (w : World) (es : List Entry) (p : Parts Y) (m : Pla
     (t : PlanPlace → Collection) (f : Place → PlanPlace) (k : ℕ) (made : List Place)
     (os : List Operation) → TellsAll m t f k made → Each (Carries w m es) os
     → AreReady es made os
-    → flat_map (stage_sum w p (run w k (stages_of es k f os) t)) (stages_of es k f os)
+    → flat_map (stage_sum w p (stages_run w k (stages_of es k f os) t)) (stages_of es k f os)
     ≡ flat_map (carried_sum w p m es) os
 run_sums w es p m t f k made [] a h r = refl
 run_sums w es p m t f k made (o ∷ os) a h r =
     let now : PlanPlace → Collection = with_results k (results w t (stage_of es f o)) t in
-    let names : Place → PlanPlace = placed k 0 (gives_of es o) f in
-    let final : PlanPlace → Collection = run w k (stages_of es k f (o ∷ os)) t in
+    let names : Place → PlanPlace = placed_results k 0 (gives_of es o) f in
+    let final : PlanPlace → Collection = stages_run w k (stages_of es k f (o ∷ os)) t in
     let here : stage_sum w p final (stage_of es f o) ≡ carried_sum w p m es o =
     sum_named w p m final f es o
     (Each-weaker (λ c. IsIn c made) (λ c. final (f c) ≡ m c)

@@ -14,7 +14,7 @@ use Rattle.exec_plan.proofs.of_exec_graph.Entries.{all_found}
 use Rattle.exec_plan.proofs.of_exec_graph.Solving.{each_found, ranked_at, there_found, kept_value as kept_at}
 use Rattle.exec_plan.specs.Meaning.{trap_parts}
 use Rattle.plan_laws.specs.declared.operations.Operation.{Operation}
-use Rattle.plan_laws.specs.Operations.{DoAll, runs, times, works_at}
+use Rattle.plan_laws.specs.Operations.{DoAll, runs, times_named, works_at}
 use Rattle.plan_laws.proofs.Absorbing.{Absorbs, absorbs_all, absorbs_both, absorbs_left, absorbs_part, absorbs_right, absorbs_set, one_set}
 use Rattle.plan_laws.proofs.Adding.{sum_at, traps_are}
 use Rattle.plan_laws.proofs.Carrying.{holds_at}
@@ -114,7 +114,7 @@ any_absorbed : (w : World) (m : Place → Collection) (es : List Entry) (n : ℕ
 any_absorbed w m es n None d h = refl
 any_absorbed w m es n (Some x) d h =
     let F : ℕ → List Trap = λ n. sum_at w (trap_parts w) m (node_at es n) in
-    let one : times n (numbers_of es) ≡ 1 = times_one n x es d h in
+    let one : times_named n (numbers_of es) ≡ 1 = times_one n x es d h in
     subst (λ (o : Option Node). Absorbs (trap_set (flat_map F (numbers_of es)))
     (sum_at w (trap_parts w) m o)) h (absorbs_part F n (numbers_of es) (omega arith))
 
@@ -140,7 +140,7 @@ traps_same w m g os ok a d =
     let es : List Entry = g.nodes in
     let F : ℕ → List Trap = λ n. sum_at w (trap_parts w) m (node_at es n) in
     let b : List Trap = trap_set (flat_map F (flat_map runs os)) in
-    let k : HasWork w m es b = λ n h. let one : times n (flat_map runs os) ≡ 1 = d.once n h in
+    let k : HasWork w m es b = λ n h. let one : times_named n (flat_map runs os) ≡ 1 = d.once n h in
     absorbs_part F n (flat_map runs os) (omega arith) in
     let each : Each (λ (e : Entry). Absorbs b (F e.number)) es =
     Each-both (λ (e : Entry). node_at es e.number ≡ Some e.node) (λ (e : Entry). Each (IsThere es)

@@ -27,7 +27,7 @@ use Rattle.exec_plan.specs.declared.plan.Stage.TheVariants.{Mscr, Flatten as Joi
 use Rattle.exec_plan.specs.declared.plan.Plan.{Plan}
 use Rattle.exec_plan.specs.Channels.{Fed, outs_of}
 use Rattle.exec_plan.specs.Meaning.{emitted_by, plan_collection, plan_traps}
-use Rattle.exec_plan.specs.Wellformed.{width}
+use Rattle.exec_plan.specs.Wellformed.{results_given}
 use Rattle.plan_laws.specs.declared.operations.Key.{Key}
 use Rattle.plan_laws.specs.declared.operations.Key.TheVariants.{Mapper, Whole}
 use Rattle.plan_laws.specs.declared.operations.Grouped.{Grouped}
@@ -43,15 +43,15 @@ pub record Reading : Type 0 where
   pub does : Option Forest
 
 -- the channel, where f says which collection of the plan each of the graph's is
-abbrev pub named : (Place → PlanPlace) → Reading → InChannel
-named f r = record { reads = f r.reads; beside = option_map f r.beside; does = r.does }
+abbrev pub channel_named : (Place → PlanPlace) → Reading → InChannel
+channel_named f r = record { reads = f r.reads; beside = option_map f r.beside; does = r.does }
 
 -- the channel with what it reads, where m says what each collection of the graph is
-abbrev pub valued : (Place → Collection) → Reading → Fed
-valued m r = record { value = m r.reads; beside = option_map m r.beside; does = r.does }
+abbrev pub channel_valued : (Place → Collection) → Reading → Fed
+channel_valued m r = record { value = m r.reads; beside = option_map m r.beside; does = r.does }
 
-abbrev pub whole : Place → Reading
-whole c = record { reads = c; beside = None; does = None }
+abbrev pub reading_of_all : Place → Reading
+reading_of_all c = record { reads = c; beside = None; does = None }
 
 -- one step, which calls a function, and whose output is kept
 abbrev pub one_call : ℕ → Bool → ℕ → Forest
@@ -61,25 +61,25 @@ one_call o l f =
 abbrev pub side_channel : ℕ → ℕ → Bool → Act → List Place → Reading
 side_channel n o l (SideInput f) (c ∷ (object ∷ [])) =
     record { reads = c; beside = Some object; does = Some (one_call o l f) }
-side_channel n o l a ins = whole (place n 0)
+side_channel n o l a ins = reading_of_all (place n 0)
 
 abbrev pub pdo_channel : ℕ → Option Node → Reading
 pdo_channel n (Some (Pdo c f)) = record { reads = c; beside = None; does = Some f }
 pdo_channel n (Some (Barrier ins o l a)) = side_channel n o l a ins
-pdo_channel n o = whole (place n 0)
+pdo_channel n o = reading_of_all (place n 0)
 
 abbrev pub channel_of : List Entry → Key → Reading
 channel_of es (Mapper n) = pdo_channel n (node_at es n)
-channel_of es (Whole c) = whole c
+channel_of es (Whole c) = reading_of_all c
 
 abbrev pub channels_of : List Entry → List Key → List Reading
 channels_of es keys = map (channel_of es) keys
 
 -- ---- what is taken
 
-abbrev pub has_key : Key → Place → Bool
-has_key (Mapper n) c = n == c.node
-has_key (Whole d) c = same_place d c
+abbrev pub is_read_under : Key → Place → Bool
+is_read_under (Mapper n) c = n == c.node
+is_read_under (Whole d) c = same_place d c
 
 abbrev pub key_out : Key → Place → ℕ
 key_out (Mapper n) c = c.out
@@ -88,11 +88,11 @@ key_out (Whole d) c = 0
 -- the first channel that has the collection, and as which output
 abbrev pub position : List Key → Place → ℕ
 position [] c = 0
-position (k ∷ ks) c = cond (has_key k c) 0 (suc (position ks c))
+position (k ∷ ks) c = cond (is_read_under k c) 0 (suc (position ks c))
 
 abbrev pub out_in : List Key → Place → ℕ
 out_in [] c = 0
-out_in (k ∷ ks) c = cond (has_key k c) (key_out k c) (out_in ks c)
+out_in (k ∷ ks) c = cond (is_read_under k c) (key_out k c) (out_in ks c)
 
 abbrev pub take_of : List Key → Place → Take
 take_of keys c = record { channel = position keys c; out = out_in keys c }
@@ -107,13 +107,13 @@ inputs_at c o = c ∷ []
 abbrev pub read_through : List Entry → Place → List Place
 read_through es c = inputs_at c (node_at es c.node)
 
-abbrev pub forest_at : Option Node → Option Forest
-forest_at (Some (Pdo c f)) = Some f
-forest_at o = None
+abbrev pub forest_in : Option Node → Option Forest
+forest_in (Some (Pdo c f)) = Some f
+forest_in o = None
 
-abbrev pub reducer_of : List Entry → Option ℕ → Option Forest
-reducer_of es None = None
-reducer_of es (Some r) = forest_at (node_at es r)
+abbrev pub reducer_forest : List Entry → Option ℕ → Option Forest
+reducer_forest es None = None
+reducer_forest es (Some r) = forest_in (node_at es r)
 
 abbrev pub group_at : List Entry → List Key → Option ℕ → Option Node → Grouping
 group_at es keys r (Some (Gbk c o l k)) = record {
@@ -121,14 +121,14 @@ group_at es keys r (Some (Gbk c o l k)) = record {
   last = l;
   lifted = k;
   takes = map (take_of keys) (read_through es c);
-  does = reducer_of es r;
+  does = reducer_forest es r;
   first = 0;
 }
 group_at es keys r x =
     record { origin = 0; last = false; lifted = None; takes = []; does = None; first = 0 }
 
-abbrev pub group_of : List Entry → List Key → Grouped → OutChannel
-group_of es keys g = Group (group_at es keys g.reducer (node_at es g.gbk))
+abbrev pub group_channel : List Entry → List Key → Grouped → OutChannel
+group_channel es keys g = Group (group_at es keys g.reducer (node_at es g.gbk))
 
 abbrev pub pass_of : List Key → Place → OutChannel
 pass_of keys c = Pass (take_of keys c) 0
@@ -140,11 +140,11 @@ numbered_out n (Pass k i) = Pass k n
 
 abbrev pub numbered_outs : ℕ → List OutChannel → List OutChannel
 numbered_outs n [] = []
-numbered_outs n (o ∷ os) = numbered_out n o ∷ numbered_outs (n + width o) os
+numbered_outs n (o ∷ os) = numbered_out n o ∷ numbered_outs (n + results_given o) os
 
 abbrev pub class_outs : List Entry → List Key → List Grouped → List Place → List OutChannel
 class_outs es keys groups passes =
-    numbered_outs 0 (map (group_of es keys) groups ++ map (pass_of keys) passes)
+    numbered_outs 0 (map (group_channel es keys) groups ++ map (pass_of keys) passes)
 
 -- ---- the stage of an operation
 
@@ -162,7 +162,7 @@ stage_of es f (Flat n) = flat_stage (node_at es n) (map f (flat_inputs (node_at 
 stage_of es f (Class keys groups passes) =
     Mscr
     (record {
-      inputs = map (named f) (channels_of es keys);
+      inputs = map (channel_named f) (channels_of es keys);
       outputs = class_outs es keys groups passes;
     })
 
@@ -228,7 +228,7 @@ IsKeyOk es (Whole c) = Unit {0}
 
 abbrev pub HasKey : List Key → Place → Type 0
 HasKey [] c = ⊥
-HasKey (k ∷ ks) c = (has_key k c ≡ true) ⊎ HasKey ks c
+HasKey (k ∷ ks) c = (is_read_under k c ≡ true) ⊎ HasKey ks c
 
 -- a collection that is there and that a channel has
 abbrev pub IsTakenPlace : List Entry → List Key → Place → Type 0
@@ -269,19 +269,20 @@ IsHonest es (Class keys groups passes) =
 -- ---- the plan
 
 -- the collections cs are the results of stage k from number i on, and others are where f says
-abbrev pub placed : ℕ → ℕ → List Place → (Place → PlanPlace) → Place → PlanPlace
-placed k i [] f c = f c
-placed k i (d ∷ ds) f c = cond (same_place d c) (at.Result k i) (placed k (suc i) ds f c)
+abbrev pub placed_results : ℕ → ℕ → List Place → (Place → PlanPlace) → Place → PlanPlace
+placed_results k i [] f c = f c
+placed_results k i (d ∷ ds) f c =
+    cond (same_place d c) (at.Result k i) (placed_results k (suc i) ds f c)
 
 -- the stages of a plan from number k on, and where the graph's collections are in the end
 abbrev pub stages_of : List Entry → ℕ → (Place → PlanPlace) → List Operation → List Stage
 stages_of es k f [] = []
 stages_of es k f (o ∷ os) =
-    stage_of es f o ∷ stages_of es (suc k) (placed k 0 (gives_of es o) f) os
+    stage_of es f o ∷ stages_of es (suc k) (placed_results k 0 (gives_of es o) f) os
 
 abbrev pub places_of : List Entry → ℕ → (Place → PlanPlace) → List Operation → Place → PlanPlace
 places_of es k f [] = f
-places_of es k f (o ∷ os) = places_of es (suc k) (placed k 0 (gives_of es o) f) os
+places_of es k f (o ∷ os) = places_of es (suc k) (placed_results k 0 (gives_of es o) f) os
 
 -- sources stand under their numbers
 abbrev pub source_at : Option Node → ℕ
@@ -320,9 +321,9 @@ AreReady es made [] = Unit {0}
 AreReady es made (o ∷ os) =
     AllByRecursion (λ c. IsIn c made) (reads_of es o) × AreReady es (gives_of es o ++ made) os
 
-abbrev pub made_by : List Entry → List Place → List Operation → List Place
-made_by es made [] = made
-made_by es made (o ∷ os) = made_by es (gives_of es o ++ made) os
+abbrev pub made_after : List Entry → List Place → List Operation → List Place
+made_after es made [] = made
+made_after es made (o ∷ os) = made_after es (gives_of es o ++ made) os
 
 abbrev pub source_place : ℕ → Node → List Place
 source_place n (Source r) = place n 0 ∷ []
@@ -336,9 +337,9 @@ source_places [] = []
 source_places (e ∷ es) = source_place e.number e.node ++ source_places es
 
 -- how often
-abbrev pub times : ℕ → List ℕ → ℕ
-times n [] = 0
-times n (k ∷ ks) = cond (k == n) 1 0 + times n ks
+abbrev pub times_named : ℕ → List ℕ → ℕ
+times_named n [] = 0
+times_named n (k ∷ ks) = cond (k == n) 1 0 + times_named n ks
 
 -- Pdos, Gbks, and what is made of whole collections
 abbrev pub works : Node → Bool
@@ -358,8 +359,8 @@ pub record DoAll (g : Graph) (os : List Operation) : Type 0 where
   pub sound : AllByRecursion (IsHonest g.nodes) os
   pub ready : AreReady g.nodes (source_places g.nodes) os
   pub told :
-      AllByRecursion (λ c. IsIn c (made_by g.nodes (source_places g.nodes) os)) g.outputs
-  pub once : (n : ℕ) → works_at (node_at g.nodes n) ≡ true → times n (flat_map runs os) ≡ 1
+      AllByRecursion (λ c. IsIn c (made_after g.nodes (source_places g.nodes) os)) g.outputs
+  pub once : (n : ℕ) → works_at (node_at g.nodes n) ≡ true → times_named n (flat_map runs os) ≡ 1
 
 -- the plan means what the graph means
 pub record SamePlan (w : World) (g : Graph) (p : Plan) : Type 0 where

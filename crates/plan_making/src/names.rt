@@ -3,7 +3,7 @@ ghost use Rattle.std.specs.Prelude.{◌≡◌, ◌<◌, ◌^◌, ℕ, cond, leng
 ghost use Rattle.exec_graph.specs.Readers.{same_place};
 ghost use Rattle.exec_graph.specs.declared.graph.Place.{Place as GhostPlace};
 ghost use Rattle.exec_plan.specs.declared.plan.PlanPlace.{PlanPlace as GhostPlanPlace};
-ghost use Rattle.plan_laws.specs.Operations.{at_source, placed};
+ghost use Rattle.plan_laws.specs.Operations.{at_source, placed_results};
 ghost use Rattle.plan_making.specs.inner.Names.{name_in, named_by};
 
 use crate::indexed::Nodes;
@@ -57,7 +57,7 @@ pub(crate) fn all_named(
 pub(crate) fn name_results(stage: u32, gives: &[Place], names: &mut Names) -> Result<(), AllocError>
     requires { length gives.now < 2 ^ 32 }
     ensures { OnOk result ((f : GhostPlace → GhostPlanPlace) (c : GhostPlace) →
-        named_by names.new f c ≡ placed stage 0 gives.now (named_by names.old f) c) }
+        named_by names.new f c ≡ placed_results stage 0 gives.now (named_by names.old f) c) }
 {
     let count = gives.len();
     for k in 0..count {

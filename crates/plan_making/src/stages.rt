@@ -73,7 +73,8 @@ fn inputs_of(
     names: &Names,
     keys: &[Key],
 ) -> Result<Pile<InChannel>, AllocError>
-    ensures { IfOk result (λ inputs. inputs ≡ map (operations.named (name_in nodes.now names.now))
+    ensures { IfOk result (λ inputs. inputs ≡ map (operations.channel_named
+        (name_in nodes.now names.now))
         (operations.channels_of nodes.now keys.now)) }
 {
     let mut inputs = Pile::new(alloc);
@@ -93,7 +94,8 @@ fn mapper(
     names: &Names,
     number: u32,
 ) -> Result<InChannel, AllocError>
-    ensures { IfOk result (λ channel. channel ≡ operations.named (name_in nodes.now names.now)
+    ensures { IfOk result (λ channel. channel ≡ operations.channel_named
+        (name_in nodes.now names.now)
         (operations.pdo_channel number (node_at nodes.now number))) }
 {
     match nodes.find(number) {
@@ -141,7 +143,8 @@ fn side(
     act: Act,
     inputs: &[Place],
 ) -> Result<InChannel, AllocError>
-    ensures { IfOk result (λ channel. channel ≡ operations.named (name_in nodes.now names.now)
+    ensures { IfOk result (λ channel. channel ≡ operations.channel_named
+        (name_in nodes.now names.now)
         (operations.side_channel call.node call.origin call.last act inputs.now)) }
 {
     if let Act::SideInput(function) = act {
@@ -172,7 +175,7 @@ fn one_call(alloc: Global, origin: u32, last: bool, function: u32) -> Result<Roo
 /// The channel of a collection as it is.
 fn whole(nodes: &Nodes<'_>, names: &Names, c: Place) -> InChannel
     ensures { result
-        ≡ operations.named (name_in nodes.now names.now) (operations.whole c) }
+        ≡ operations.channel_named (name_in nodes.now names.now) (operations.reading_of_all c) }
 {
     InChannel {
         reads: named(nodes, names, c),

@@ -15,7 +15,7 @@ use Rattle.plan_phases.specs.declared.fault.RunFault.{RunFault}
 use Rattle.plan_phases.specs.declared.fault.RunFault.TheVariants as fault
 use Rattle.plan_phases.specs.declared.winners.PhaseWinners.{PhaseWinners}
 use Rattle.plan_phases.specs.Phases.{OfAct, OfTasks, PhaseTasks, PlanPhase, with_tasks}
-use Rattle.task_lists.specs.Tasks.{places}
+use Rattle.task_lists.specs.Tasks.{asks_of}
 use Rattle.phase_outs.specs.Outs.{HasRun}
 use Rattle.plan_phases.specs.Told.{AreWinners, AskedFront, AskedInTurn, HasTrapped, HaveRun, IsCalmPhase, IsGivenUp, IsReached, IsStopped, RanThrough, TaskHasTrapped, attempts_of, first_tasks, settings_of}
 use Rattle.plan_phases.proofs.Asking.{asked_all, asked_then, front_before, front_behind, front_to}
@@ -221,7 +221,7 @@ module _ (tries : ℕ) (drill : List Entry) where
         (h : TaskHasTrapped tries drill w ps us vs trap)
         (r : (it : IsReached tries drill w qs us' vs' h.here h.number)
         × (it.won ≡ h.reached.won))
-        → HasRun (settings_of tries drill h.here) us' vs' h.number (places h.task)
+        → HasRun (settings_of tries drill h.here) us' vs' h.number (asks_of h.task)
         (slice_index h.reached.won h.number)
         → HasTrapped tries drill w qs us' vs' trap
     trapped_there ps qs us vs us' vs' trap h r ran = inl (record {
@@ -233,7 +233,7 @@ module _ (tries : ℕ) (drill : List Entry) where
       is = h.is;
       ran = subst
           (λ (l : List ℕ). HasRun (settings_of tries drill h.here) us' vs' h.number
-          (places h.task) (slice_index l h.number))
+          (asks_of h.task) (slice_index l h.number))
           (sym r.1) ran;
     })
 
@@ -283,7 +283,7 @@ module _ (tries : ℕ) (drill : List Entry) where
     stopped_behind ps qs us vs ws (fault.Trap trap) through asked (inl h) f g =
         trapped_there qs (ps ++ qs) vs ws us ws trap h
         (reached_behind ps qs us vs ws h.here h.number through asked h.reached f g)
-        (run_before (settings_of tries drill h.here) us vs ws h.number (places h.task)
+        (run_before (settings_of tries drill h.here) us vs ws h.number (asks_of h.task)
         (slice_index h.reached.won h.number) f h.ran g)
     stopped_behind ps qs us vs ws (fault.Trap trap) through asked (inr h) f g = inr (record {
       before = ps ++ h.before;

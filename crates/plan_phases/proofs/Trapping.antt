@@ -5,7 +5,7 @@ use Rattle.std.specs.Option.{option_map_or}
 use Rattle.std.proofs.lemmas.Grind.{flat_map-append}
 use Rattle.std.proofs.lemmas.Option.{none-some}
 use Rattle.flume_collection.specs.declared.trap.Trap.{Trap}
-use Rattle.shards.specs.Shards.{joined}
+use Rattle.shards.specs.Shards.{concatenated}
 use Rattle.shards.proofs.Joined.{flat_map-joined, joined_same}
 use Rattle.exec_graph.specs.World.{World}
 use Rattle.task_lists.specs.of_exec_plan.declared.plan.Grouping.{Grouping}
@@ -13,7 +13,7 @@ use Rattle.task_lists.specs.of_exec_plan.declared.plan.Mscr.{Mscr as Channels}
 use Rattle.task_lists.specs.of_exec_plan.declared.plan.Stage.{Stage}
 use Rattle.task_lists.specs.of_exec_plan.declared.plan.Stage.TheVariants.{Mscr, Flatten, Operate}
 use Rattle.task_lists.specs.of_exec_plan.declared.plan.Plan.{Plan}
-use Rattle.task_lists.specs.Runs.{traps_of}
+use Rattle.task_lists.specs.Runs.{traps_in_order}
 use Rattle.task_lists.specs.Tasks.{Split, Lists, Task, world_for, groupings, grouping_at, map_count, map_phase, map_task_at, no_task, reduce_count, reduce_phase, reduce_task, reduce_task_at}
 use Rattle.task_lists.specs.Lists.{object_made, result_lists, source_lists, with_lists}
 use Rattle.task_lists.specs.Outs.{IsCalm}
@@ -28,7 +28,7 @@ first_left e (x ∷ xs) ys h = h
 
 module _ (w : World) where
   abbrev traps_in : Task → List Trap
-  traps_in task = traps_of (world_for w task) task.does task.elements
+  traps_in task = traps_in_order (world_for w task) task.does task.elements
 
   calm_tasks : (tasks : List Task) → Each (IsCalm w) tasks → flat_map traps_in tasks ≡ []
   calm_tasks [] h = refl
@@ -78,13 +78,14 @@ module _ (w : World) where
 
   module _ (n : Split)
       (maps_numbered : (f : Task → List Trap) (t : Lists) (s : Channels)
-      → map_phase f n t s ≡ joined (λ k. f (map_task_at n t s k)) (map_count n s))
+      → map_phase f n t s ≡ concatenated (λ k. f (map_task_at n t s k)) (map_count n s))
       (reduces_numbered : (f : Grouping → Task → List Trap) (t : Lists) (s : Channels)
       → reduce_phase f w n t s
-      ≡ joined (λ k. option_map_or (λ g. f g (reduce_task_at w n t s k)) (grouping_at n s k) [])
+      ≡ concatenated (λ k. option_map_or (λ g. f g (reduce_task_at w n t s k)) (grouping_at n s k)
+      [])
       (reduce_count n s)) where
     below_traps : (task : ℕ → Task) (count : ℕ)
-        → flat_map traps_in (tasks_below task count) ≡ joined (λ k. traps_in (task k)) count
+        → flat_map traps_in (tasks_below task count) ≡ concatenated (λ k. traps_in (task k)) count
     below_traps task count =
         flat_map-joined traps_in (λ k. task k ∷ []) count
         ∙ joined_same (λ k. flat_map traps_in (task k ∷ [])) (λ k. traps_in (task k))
@@ -110,7 +111,7 @@ module _ (w : World) where
         → gs ≡ groupings s.outputs → flat_map (phase_traps w) (reduce_phases w k n t s gs)
         ≡ reduce_phase (task_traps w).reduces w n t s
     by_groupings k t s [] e =
-        ap (flat_map (λ g. joined
+        ap (flat_map (λ g. concatenated
         (λ p. (task_traps w).reduces g (reduce_task w n t s.inputs g p)) n.partitions)) e
     by_groupings k t s (g ∷ gs) e =
         append-nil (flat_map traps_in (reduce_phase_of w k n t s).tasks) ∙ reduce_traps k t s

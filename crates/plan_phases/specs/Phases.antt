@@ -5,14 +5,14 @@ use Rattle.std.specs.List.{flat_map}
 use Rattle.outside.specs.declared.host.Phase.{Phase}
 use Rattle.outside.specs.declared.host.Phase.TheVariants.{Map, Reduce}
 use Rattle.flume_collection.specs.declared.trap.Trap.{Trap}
-use Rattle.shards.specs.Shards.{joined}
+use Rattle.shards.specs.Shards.{concatenated}
 use Rattle.exec_graph.specs.World.{World}
 use Rattle.task_lists.specs.of_exec_plan.declared.plan.Grouping.{Grouping}
 use Rattle.task_lists.specs.of_exec_plan.declared.plan.Mscr.{Mscr as Channels}
 use Rattle.task_lists.specs.of_exec_plan.declared.plan.Stage.{Stage}
 use Rattle.task_lists.specs.of_exec_plan.declared.plan.Stage.TheVariants.{Mscr, Flatten, Operate}
 use Rattle.task_lists.specs.of_exec_plan.declared.plan.Plan.{Plan}
-use Rattle.task_lists.specs.Runs.{traps_of}
+use Rattle.task_lists.specs.Runs.{traps_in_order}
 use Rattle.task_lists.specs.Tasks.{Split, Lists, Task, world_for, groupings, map_count, map_task_at, reduce_count, reduce_task_at}
 use Rattle.task_lists.specs.Lists.{object_made, result_lists, source_lists, with_lists}
 
@@ -36,7 +36,7 @@ with_tasks (OfAct traps ∷ phases) = with_tasks phases
 
 -- the tasks with the numbers below a count, in order
 abbrev pub tasks_below : (ℕ → Task) → ℕ → List Task
-tasks_below task count = joined (λ k. task k ∷ []) count
+tasks_below task count = concatenated (λ k. task k ∷ []) count
 
 -- ---- the phases of stage k, over the lists that it finds
 
@@ -84,5 +84,5 @@ phases w n p = phases_from w n 1 p.stages (source_lists w)
 -- the traps of a phase: those of its tasks, in order, or of its act
 abbrev pub phase_traps : World → PlanPhase → List Trap
 phase_traps w (OfTasks ph) =
-    flat_map (λ task. traps_of (world_for w task) task.does task.elements) ph.tasks
+    flat_map (λ task. traps_in_order (world_for w task) task.does task.elements) ph.tasks
 phase_traps w (OfAct traps) = traps

@@ -9,7 +9,7 @@ use Rattle.outside.specs.Accounts.{Account}
 use Rattle.crew.specs.Phases.{AreAskedOnce, CanFinish, IsLostTask, IsWork, IsWorkSoFar}
 use Rattle.phase_outs.specs.Outs.{HasRun}
 use Rattle.exec_graph.specs.World.{World}
-use Rattle.task_lists.specs.Tasks.{Task, places}
+use Rattle.task_lists.specs.Tasks.{Task, asks_of}
 use Rattle.task_lists.specs.Outs.{IsCalm, IsFirstTaskTrap}
 use Rattle.plan_phases.specs.declared.fault.RunFault.{RunFault}
 use Rattle.plan_phases.specs.declared.fault.RunFault.TheVariants as fault
@@ -58,7 +58,7 @@ attempts_of winners = map (λ x. x.attempts) winners
 
 -- a task of the phase is asked at as many places as it has
 abbrev pub AsksAt : PhaseTasks → (ℕ → ℕ) → Type 0
-AsksAt ph asks = (k : ℕ) (task : Task) → slice_get ph.tasks k ≡ Some task → asks k ≡ places task
+AsksAt ph asks = (k : ℕ) (task : Task) → slice_get ph.tasks k ≡ Some task → asks k ≡ asks_of task
 
 -- how often each task of a run is tried, and the attempts that are lost on purpose
 module _ (tries : ℕ) (drill : List Entry) where
@@ -115,7 +115,7 @@ module _ (tries : ℕ) (drill : List Entry) where
     pub count : length winners.attempts ≡ length ph.tasks
     pub ran : (k attempt : ℕ) (task : Task) → slice_get ph.tasks k ≡ Some task →
         slice_get winners.attempts k ≡ Some attempt →
-        HasRun (settings_of ph) olds news k (places task) attempt
+        HasRun (settings_of ph) olds news k (asks_of task) attempt
 
   -- the phases have run through since: no task and no act of them traps, and of each that has tasks
   -- there are winners
@@ -159,7 +159,7 @@ module _ (tries : ℕ) (drill : List Entry) where
     pub task : Task
     pub at : slice_get here.tasks number ≡ Some task
     pub is : IsFirstTaskTrap w task trap
-    pub ran : HasRun (settings_of here) olds news number (places task)
+    pub ran : HasRun (settings_of here) olds news number (asks_of task)
         (slice_index reached.won number)
 
   -- the act of one of the phases has trapped: the phases before it have run through, and this is

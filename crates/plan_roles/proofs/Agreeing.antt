@@ -16,7 +16,7 @@ use Rattle.exec_graph.proofs.Bools.{or_else, or_left, or_right}
 use Rattle.exec_graph.proofs.Entries.{all_three, entry}
 use Rattle.exec_graph.proofs.Solving.{each_found}
 use Rattle.exec_graph.proofs.Soundness.{differ_ascends}
-use Rattle.fusion_blocks.specs.Feeding.{feeds, feeds_by, flattens, groups, is_grouped}
+use Rattle.fusion_blocks.specs.Feeding.{feeds, feeds_by, is_flatten_of, is_gbk_of, is_grouped}
 use Rattle.fusion_blocks.specs.inner.Tables.{AllThere}
 use Rattle.fusion_blocks.proofs.Marking.{is_same, same_is}
 use Rattle.plan_laws.specs.Operations.{inputs_at, read_through}
@@ -82,22 +82,22 @@ lone c d h = by (same_place c d) h
     by false h = h
 
 itself : (es : List Entry) (c d : Place) (e : Entry) → node_at es e.number ≡ Some e.node
-    → groups d e.node ≡ true → same_place c d ≡ true → feeds es c ≡ true
+    → is_gbk_of d e.node ≡ true → same_place c d ≡ true → feeds es c ≡ true
 itself es c d e f g h = one_to (feeds_by es c) es e.number e.node f
-    (or_left (groups c e.node) (is_grouped es (place e.number 0) && flattens c e.node)
-    (subst (λ (x : Place). groups x e.node ≡ true) (sym (same_is c d h)) g))
+    (or_left (is_gbk_of c e.node) (is_grouped es (place e.number 0) && is_flatten_of c e.node)
+    (subst (λ (x : Place). is_gbk_of x e.node ≡ true) (sym (same_is c d h)) g))
 
 -- the Gbk e of d takes an input of the node of d
 by_input : (es : List Entry) (c d : Place) (e : Entry) (o : Option Node) → node_at es d.node ≡ o
-    → IsThere es d → node_at es e.number ≡ Some e.node → groups d e.node ≡ true
+    → IsThere es d → node_at es e.number ≡ Some e.node → is_gbk_of d e.node ≡ true
     → among c (inputs_at d o) ≡ true → feeds es c ≡ true
 by_input es c d e None h t f g a = itself es c d e f g (lone c d a)
 by_input es c d e (Some (Source r)) h t f g a = itself es c d e f g (lone c d a)
 by_input es c d e (Some (Flatten ins)) h t f g a =
     one_to (feeds_by es c) es d.node (Flatten ins) h
     (and_both (is_grouped es (place d.node 0)) (among c ins)
-    (one_to (λ (x : Entry). groups (place d.node 0) x.node) es e.number e.node f
-    (subst (λ (x : Place). groups x e.node ≡ true) (sym (first_of es d ins h t)) g)) a)
+    (one_to (λ (x : Entry). is_gbk_of (place d.node 0) x.node) es e.number e.node f
+    (subst (λ (x : Place). is_gbk_of x e.node ≡ true) (sym (first_of es d ins h t)) g)) a)
 by_input es c d e (Some (Pdo b p)) h t f g a = itself es c d e f g (lone c d a)
 by_input es c d e (Some (Gbk b k l q)) h t f g a = itself es c d e f g (lone c d a)
 by_input es c d e (Some (Barrier ins u y v)) h t f g a = itself es c d e f g (lone c d a)
@@ -114,7 +114,7 @@ taken_by es c n (Gbk d k l q) f t h =
     (is_same d d refl) i)
 taken_by es c n (Barrier ins o l a) f t h = absurd (false≢true h)
 
-grouping : (c : Place) (x : Node) → groups c x ≡ true → (es : List Entry) → takes es c x ≡ true
+grouping : (c : Place) (x : Node) → is_gbk_of c x ≡ true → (es : List Entry) → takes es c x ≡ true
 grouping c (Source r) h es = absurd (false≢true h)
 grouping c (Flatten ins) h es = absurd (false≢true h)
 grouping c (Pdo d p) h es = absurd (false≢true h)
@@ -123,7 +123,7 @@ grouping c (Barrier ins o l a) h es = absurd (false≢true h)
 
 -- the Gbk x of the Flatten n takes the inputs of that
 through_flatten : (es : List Entry) (c : Place) (n : ℕ) (y x : Node) → node_at es n ≡ Some y
-    → flattens c y ≡ true → groups (place n 0) x ≡ true → takes es c x ≡ true
+    → is_flatten_of c y ≡ true → is_gbk_of (place n 0) x ≡ true → takes es c x ≡ true
 through_flatten es c n (Source r) x f h g = absurd (false≢true h)
 through_flatten es c n (Pdo d p) x f h g = absurd (false≢true h)
 through_flatten es c n (Gbk d k l q) x f h g = absurd (false≢true h)
@@ -144,11 +144,12 @@ taken es c e = takes es c e.node
 fed_by : (es : List Entry) (c : Place) → AllByRecursion (IsPlaced es) es → (e : Entry)
     → IsPlaced es e → feeds_by es c e ≡ true → list_any (taken es c) es ≡ true
 fed_by es c a e w h =
-    or_else (list_any (taken es c) es ≡ true) (groups c e.node)
-    (is_grouped es (place e.number 0) && flattens c e.node) h
+    or_else (list_any (taken es c) es ≡ true) (is_gbk_of c e.node)
+    (is_grouped es (place e.number 0) && is_flatten_of c e.node) h
     (λ i. one_to (taken es c) es e.number e.node w.found (grouping c e.node i es))
-    (λ i. let both = both_true (is_grouped es (place e.number 0)) (flattens c e.node) i in
-    let g = one_from (λ (x : Entry). groups (place e.number 0) x.node) (IsPlaced es) es both.0 a in
+    (λ i. let both = both_true (is_grouped es (place e.number 0)) (is_flatten_of c e.node) i in
+    let g =
+    one_from (λ (x : Entry). is_gbk_of (place e.number 0) x.node) (IsPlaced es) es both.0 a in
     one_to (taken es c) es g.entry.number g.entry.node g.holds.found
     (through_flatten es c e.number e.node g.entry.node w.found both.1 g.is))
 

@@ -11,7 +11,7 @@ use Rattle.exec_graph.specs.declared.graph.Entry.{Entry}
 use Rattle.exec_graph.proofs.Entries.{map_alike}
 use Rattle.exec_graph.proofs.Solving.{lower_most, place_of, ranked_at, short_ranked}
 use Rattle.fusion_blocks.specs.inner.Tables.{AllThere, IsBelow}
-use Rattle.plan_roles.specs.Levels.{greatest, level, level_at, level_by, level_within, one_gbk}
+use Rattle.plan_roles.specs.Levels.{greatest_number, level, level_at, level_by, level_within, one_gbk}
 
 level_next : (es : List Entry) (k n : ℕ)
     → level_within es (suc k) n ≡ level_at (level_within es k) (node_at es n)
@@ -28,7 +28,7 @@ level_is es n = refl
 
 by_alike : (l m : ℕ → ℕ) (x : Node) → AllByRecursion (λ (c : Place). m c.node ≡ l c.node) (reads x)
     → level_by m x ≡ level_by l x
-by_alike l m x a = ap (λ (ns : List ℕ). one_gbk x + greatest ns)
+by_alike l m x a = ap (λ (ns : List ℕ). one_gbk x + greatest_number ns)
     (map_alike (λ (c : Place). l c.node) (λ (c : Place). m c.node) (reads x) a)
 
 at_alike : (l m : ℕ → ℕ) (o : Option Node) → ((x : Node) → o ≡ Some x
@@ -72,14 +72,14 @@ level_none es n h =
 
 greatest_most : (f : ℕ → ℕ) (b : ℕ) (cs : List Place)
     → AllByRecursion (λ (c : Place). f c.node ≤ b) cs
-    → greatest (map (λ (c : Place). f c.node) cs) ≤ b
+    → greatest_number (map (λ (c : Place). f c.node) cs) ≤ b
 greatest_most f b [] a = omega arith
 greatest_most f b (c ∷ cs) a =
     let i = greatest_most f b cs a.1 in let h : f c.node ≤ b = a.0 in omega arith
 
 greatest_less : (f : ℕ → ℕ) (b : ℕ) (c : Place) (cs : List Place)
     → AllByRecursion (λ (d : Place). f d.node < b) (c ∷ cs)
-    → greatest (map (λ (d : Place). f d.node) (c ∷ cs)) < b
+    → greatest_number (map (λ (d : Place). f d.node) (c ∷ cs)) < b
 greatest_less f b c [] a = let h : f c.node < b = a.0 in omega arith
 greatest_less f b c (d ∷ ds) a =
     let h : f c.node < b = a.0 in let i = greatest_less f b d ds a.1 in omega arith
@@ -126,7 +126,7 @@ level_below es turns n b =
 
 levels_below : (es : List Entry) (turns : ℕ) (cs : List Place)
     → AllByRecursion (λ (c : Place). IsBelow es turns c.node) cs → 0 < turns
-    → greatest (map (λ (c : Place). level es c.node) cs) < turns
+    → greatest_number (map (λ (c : Place). level es c.node) cs) < turns
 levels_below es turns [] a p = omega arith
 levels_below es turns (c ∷ cs) a p =
     let h = level_below es turns c.node a.0 in
@@ -135,7 +135,7 @@ levels_below es turns (c ∷ cs) a p =
 -- so there is room for one more
 pub levels_small : (es : List Entry) (less bound : ℕ) (cs : List Place)
     → AllByRecursion (λ (c : Place). IsBelow es less c.node) cs → less + 1 ≤ bound → 1 < bound
-    → greatest (map (λ (c : Place). level es c.node) cs) + 1 < bound
+    → greatest_number (map (λ (c : Place). level es c.node) cs) + 1 < bound
 levels_small es less bound [] a p q = omega arith
 levels_small es less bound (c ∷ cs) a p q =
     let h = level_below es less c.node a.0 in

@@ -19,15 +19,15 @@ use Rattle.exec_graph.proofs.Solving.{ranked_at, there_found}
 use Rattle.exec_graph.proofs.Bools.{within_or}
 use Rattle.fusion_blocks.specs.inner.Tables.{AllThere}
 use Rattle.fusion_blocks.proofs.Marking.{is_same, same_is}
-use Rattle.plan_roles.specs.Levels.{HasLevels, IsPath, begins, goes, greatest, level, level_by, one_gbk}
+use Rattle.plan_roles.specs.Levels.{HasLevels, IsPath, begins, goes, greatest_number, level, level_by, one_gbk}
 use Rattle.plan_roles.proofs.Leveling.{level_found}
 use Rattle.fusion_blocks.proofs.Blocking.{among_all}
 
 among_below : (f : ℕ → ℕ) (c : Place) (cs : List Place) → among c cs ≡ true
-    → f c.node ≤ greatest (map (λ (d : Place). f d.node) cs)
+    → f c.node ≤ greatest_number (map (λ (d : Place). f d.node) cs)
 among_below f c [] h = absurd (false≢true h)
 among_below f c (d ∷ cs) h =
-    or_else (f c.node ≤ max (f d.node) (greatest (map (λ (d : Place). f d.node) cs)))
+    or_else (f c.node ≤ max (f d.node) (greatest_number (map (λ (d : Place). f d.node) cs)))
     (same_place c d) (among c cs) h
     (λ q. let e : f c.node ≡ f d.node = ap (λ (x : Place). f x.node) (same_is c d q) in omega arith)
     (λ q. let i = among_below f c cs q in omega arith)
@@ -47,10 +47,10 @@ path_most es r t ra n gbks (goes {gbks = k} {x = x} c h i p) =
 record IsGreatest (f : ℕ → ℕ) (cs : List Place) : Type 0 where
   pub place : Place
   pub is : among place cs ≡ true
-  pub most : f place.node ≡ greatest (map (λ (d : Place). f d.node) cs)
+  pub most : f place.node ≡ greatest_number (map (λ (d : Place). f d.node) cs)
 
 first_greatest : (f : ℕ → ℕ) (c : Place) (cs : List Place)
-    → greatest (map (λ (d : Place). f d.node) cs) ≤ f c.node → IsGreatest f (c ∷ cs)
+    → greatest_number (map (λ (d : Place). f d.node) cs) ≤ f c.node → IsGreatest f (c ∷ cs)
 first_greatest f c cs h = record {
   place = c;
   is = or_left (same_place c c) (among c cs) (is_same c c refl);
@@ -58,7 +58,7 @@ first_greatest f c cs h = record {
 }
 
 later_greatest : (f : ℕ → ℕ) (c : Place) (cs : List Place) → IsGreatest f cs
-    → f c.node ≤ greatest (map (λ (d : Place). f d.node) cs) → IsGreatest f (c ∷ cs)
+    → f c.node ≤ greatest_number (map (λ (d : Place). f d.node) cs) → IsGreatest f (c ∷ cs)
 later_greatest f c cs g h = let e = g.most in record {
   place = g.place;
   is = or_right (same_place g.place c) (among g.place cs) g.is;
@@ -68,11 +68,11 @@ later_greatest f c cs g h = let e = g.most in record {
 has_greatest : (f : ℕ → ℕ) (c : Place) (cs : List Place) → IsGreatest f (c ∷ cs)
 has_greatest f c [] = first_greatest f c [] (omega arith)
 has_greatest f c (d ∷ cs) =
-    by (within_or (greatest (map (λ (e : Place). f e.node) (d ∷ cs))) (f c.node))
+    by (within_or (greatest_number (map (λ (e : Place). f e.node) (d ∷ cs))) (f c.node))
     (has_greatest f d cs)
   where
-    by : (greatest (map (λ (e : Place). f e.node) (d ∷ cs)) < f c.node)
-        ⊎ (f c.node ≤ greatest (map (λ (e : Place). f e.node) (d ∷ cs)))
+    by : (greatest_number (map (λ (e : Place). f e.node) (d ∷ cs)) < f c.node)
+        ⊎ (f c.node ≤ greatest_number (map (λ (e : Place). f e.node) (d ∷ cs)))
         → IsGreatest f (d ∷ cs) → IsGreatest f (c ∷ d ∷ cs)
     by (inl h) g = first_greatest f c (d ∷ cs) (omega arith)
     by (inr h) g = later_greatest f c (d ∷ cs) g h

@@ -35,13 +35,13 @@ pub record IsLevel (es : List Entry) (n level : ℕ) : Type 0 where
 
 -- ---- as a number
 
-abbrev pub greatest : List ℕ → ℕ
-greatest [] = 0
-greatest (n ∷ ns) = max n (greatest ns)
+abbrev pub greatest_number : List ℕ → ℕ
+greatest_number [] = 0
+greatest_number (n ∷ ns) = max n (greatest_number ns)
 
 -- the level of a node, by those of the nodes that it reads
 abbrev pub level_by : (ℕ → ℕ) → Node → ℕ
-level_by l x = one_gbk x + greatest (map (λ (c : Place). l c.node) (reads x))
+level_by l x = one_gbk x + greatest_number (map (λ (c : Place). l c.node) (reads x))
 
 abbrev pub level_at : (ℕ → ℕ) → Option Node → ℕ
 level_at l None = 0

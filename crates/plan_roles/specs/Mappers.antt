@@ -10,7 +10,7 @@ use Rattle.exec_graph.specs.declared.graph.Place.{Place}
 use Rattle.exec_graph.specs.declared.graph.Node.{Node}
 use Rattle.exec_graph.specs.declared.graph.Node.TheVariants.{Source, Flatten, Pdo, Gbk, Barrier}
 use Rattle.exec_graph.specs.declared.graph.Blocked.{Blocked}
-use Rattle.fusion_blocks.specs.Feeding.{flattens}
+use Rattle.fusion_blocks.specs.Feeding.{is_flatten_of}
 use Rattle.exec_plan.specs.Channels.{outs_of}
 use Rattle.plan_laws.specs.declared.operations.Key.{Key}
 use Rattle.plan_laws.specs.declared.operations.Key.TheVariants.{Mapper, Whole}
@@ -19,8 +19,8 @@ use Rattle.plan_roles.specs.Levels.{level}
 use Rattle.plan_roles.specs.Reading.{feeds_next, feeds_other, goes_on, goes_past, only_reader}
 
 -- the outputs of the Pdo n with that forest, in order
-abbrev pub outputs_of : ℕ → Forest → List Place
-outputs_of n f = map (place n) (outs_of f)
+abbrev pub places_given : ℕ → Forest → List Place
+places_given n f = map (place n) (outs_of f)
 
 -- ---- mappers
 
@@ -36,8 +36,8 @@ maps b n (Source r) = false
 maps b n (Flatten ins) = false
 maps b n (Pdo c f) =
     not (is_lifted (node_at b.graph.nodes c.node))
-    && (list_any (feeds_unmarked b) (outputs_of n f)
-    && not (list_any (goes_past b.graph.nodes) (outputs_of n f)))
+    && (list_any (feeds_unmarked b) (places_given n f)
+    && not (list_any (goes_past b.graph.nodes) (places_given n f)))
 maps b n (Gbk c o l k) = false
 maps b n (Barrier ins o l a) = false
 
@@ -53,14 +53,14 @@ is_mapper b n = maps_at b n (node_at b.graph.nodes n)
 
 -- what a Gbk of that level takes c by: the Pdo that gives it, where that is a mapper of the level
 -- below, else c
-abbrev pub key_of : Blocked → ℕ → Place → Key
-key_of b gbk_level c =
+abbrev pub read_key : Blocked → ℕ → Place → Key
+read_key b gbk_level c =
     cond (is_mapper b c.node && (suc (level b.graph.nodes c.node) == gbk_level))
     (Mapper c.node) (Whole c)
 
 -- the keys of what the Gbk n of c takes, in order
 abbrev pub keys_in : Blocked → ℕ → Place → List Key
-keys_in b n c = map (key_of b (level b.graph.nodes n)) (read_through b.graph.nodes c)
+keys_in b n c = map (read_key b (level b.graph.nodes n)) (read_through b.graph.nodes c)
 
 -- ---- reducers
 
@@ -74,15 +74,15 @@ abbrev pub reducer_of : Blocked → ℕ → Option ℕ
 reducer_of b n =
     cond (among (place n 0) b.marks) None (unless_mapper b (only_reader b.graph (place n 0)))
 
-abbrev pub is_number : Option ℕ → ℕ → Bool
-is_number None n = false
-is_number (Some m) n = m == n
+abbrev pub is_just_number : Option ℕ → ℕ → Bool
+is_just_number None n = false
+is_just_number (Some m) n = m == n
 
 abbrev pub reduces : Blocked → ℕ → Node → ℕ → Bool
 reduces b gbk (Source r) n = false
 reduces b gbk (Flatten ins) n = false
 reduces b gbk (Pdo c f) n = false
-reduces b gbk (Gbk c o l k) n = is_number (reducer_of b gbk) n
+reduces b gbk (Gbk c o l k) n = is_just_number (reducer_of b gbk) n
 reduces b gbk (Barrier ins o l a) n = false
 
 -- whether the node n is the reducer of a Gbk
@@ -97,7 +97,7 @@ is_stage b n = among (place n 0) b.graph.outputs || goes_on b.graph.nodes (place
 
 -- whether a Flatten that is a stage reads c
 abbrev pub is_staged : Blocked → Place → Bool
-is_staged b c = list_any (λ e. flattens c e.node && is_stage b e.number) b.graph.nodes
+is_staged b c = list_any (λ e. is_flatten_of c e.node && is_stage b e.number) b.graph.nodes
 
 -- whether c, an output of a mapper, passes through: a script output or a Flatten that is a stage
 -- reads it, or it feeds a Gbk of another level

@@ -9,7 +9,7 @@ use Rattle.exec_graph.specs.declared.graph.Node.{Node}
 use Rattle.exec_graph.specs.declared.graph.Node.TheVariants.{Source, Flatten, Pdo, Gbk, Barrier}
 use Rattle.exec_graph.specs.declared.graph.Entry.{Entry}
 use Rattle.exec_graph.specs.declared.graph.Graph.{Graph}
-use Rattle.fusion_blocks.specs.Feeding.{flattens}
+use Rattle.fusion_blocks.specs.Feeding.{is_flatten_of}
 use Rattle.plan_laws.specs.Operations.{read_through}
 use Rattle.plan_roles.specs.Levels.{level}
 
@@ -47,12 +47,12 @@ works_on c (Barrier ins o l a) = among c ins
 
 -- whether a node reads c that is neither a source nor a Gbk
 abbrev pub goes_on : List Entry → Place → Bool
-goes_on es c = any_node (λ x. works_on c x || flattens c x) es
+goes_on es c = any_node (λ x. works_on c x || is_flatten_of c x) es
 
 -- whether the entry works on c, or is a Flatten of c that is read by another than a Gbk or a script
 -- output
 abbrev pub carries_on : List Entry → Place → Entry → Bool
-carries_on es c e = works_on c e.node || (flattens c e.node && goes_on es (place e.number 0))
+carries_on es c e = works_on c e.node || (is_flatten_of c e.node && goes_on es (place e.number 0))
 
 -- whether some reader of c is neither a Gbk, nor a script output, nor a Flatten whose every reader
 -- is a Gbk or a script output
@@ -61,11 +61,11 @@ goes_past es c = list_any (carries_on es c) es
 
 -- ---- one reader
 
-abbrev pub one_of : List ℕ → Option ℕ
-one_of [] = None
-one_of (n ∷ []) = Some n
-one_of (n ∷ m ∷ ns) = None
+abbrev pub sole_number : List ℕ → Option ℕ
+sole_number [] = None
+sole_number (n ∷ []) = Some n
+sole_number (n ∷ m ∷ ns) = None
 
 -- the Pdo that is the only reader of c
 abbrev pub only_reader : Graph → Place → Option ℕ
-only_reader g c = cond (is_held g c) None (one_of (readers g.nodes c))
+only_reader g c = cond (is_held g c) None (sole_number (readers g.nodes c))

@@ -14,17 +14,17 @@ use Rattle.plan_roles.specs.declared.roles.Part.{Part}
 use Rattle.plan_roles.specs.declared.roles.Part.TheVariants as part
 use Rattle.plan_roles.specs.declared.roles.Role.{Role}
 use Rattle.plan_roles.specs.Levels.{level}
-use Rattle.plan_roles.specs.Mappers.{is_mapper, is_reducer, is_stage, keys_in, outputs_of, passes, reducer_of}
+use Rattle.plan_roles.specs.Mappers.{is_mapper, is_reducer, is_stage, keys_in, places_given, passes, reducer_of}
 
 -- the outputs of a mapper that pass through, in order
 abbrev pub passes_of : Blocked → ℕ → Forest → List Place
-passes_of b n f = filter (passes b) (outputs_of n f)
+passes_of b n f = filter (passes b) (places_given n f)
 
 -- the part of the Pdo n with that forest
 abbrev pub pdo_part : Blocked → ℕ → Forest → Part
 pdo_part b n f =
     cond (is_mapper b n) (part.Mapper (passes_of b n f))
-    (cond (is_reducer b n) part.Reducer (part.Trivial (outputs_of n f)))
+    (cond (is_reducer b n) part.Reducer (part.Trivial (places_given n f)))
 
 -- a step beside an object is a stage by itself, as a Pdo that is no mapper; and so is what gives an
 -- object
@@ -34,18 +34,18 @@ act_part n (Operate f) = part.Operate
 act_part n (Singleton k) = part.Operate
 
 -- the part of the node n
-abbrev pub part_of : Blocked → ℕ → Node → Part
-part_of b n (Source r) = part.Source
-part_of b n (Flatten ins) = cond (is_stage b n) part.Stage part.Inlined
-part_of b n (Pdo c f) = pdo_part b n f
-part_of b n (Gbk c o l k) = part.Group (keys_in b n c) (reducer_of b n)
-part_of b n (Barrier ins o l a) = act_part n a
+abbrev pub role_part : Blocked → ℕ → Node → Part
+role_part b n (Source r) = part.Source
+role_part b n (Flatten ins) = cond (is_stage b n) part.Stage part.Inlined
+role_part b n (Pdo c f) = pdo_part b n f
+role_part b n (Gbk c o l k) = part.Group (keys_in b n c) (reducer_of b n)
+role_part b n (Barrier ins o l a) = act_part n a
 
 abbrev pub role_of : Blocked → Entry → Role
 role_of b e = record {
   number = e.number;
   level = level b.graph.nodes e.number;
-  part = part_of b e.number e.node;
+  part = role_part b e.number e.node;
 }
 
 -- the roles of all nodes, in their order

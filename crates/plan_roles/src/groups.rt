@@ -1,7 +1,7 @@
 // The keys that a Gbk takes by, and its reducer.
 ghost use Rattle.std.specs.Prelude.{◌≡◌, ◌||◌, ℕ, nat_eq, OnOk, IfOk};
 ghost use Rattle.std.specs.HashSet.{contains};
-ghost use Rattle.plan_roles.specs.Mappers.{is_mapper, is_reducer, key_of, keys_in, reduces, reducer_of};
+ghost use Rattle.plan_roles.specs.Mappers.{is_mapper, is_reducer, read_key, keys_in, reduces, reducer_of};
 ghost use Rattle.plan_roles.specs.inner.Tables.{AreFound, HasNumbers};
 
 use crate::callers::only_reader;
@@ -104,7 +104,7 @@ pub(crate) fn keys_in(
 fn key_of(blocked: &Blocked, found: &Found, mappers: &HashSet<u32>, gbk_level: u32, c: Place) -> Key
     requires found { AreFound blocked.now found.now }
     requires mappers { HasNumbers mappers.now (is_mapper blocked.now) }
-    ensures { result ≡ key_of blocked.now gbk_level c }
+    ensures { result ≡ read_key blocked.now gbk_level c }
 {
     let nodes = blocked.graph.nodes.as_slice();
     if mappers.contains(&c.node) && is_next(nodes, &found.levels, c, gbk_level) {

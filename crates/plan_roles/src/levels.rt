@@ -5,7 +5,7 @@ ghost use Rattle.exec_graph.specs.declared.graph.Place.{Place as GhostPlace};
 ghost use Rattle.exec_graph.specs.declared.graph.Entry.{Entry as GhostEntry};
 ghost use Rattle.fusion_blocks.specs.of_node_index.Index.{IsIndex};
 ghost use Rattle.fusion_blocks.specs.inner.Tables.{AllBelow, IsBelow, IsRanked};
-ghost use Rattle.plan_roles.specs.Levels.{greatest, level, one_gbk};
+ghost use Rattle.plan_roles.specs.Levels.{greatest_number, level, one_gbk};
 ghost use Rattle.plan_roles.specs.inner.Known.{AreKnown, AreLevels, level_in};
 
 use exec_graph::{Act, Entry, Node, Place};
@@ -132,7 +132,7 @@ fn greatest_level(
     requires known { AreKnown nodes.now known.old }
     ensures known { OnOk result (AreKnown nodes.now known.new) }
     ensures is { IfOk result (λ n. n
-        ≡ greatest (map (λ (c : GhostPlace). level nodes.now c.node) places.now)) }
+        ≡ greatest_number (map (λ (c : GhostPlace). level nodes.now c.node) places.now)) }
 {
     let mut most = 0;
     for c in places {

@@ -2,7 +2,7 @@
 ghost use Rattle.std.specs.Prelude.{◌≡◌, ◌&&◌, ◌||◌, OnOk, IfOk};
 ghost use Rattle.exec_graph.specs.Meaning.{place};
 ghost use Rattle.exec_graph.specs.Places.{HasAlso, HasPlaces};
-ghost use Rattle.fusion_blocks.specs.Feeding.{flattens};
+ghost use Rattle.fusion_blocks.specs.Feeding.{is_flatten_of};
 ghost use Rattle.plan_roles.specs.Reading.{carries_on, goes_on, goes_past, works_on};
 ghost use Rattle.plan_roles.specs.Mappers.{is_stage, is_staged};
 ghost use Rattle.plan_roles.specs.inner.Tables.{HasAmong, IsReading};
@@ -53,7 +53,7 @@ fn on_places(alloc: Global, nodes: &[Entry]) -> Result<HashSet<u64>, AllocError>
 
 fn add_on(node: &Node, all: &mut HashSet<u64>) -> Result<(), AllocError>
     ensures { OnOk result (HasAlso all.old all.new
-        (λ d. works_on d node.now || flattens d node.now)) }
+        (λ d. works_on d node.now || is_flatten_of d node.now)) }
 {
     match node {
         Node::Pdo { input: c, .. } => add_place(*c, all),
@@ -156,7 +156,7 @@ fn add_staged(
     requires told { HasAmong told.now blocked.now.graph.outputs }
     requires on { HasPlaces on.now (goes_on blocked.now.graph.nodes) }
     ensures { OnOk result (HasAlso all.old all.new
-        (λ d. flattens d entry.now.node && is_stage blocked.now entry.now.number)) }
+        (λ d. is_flatten_of d entry.now.node && is_stage blocked.now entry.now.number)) }
 {
     match &entry.node {
         Node::Flatten(inputs) => {

@@ -4,7 +4,7 @@ ghost use Rattle.exec_graph.specs.Meaning.{AllDiffer};
 ghost use Rattle.exec_graph.specs.Wellformed.{IsBlockedOk};
 ghost use Rattle.plan_roles.specs.declared.roles.Part.TheVariants as part;
 ghost use Rattle.plan_roles.specs.Mappers.{is_stage};
-ghost use Rattle.plan_roles.specs.Roles.{act_part, part_of, pdo_part, roles};
+ghost use Rattle.plan_roles.specs.Roles.{act_part, role_part, pdo_part, roles};
 ghost use Rattle.plan_roles.specs.inner.Tables.{AreFound};
 ghost use Rattle.plan_roles.specs.inner.Kinds.{AreKinds};
 
@@ -115,7 +115,7 @@ fn part_of(
 ) -> Result<Part, AllocError>
     requires found { AreFound blocked.now found.now }
     requires kinds { AreKinds blocked.now kinds.now }
-    ensures { IfOk result (λ p. p ≡ part_of blocked.now entry.now.number entry.now.node) }
+    ensures { IfOk result (λ p. p ≡ role_part blocked.now entry.now.number entry.now.node) }
 {
     match &entry.node {
         Node::Source(_) => Ok(Part::Source),

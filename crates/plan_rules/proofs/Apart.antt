@@ -15,7 +15,7 @@ use Rattle.plan_laws.specs.declared.operations.Key.TheVariants.{Mapper, Whole}
 use Rattle.plan_laws.specs.declared.operations.Grouped.{Grouped}
 use Rattle.plan_laws.specs.declared.operations.Operation.{Operation}
 use Rattle.plan_laws.specs.declared.operations.Operation.TheVariants.{Flat, Class}
-use Rattle.plan_laws.specs.Operations.{AreReady, HasKey, IsFlat, IsHonest, IsIn, IsTakenPlace, channel_of, channels_of, gives_of, group_gives, group_runs, has_key, key_runs, outs_at, reading_reads, reads_of, reduced, reducer_runs, runs, source_place, source_places, works_at}
+use Rattle.plan_laws.specs.Operations.{AreReady, HasKey, IsFlat, IsHonest, IsIn, IsTakenPlace, channel_of, channels_of, gives_of, group_gives, group_runs, is_read_under, key_runs, outs_at, reading_reads, reads_of, reduced, reducer_runs, runs, source_place, source_places, works_at}
 use Rattle.plan_laws.proofs.Running.{place_same}
 use Rattle.plan_rules.proofs.Keys.{wholes}
 use Rattle.plan_rules.proofs.Members.{Differ, differ_left, differ_right}

@@ -9,7 +9,7 @@ use Rattle.graph_laws.specs.of_exec_graph.declared.graph.Node.{Node}
 use Rattle.graph_laws.specs.of_exec_graph.declared.graph.Node.TheVariants.{Source, Flatten, Pdo, Gbk, Barrier}
 use Rattle.graph_laws.specs.of_exec_graph.declared.graph.Entry.{Entry}
 use Rattle.plan_making.specs.of_exec_plan.Channels.{outs_of}
-use Rattle.plan_making.specs.of_exec_plan.Wellformed.{kept, out_count}
+use Rattle.plan_making.specs.of_exec_plan.Wellformed.{outputs_told, out_count}
 use Rattle.plan_rules.specs.Fitting.{HasFewOutputs, IsNarrow}
 use Rattle.plan_rules.proofs.Widths.{length_map, outs_length}
 
@@ -52,13 +52,13 @@ few_by (suc n) a c k r (inr h) l =
     let b : suc n < 8 = h.1 in omega arith
 
 -- what a forest keeps is at most 8 for each step, and what the step before may have
-few_kept : (n : ℕ) (f : Forest) → HasFewOutputs n f → kept f ≤ 8 * steps f + left n
+few_kept : (n : ℕ) (f : Forest) → HasFewOutputs n f → outputs_told f ≤ 8 * steps f + left n
 few_kept n Bare h = omega arith
 few_kept n (Grow l kids rest) h =
     let o = one_out l.out in
     let a = few_kept 0 kids h.1 in
     let b = few_kept (l.at + 1) rest h.2 in
-    few_by n l.at (kept (Grow l kids rest)) (steps kids) (steps rest) h.0 (omega arith)
+    few_by n l.at (outputs_told (Grow l kids rest)) (steps kids) (steps rest) h.0 (omega arith)
 
 few_outs : (x : Node) → IsNarrow x → length (node_outs x) ≤ 8 * size x
 few_outs (Source r) h = omega arith

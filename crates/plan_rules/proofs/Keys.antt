@@ -15,7 +15,7 @@ use Rattle.graph_laws.proofs.of_exec_graph.Solving.{there_found}
 use Rattle.plan_laws.specs.declared.operations.Key.{Key}
 use Rattle.plan_laws.specs.declared.operations.Key.TheVariants.{Mapper, Whole}
 use Rattle.plan_laws.specs.declared.operations.Grouped.{Grouped}
-use Rattle.plan_laws.specs.Operations.{IsGroupedOk, IsTakenPlace, TakesInputs, has_key, read_through, key_runs, IsIn}
+use Rattle.plan_laws.specs.Operations.{IsGroupedOk, IsTakenPlace, TakesInputs, is_read_under, read_through, key_runs, IsIn}
 use Rattle.plan_laws.proofs.Running.{place_same, same_self}
 use Rattle.plan_rules.specs.Fitting.{IsUsed, gbk_inputs, same_key, takes_key}
 use Rattle.plan_rules.proofs.Collections.{collections, node_outs}
@@ -87,19 +87,19 @@ places_differ (c ∷ cs) d = (
 
 pub record Taken (es : List Entry) (k : Key) : Type 0 where
   pub at : Place
-  pub has : has_key k at ≡ true
+  pub has : is_read_under k at ≡ true
   pub there : IsThere es at
 
 input_taken : (es : List Entry) (keys : List Key) (k : Key) (cs : List Place)
-    → AllByRecursion (IsTakenPlace es keys) cs → list_any (has_key k) cs ≡ true → Taken es k
+    → AllByRecursion (IsTakenPlace es keys) cs → list_any (is_read_under k) cs ≡ true → Taken es k
 input_taken es keys k [] a h = absurd (false≢true h)
 input_taken es keys k (c ∷ cs) a h =
-    or_else (Taken es k) (has_key k c) (list_any (has_key k) cs) h
+    or_else (Taken es k) (is_read_under k c) (list_any (is_read_under k) cs) h
     (λ i. record { at = c; has = i; there = a.0.1 })
     (λ i. input_taken es keys k cs a.1 i)
 
 gbk_taken : (es : List Entry) (keys : List Key) (k : Key) (o : Option Node)
-    → TakesInputs es keys o → list_any (has_key k) (gbk_inputs es o) ≡ true → Taken es k
+    → TakesInputs es keys o → list_any (is_read_under k) (gbk_inputs es o) ≡ true → Taken es k
 gbk_taken es keys k None t h = absurd t
 gbk_taken es keys k (Some (Source r)) t h = absurd t
 gbk_taken es keys k (Some (Flatten ins)) t h = absurd t

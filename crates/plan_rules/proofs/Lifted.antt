@@ -15,7 +15,7 @@ use Rattle.graph_laws.proofs.of_exec_graph.Entries.{all_found}
 use Rattle.plan_making.specs.of_exec_plan.Wellformed.{IsLiftOk}
 use Rattle.plan_laws.specs.declared.operations.Key.{Key}
 use Rattle.plan_laws.specs.declared.operations.Grouped.{Grouped}
-use Rattle.plan_laws.specs.Operations.{IsGroupedOk, IsReducer, IsPdoOn, forest_at, reducer_of, IsIn}
+use Rattle.plan_laws.specs.Operations.{IsGroupedOk, IsReducer, IsPdoOn, forest_in, reducer_forest, IsIn}
 use Rattle.plan_rules.specs.Fitting.{HasReducer, IsReduced}
 use Rattle.plan_rules.proofs.Staging.{AreLifted, IsLifted}
 use Rattle.plan_laws.proofs.Running.{same_self}
@@ -44,7 +44,7 @@ one_reader n r ns e h =
 
 forest_lifted : (es : List Entry) (c : Place) (n r : ℕ) (k : Comb) (o : Option Node)
     → node_at es r ≡ o → IsPdoOn c o → readers es c ≡ n ∷ []
-    → comb_at (node_at es n) ≡ Some k → IsLiftOk (Some k) (forest_at o)
+    → comb_at (node_at es n) ≡ Some k → IsLiftOk (Some k) (forest_in o)
 forest_lifted es c n r k None h i a q = absurd i
 forest_lifted es c n r k (Some (Source s)) h i a q = absurd i
 forest_lifted es c n r k (Some (Flatten ins)) h i a q = absurd i
@@ -57,7 +57,7 @@ forest_lifted es c n r k (Some (Pdo d f)) h i a q =
 
 reducer_lifted : (g : Graph) (n : ℕ) (r : Option ℕ) (k : Comb) (c : Place) (o : ℕ) (l : Bool)
     → IsNodeOk g n (Gbk c o l (Some k)) → IsReducer g.nodes n r → HasReducer true r
-    → IsLiftOk (Some k) (reducer_of g.nodes r)
+    → IsLiftOk (Some k) (reducer_forest g.nodes r)
 reducer_lifted g n None k c o l h i s = absurd s
 reducer_lifted g n (Some r) k c o l h i s =
     forest_lifted g.nodes (place n 0) h.reader r k (node_at g.nodes r) refl i h.alone h.root

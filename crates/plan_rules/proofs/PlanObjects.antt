@@ -24,7 +24,7 @@ use Rattle.plan_laws.specs.declared.operations.Key.TheVariants.{Mapper, Whole}
 use Rattle.plan_laws.specs.declared.operations.Grouped.{Grouped}
 use Rattle.plan_laws.specs.declared.operations.Operation.{Operation}
 use Rattle.plan_laws.specs.declared.operations.Operation.TheVariants.{Flat, Class}
-use Rattle.plan_laws.specs.Operations.{AreReady, IsFlat, IsGroupedOk, IsHonest, IsIn, IsKeyOk, IsOperate, IsPdo, IsReducer, IsSide, Reading, IsPdoOn, TakesInputs, channels_of, flat_inputs, flat_stage, gives_of, group_gives, named, outs_at, pdo_channel, placed, reading_reads, reads_of, reduced, side_channel, stage_of, stages_of}
+use Rattle.plan_laws.specs.Operations.{AreReady, IsFlat, IsGroupedOk, IsHonest, IsIn, IsKeyOk, IsOperate, IsPdo, IsReducer, IsSide, Reading, IsPdoOn, TakesInputs, channels_of, flat_inputs, flat_stage, gives_of, group_gives, channel_named, outs_at, pdo_channel, placed_results, reading_reads, reads_of, reduced, side_channel, stage_of, stages_of}
 use Rattle.plan_laws.proofs.Running.{in_append, place_same, without_first}
 use Rattle.plan_rules.specs.Fitting.{FitsEntries}
 
@@ -111,7 +111,7 @@ placed_object : (objects : List ℕ) (all : List Stage) (es : List Entry) (f : P
     → ((j : ℕ) → is_place objects all (at.Result k j) ≡ b)
     → Each (λ d. is_object_at es d ≡ b) ds
     → IsIn c ds ⊎ (is_place objects all (f c) ≡ is_object_at es c)
-    → is_place objects all (placed k i ds f c) ≡ is_object_at es c
+    → is_place objects all (placed_results k i ds f c) ≡ is_object_at es c
 placed_object objects all es f k i [] b c r a (inl h) = absurd h
 placed_object objects all es f k i [] b c r a (inr h) = h
 placed_object objects all es f k i (d ∷ ds) b c r a h = by (same_place d c) refl
@@ -119,8 +119,8 @@ placed_object objects all es f k i (d ∷ ds) b c r a h = by (same_place d c) re
   where
     by : (t : Bool) → same_place d c ≡ t
         → (same_place d c ≡ false
-        → is_place objects all (placed k (suc i) ds f c) ≡ is_object_at es c)
-        → is_place objects all (cond t (at.Result k i) (placed k (suc i) ds f c))
+        → is_place objects all (placed_results k (suc i) ds f c) ≡ is_object_at es c)
+        → is_place objects all (cond t (at.Result k i) (placed_results k (suc i) ds f c))
         ≡ is_object_at es c
     by true e g = r i ∙ sym a.0 ∙ ap (is_object_at es) (place_same d c e)
     by false e g = g e
@@ -154,7 +154,7 @@ side_object : (objects : List ℕ) (all : List Stage) (es : List Entry) (f : Pla
     → takes_such a (map (is_object_at es) ins) ≡ true
     → Each (λ c. is_place objects all (f c) ≡ is_object_at es c)
     (reading_reads (side_channel n o l a ins))
-    → has_object objects all (named f (side_channel n o l a ins)).beside ≡ true
+    → has_object objects all (channel_named f (side_channel n o l a ins)).beside ≡ true
 side_object objects all es f n o l (SideInput h) [] i g e = absurd i
 side_object objects all es f n o l (SideInput h) (c ∷ []) i g e = absurd i
 side_object objects all es f n o l (SideInput h) (c ∷ (d ∷ [])) i g e = e.1.0 ∙ g
@@ -165,7 +165,7 @@ side_object objects all es f n o l (Singleton k) ins i g e = absurd i
 pdo_object : (objects : List ℕ) (all : List Stage) (es : List Entry) (f : Place → PlanPlace)
     (n : ℕ) (o : Option Node) → IsPdo o → ((x : Node) → o ≡ Some x → has_objects es x ≡ true)
     → Each (λ c. is_place objects all (f c) ≡ is_object_at es c) (reading_reads (pdo_channel n o))
-    → has_object objects all (named f (pdo_channel n o)).beside ≡ true
+    → has_object objects all (channel_named f (pdo_channel n o)).beside ≡ true
 pdo_object objects all es f n None h g a = absurd h
 pdo_object objects all es f n (Some (Source s)) h g a = absurd h
 pdo_object objects all es f n (Some (Flatten ins)) h g a = absurd h
@@ -180,7 +180,7 @@ channels_have : (objects : List ℕ) (all : List Stage) (es : List Entry) (f : P
     → Each (λ c. is_place objects all (f c) ≡ is_object_at es c)
     (flat_map reading_reads (channels_of es ks))
     → list_all (λ (c : InChannel). has_object objects all c.beside)
-    (map (named f) (channels_of es ks)) ≡ true
+    (map (channel_named f) (channels_of es ks)) ≡ true
 channels_have objects all es f [] ok g a = refl
 channels_have objects all es f (Whole c ∷ ks) ok g a =
     channels_have objects all es f ks ok.1 g a.1
@@ -188,9 +188,9 @@ channels_have objects all es f (Mapper n ∷ ks) ok g a =
     let P : Place → Type 0 = λ c. is_place objects all (f c) ≡ is_object_at es c in
     let r : Reading = pdo_channel n (node_at es n) in
     let more : List Place = flat_map reading_reads (channels_of es ks) in
-    and_both (has_object objects all (named f r).beside)
+    and_both (has_object objects all (channel_named f r).beside)
     (list_all (λ (c : InChannel). has_object objects all c.beside)
-    (map (named f) (channels_of es ks)))
+    (map (channel_named f) (channels_of es ks)))
     (pdo_object objects all es f n (node_at es n) ok.0 (λ x e. g n x e)
     (Each-left P (reading_reads r) more a))
     (channels_have objects all es f ks ok.1 g (Each-right P (reading_reads r) more a))
@@ -221,7 +221,7 @@ pub all_have : (objects : List ℕ) (all : List Stage) (es : List Entry) (before
 all_have objects all es before k f made [] g e same m h p r = tt
 all_have objects all es before k f made (o ∷ os) g e same m h p r =
     let st : Stage = stage_of es f o in
-    let names : Place → PlanPlace = placed k 0 (gives_of es o) f in
+    let names : Place → PlanPlace = placed_results k 0 (gives_of es o) f in
     let more : List Stage = stages_of es (suc k) names os in
     let less : k - 1 ≡ length before = omega arith in
     let found : slice_get all (k - 1) ≡ Some st =

@@ -12,7 +12,7 @@ use Rattle.plan_making.specs.of_exec_plan.declared.plan.PlanPlace.{PlanPlace}
 use Rattle.plan_making.specs.of_exec_plan.declared.plan.Stage.{Stage}
 use Rattle.plan_making.specs.of_exec_plan.Wellformed.{AreStages, IsPlaceSoFar, IsPlanOk, results_at}
 use Rattle.plan_laws.specs.declared.operations.Operation.{Operation}
-use Rattle.plan_laws.specs.Operations.{AreReady, DoAll, IsHonest, IsIn, at_source, gives_of, made_by, placed, places_of, plan_of, reads_of, source_at, source_place, source_places, stage_of, stages_of}
+use Rattle.plan_laws.specs.Operations.{AreReady, DoAll, IsHonest, IsIn, at_source, gives_of, made_after, placed_results, places_of, plan_of, reads_of, source_at, source_place, source_places, stage_of, stages_of}
 use Rattle.plan_laws.proofs.Running.{in_append}
 use Rattle.plan_rules.specs.Fitting.{IsSourceBelow, SourcesAgree}
 use Rattle.plan_rules.proofs.Made.{made_more, placed_made, results_here}
@@ -31,12 +31,12 @@ record Kept (n : ℕ) (es : List Entry) (before : List Stage) (k : ℕ) (f : Pla
     (made : List Place) (os : List Operation) : Type 0 where
   pub stages : AreStages n before (stages_of es k f os)
   pub made_all :
-      MadeAll n (before ++ stages_of es k f os) (places_of es k f os) (made_by es made os)
+      MadeAll n (before ++ stages_of es k f os) (places_of es k f os) (made_after es made os)
 
 next_made : (n : ℕ) (es : List Entry) (before : List Stage) (k : ℕ) (f : Place → PlanPlace)
     (made : List Place) (o : Operation) → k ≡ suc (length before) → MadeAll n before f made
     → IsHonest es o
-    → MadeAll n (before ++ stage_of es f o ∷ []) (placed k 0 (gives_of es o) f)
+    → MadeAll n (before ++ stage_of es f o ∷ []) (placed_results k 0 (gives_of es o) f)
     (gives_of es o ++ made)
 next_made n es before k f made o e m s c i =
     let st : Stage = stage_of es f o in
@@ -55,7 +55,7 @@ stages_keep n es before k f made [] a e m s t r =
 stages_keep n es before k f made (o ∷ os) a e m s t r =
     let st : Stage = stage_of es f o in
     let long = length-append before (st ∷ []) in
-    let rest = stages_keep n es (before ++ st ∷ []) (suc k) (placed k 0 (gives_of es o) f)
+    let rest = stages_keep n es (before ++ st ∷ []) (suc k) (placed_results k 0 (gives_of es o) f)
     (gives_of es o ++ made) os a (omega arith) (next_made n es before k f made o e m s.0)
     s.1 t.1 r.1 in
     record {
@@ -66,9 +66,10 @@ stages_keep n es before k f made (o ∷ os) a e m s t r =
         rest.stages,
       );
       made_all = subst
-          (λ (l : List Stage). MadeAll n l (places_of es k f (o ∷ os)) (made_by es made (o ∷ os)))
+          (λ (l : List Stage). MadeAll n l (places_of es k f (o ∷ os))
+          (made_after es made (o ∷ os)))
           (append_assoc before (st ∷ [])
-          (stages_of es (suc k) (placed k 0 (gives_of es o) f) os)) rest.made_all;
+          (stages_of es (suc k) (placed_results k 0 (gives_of es o) f) os)) rest.made_all;
     }
 
 -- ---- sources
@@ -101,7 +102,7 @@ stages_length : (es : List Entry) (k : ℕ) (f : Place → PlanPlace) (os : List
     → length (stages_of es k f os) ≡ length os
 stages_length es k f [] = refl
 stages_length es k f (o ∷ os) =
-    let i = stages_length es (suc k) (placed k 0 (gives_of es o) f) os in omega arith
+    let i = stages_length es (suc k) (placed_results k 0 (gives_of es o) f) os in omega arith
 
 -- ---- the plan
 
@@ -120,7 +121,7 @@ plan_kept n g os d a found below short few agree objects passes =
       stages = k.stages;
       outputs = places_made n (stages_of g.nodes 1 start os) (places_of g.nodes 1 start os)
           g.outputs
-          (Each-weaker (λ c. IsIn c (made_by g.nodes (source_places g.nodes) os))
+          (Each-weaker (λ c. IsIn c (made_after g.nodes (source_places g.nodes) os))
           (λ c. IsPlaceSoFar n (stages_of g.nodes 1 start os) (places_of g.nodes 1 start os c))
           k.made_all g.outputs d.told);
       few = omega arith;

@@ -14,7 +14,7 @@ use Rattle.plan_laws.specs.declared.operations.Key.TheVariants.{Mapper, Whole}
 use Rattle.plan_laws.specs.declared.operations.Grouped.{Grouped}
 use Rattle.plan_laws.specs.declared.operations.Operation.{Operation}
 use Rattle.plan_laws.specs.declared.operations.Operation.TheVariants.{Flat, Class}
-use Rattle.plan_laws.specs.Operations.{DoAll, IsFlat, IsGroupedOk, IsHonest, IsKeyOk, IsPdo, IsReducer, IsPdoOn, TakesInputs, group_runs, key_runs, reducer_runs, runs, times, works_at, IsIn}
+use Rattle.plan_laws.specs.Operations.{DoAll, IsFlat, IsGroupedOk, IsHonest, IsKeyOk, IsPdo, IsReducer, IsPdoOn, TakesInputs, group_runs, key_runs, reducer_runs, runs, times_named, works_at, IsIn}
 use Rattle.plan_rules.specs.Fitting.{AreFit, IsAlone, FitsEntries, IsUsed, flat_runs}
 use Rattle.plan_rules.proofs.Members.{Differ, differ_left, differ_once, differ_right, times-append}
 use Rattle.plan_rules.proofs.Places.{number_has, numbers}
@@ -104,7 +104,7 @@ idle_by es n k true e i h =
 idle_by es n k false e i h = refl
 
 idle : (es : List Entry) (n : ℕ) (ks : List ℕ) → works_at (node_at es n) ≡ false
-    → AllByRecursion (Works es) ks → times n ks ≡ 0
+    → AllByRecursion (Works es) ks → times_named n ks ≡ 0
 idle es n [] i a = refl
 idle es n (k ∷ ks) i a =
     let h = idle_by es n k (eqb k n) refl i a.0 in
@@ -113,7 +113,7 @@ idle es n (k ∷ ks) i a =
 -- what neither is a Pdo nor a Gbk is carried out as a Flatten alone
 idle_runs : (es : List Entry) (n : ℕ) (os : List Operation) → works_at (node_at es n) ≡ false
     → AllByRecursion (IsHonest es) os
-    → times n (flat_map runs os) ≡ times n (flat_map flat_runs os)
+    → times_named n (flat_map runs os) ≡ times_named n (flat_map flat_runs os)
 idle_runs es n [] i a = refl
 idle_runs es n (Flat k ∷ os) i a = let j = idle_runs es n os i a.1 in omega arith
 idle_runs es n (Class keys gs cs ∷ os) i a =
@@ -123,11 +123,11 @@ idle_runs es n (Class keys gs cs ∷ os) i a =
     omega arith
 
 once_by : (g : Graph) (os : List Operation) (n : ℕ) (b : Bool) → works_at (node_at g.nodes n) ≡ b
-    → DoAll g os → AreFit g.nodes os → times n (flat_map runs os) ≤ 1
-once_by g os n true e d f = let o : times n (flat_map runs os) ≡ 1 = d.once n e in omega arith
+    → DoAll g os → AreFit g.nodes os → times_named n (flat_map runs os) ≤ 1
+once_by g os n true e d f = let o : times_named n (flat_map runs os) ≡ 1 = d.once n e in omega arith
 once_by g os n false e d f =
     let i = idle_runs g.nodes n os e d.sound in
-    let o : times n (flat_map flat_runs os) ≤ 1 = f.flats n in omega arith
+    let o : times_named n (flat_map flat_runs os) ≤ 1 = f.flats n in omega arith
 
 pub runs_differ : (g : Graph) (os : List Operation) → DoAll g os → AreFit g.nodes os
     → Differ (flat_map runs os)

@@ -12,18 +12,18 @@ use Rattle.plan_making.specs.of_exec_plan.declared.plan.PlanPlace.{PlanPlace}
 use Rattle.plan_making.specs.of_exec_plan.declared.plan.OutChannel.{OutChannel}
 use Rattle.plan_making.specs.of_exec_plan.declared.plan.Stage.{Stage}
 use Rattle.plan_making.specs.of_exec_plan.Meaning.{in_reads, object_places as with_place}
-use Rattle.plan_making.specs.of_exec_plan.Wellformed.{AreOutChannels, IsGroupOk, IsLiftOk, IsPlaceSoFar, IsStageOk, most_channels, width}
+use Rattle.plan_making.specs.of_exec_plan.Wellformed.{AreOutChannels, IsGroupOk, IsLiftOk, IsPlaceSoFar, IsStageOk, most_channels, results_given}
 use Rattle.plan_laws.specs.declared.operations.Key.{Key}
 use Rattle.plan_laws.specs.declared.operations.Grouped.{Grouped}
 use Rattle.plan_laws.specs.declared.operations.Operation.{Operation}
 use Rattle.plan_laws.specs.declared.operations.Operation.TheVariants.{Flat, Class}
-use Rattle.plan_laws.specs.Operations.{IsGroupedOk, IsHonest, IsKeyOk, IsTakenPlace, Reading, TakesInputs, channel_of, channels_of, flat_inputs, flat_stage, group_at, group_of, read_through, named, numbered_outs, pass_of, reading_reads, reads_of, reducer_of, stage_of, with_object}
+use Rattle.plan_laws.specs.Operations.{IsGroupedOk, IsHonest, IsKeyOk, IsTakenPlace, Reading, TakesInputs, channel_of, channels_of, flat_inputs, flat_stage, group_at, group_channel, read_through, channel_named, numbered_outs, pass_of, reading_reads, reads_of, reducer_forest, stage_of, with_object}
 use Rattle.plan_rules.proofs.Taking.{AreNumbered, inputs, inputs_numbered, reducer_numbered, take_exists, takes_exist}
 use Rattle.plan_rules.proofs.Widths.{length_map}
 
 -- what a lifted Gbk is reduced by is a step of its combiner
 abbrev pub IsLifted : List Entry → Option Node → Option ℕ → Type 0
-IsLifted es (Some (Gbk c o l k)) r = IsLiftOk k (reducer_of es r)
+IsLifted es (Some (Gbk c o l k)) r = IsLiftOk k (reducer_forest es r)
 IsLifted es o r = Unit {0}
 
 abbrev pub AreLifted : List Entry → List Grouped → Type 0
@@ -61,11 +61,11 @@ outs_ok : (es : List Entry) (f : Place → PlanPlace) (keys : List Key) (n : ℕ
     → AllByRecursion (IsGroupedOk es keys) gs → AreLifted es gs
     → AllByRecursion (IsTakenPlace es keys) cs
     → AreOutChannels (inputs es f keys) false n
-    (numbered_outs n (map (group_of es keys) gs ++ map (pass_of keys) cs))
+    (numbered_outs n (map (group_channel es keys) gs ++ map (pass_of keys) cs))
 outs_ok es f keys n [] cs a ok i l h = passes_ok es f keys false n cs a ok h
 outs_ok es f keys n (g ∷ gs) cs a ok i l h = (
   group_ok es f keys n g.reducer (node_at es g.gbk) a ok i.0.0 l.0,
-  outs_ok es f keys (n + width (group_of es keys g)) gs cs a ok i.1 l.1 h,
+  outs_ok es f keys (n + results_given (group_channel es keys g)) gs cs a ok i.1 l.1 h,
 )
 
 -- ---- stages
@@ -78,7 +78,8 @@ object_made n before f (Some c) a = a
 
 inputs_made : (n : ℕ) (before : List Stage) (f : Place → PlanPlace) (rs : List Reading)
     → AllByRecursion (λ c. IsPlaceSoFar n before (f c)) (flat_map reading_reads rs)
-    → AllByRecursion (λ c. AllByRecursion (IsPlaceSoFar n before) (in_reads c)) (map (named f) rs)
+    → AllByRecursion (λ c. AllByRecursion (IsPlaceSoFar n before) (in_reads c))
+    (map (channel_named f) rs)
 inputs_made n before f [] a = tt
 inputs_made n before f (r ∷ rs) a =
     let P : Place → Type 0 = λ c. IsPlaceSoFar n before (f c) in
@@ -95,7 +96,7 @@ places_made n before f (c ∷ cs) a = (a.0, places_made n before f cs a.1)
 
 numbered_length : (n : ℕ) (os : List OutChannel) → length (numbered_outs n os) ≡ length os
 numbered_length n [] = refl
-numbered_length n (o ∷ os) = let i = numbered_length (n + width o) os in omega arith
+numbered_length n (o ∷ os) = let i = numbered_length (n + results_given o) os in omega arith
 
 -- the channels are some and not too many, and lifted Gbks are reduced by their combiners
 pub record IsClassShort (es : List Entry) (keys : List Key) (gs : List Grouped) (cs : List Place)
@@ -126,11 +127,11 @@ stage_ok n es before f (Flat k) a s t r =
     flat_ok n before (node_at es k) (map f (flat_inputs (node_at es k)))
     (places_made n before f (flat_inputs (node_at es k)) r)
 stage_ok n es before f (Class keys gs cs) a s t r =
-    let e = length_map (named f) (map (channel_of es) keys) in
+    let e = length_map (channel_named f) (map (channel_of es) keys) in
     let d = length_map (channel_of es) keys in
-    let x = numbered_length 0 (map (group_of es keys) gs ++ map (pass_of keys) cs) in
-    let y = length-append (map (group_of es keys) gs) (map (pass_of keys) cs) in
-    let u = length_map (group_of es keys) gs in
+    let x = numbered_length 0 (map (group_channel es keys) gs ++ map (pass_of keys) cs) in
+    let y = length-append (map (group_channel es keys) gs) (map (pass_of keys) cs) in
+    let u = length_map (group_channel es keys) gs in
     let v = length_map (pass_of keys) cs in
     let some : 0 < length keys = t.some in
     let few : length keys ≤ 131072 = t.inputs in

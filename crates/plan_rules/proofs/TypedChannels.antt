@@ -21,7 +21,7 @@ use Rattle.plan_making.specs.of_exec_plan.Typing.{InTyped, ChannelTyped, InsType
 use Rattle.graph_laws.proofs.TypedForests.{typed_moved}
 use Rattle.plan_laws.specs.declared.operations.Key.{Key}
 use Rattle.plan_laws.specs.declared.operations.Key.TheVariants.{Mapper, Whole}
-use Rattle.plan_laws.specs.Operations.{IsSide, reading_reads, side_channel, HasKey, IsKeyOk, IsPdo, IsTakenPlace, Reading, channel_of, has_key, inputs_at, read_through, key_out, out_in, pdo_channel, position, take_of}
+use Rattle.plan_laws.specs.Operations.{IsSide, reading_reads, side_channel, HasKey, IsKeyOk, IsPdo, IsTakenPlace, Reading, channel_of, is_read_under, inputs_at, read_through, key_out, out_in, pdo_channel, position, take_of}
 use Rattle.plan_laws.proofs.Carrying.{behind}
 use Rattle.plan_laws.proofs.Running.{place_same}
 use Rattle.plan_rules.proofs.Taking.{inputs}
@@ -138,13 +138,13 @@ all_inputs_typed s types t f es ks a ok e =
 place_is : (c : Place) (n : ℕ) → n ≡ c.node → place n c.out ≡ c
 place_is c n h = ap (λ (k : ℕ). place k c.out) h
 
-key_typed : (types : Place → Ty) (k : Key) (c : Place) → has_key k c ≡ true
+key_typed : (types : Place → Ty) (k : Key) (c : Place) → is_read_under k c ≡ true
     → key_type types (Some k) (key_out k c) ≡ types c
 key_typed types (Mapper n) c h = ap types (place_is c n (eqb-true n c.node h))
 key_typed types (Whole d) c h = ap types (place_same d c h)
 
 taken_by : (types : Place → Ty) (k : Key) (ks : List Key) (c : Place) (b : Bool)
-    → has_key k c ≡ b
+    → is_read_under k c ≡ b
     → (b ≡ false → key_type types (slice_get ks (position ks c)) (out_in ks c) ≡ types c)
     → key_type types (slice_get (k ∷ ks) (cond b 0 (suc (position ks c))))
     (cond b (key_out k c) (out_in ks c)) ≡ types c
@@ -155,7 +155,7 @@ pub taken_typed : (types : Place → Ty) (keys : List Key) (c : Place) → HasKe
     → take_type (channel_types types keys) (take_of keys c) ≡ types c
 taken_typed types [] c h = absurd h
 taken_typed types (k ∷ ks) c h =
-    taken_by types k ks c (has_key k c) refl
+    taken_by types k ks c (is_read_under k c) refl
     (λ e. taken_typed types ks c (behind k ks c e h))
 
 -- ---- what a Gbk groups has the type of what it reads

@@ -16,9 +16,9 @@ use Rattle.plan_making.specs.of_exec_plan.declared.plan.PlanPlace.{PlanPlace}
 use Rattle.plan_making.specs.of_exec_plan.declared.plan.PlanPlace.TheVariants as at
 use Rattle.plan_making.specs.of_exec_plan.Typing.{AreStagesTyped, IsPlanTypedBy}
 use Rattle.plan_laws.specs.declared.operations.Operation.{Operation}
-use Rattle.plan_laws.specs.Operations.{AreReady, DoAll, IsHonest, IsIn, at_source, gives_of, made_by, placed, places_of, plan_of, reads_of, source_at, source_place, source_places, stages_of}
+use Rattle.plan_laws.specs.Operations.{AreReady, DoAll, IsHonest, IsIn, at_source, gives_of, made_after, placed_results, places_of, plan_of, reads_of, source_at, source_place, source_places, stages_of}
 use Rattle.plan_laws.proofs.Running.{in_append, place_same, without_first}
-use Rattle.plan_rules.specs.Typing.{gives_at, plan_types, type_in}
+use Rattle.plan_rules.specs.Typing.{operation_gives, plan_types, type_in}
 use Rattle.plan_rules.proofs.Taking.{AreNumbered}
 use Rattle.plan_rules.proofs.TypedChannels.{AreTyped}
 use Rattle.plan_rules.proofs.TypedStages.{AreThere, GivesTypes, stage_typed}
@@ -49,9 +49,10 @@ result_types s types es done o os k h =
     let n : 0 + j ≡ j = omega arith in
     let p : k - 1 ≡ length done = omega arith in
     ap (λ (m : ℕ). type_in types
-    (slice_get (gives_at es (slice_get (done ++ o ∷ os) (k - 1))) m)) n
-    ∙ ap (λ (m : ℕ). type_in types (slice_get (gives_at es (slice_get (done ++ o ∷ os) m)) j)) p
-    ∙ ap (λ (x : Option Operation). type_in types (slice_get (gives_at es x) j))
+    (slice_get (operation_gives es (slice_get (done ++ o ∷ os) (k - 1))) m)) n
+    ∙ ap (λ (m : ℕ). type_in types (slice_get (operation_gives es (slice_get (done ++ o ∷ os) m))
+    j)) p
+    ∙ ap (λ (x : Option Operation). type_in types (slice_get (operation_gives es x) j))
     (stands_at done o os))
 
 -- ---- collections under their names
@@ -64,11 +65,11 @@ placed_by types t k i x d c false e h g = g refl
 
 placed_typed : (types : Place → Ty) (t : PlanPlace → Ty) (f : Place → PlanPlace) (k i : ℕ)
     (ds : List Place) (c : Place) → GivesTypes types t k i ds
-    → IsIn c ds ⊎ (t (f c) ≡ types c) → t (placed k i ds f c) ≡ types c
+    → IsIn c ds ⊎ (t (f c) ≡ types c) → t (placed_results k i ds f c) ≡ types c
 placed_typed types t f k i [] c h (inl p) = absurd p
 placed_typed types t f k i [] c h (inr p) = p
 placed_typed types t f k i (d ∷ ds) c h p =
-    placed_by types t k i (placed k (suc i) ds f c) d c (same_place d c) refl h.0
+    placed_by types t k i (placed_results k (suc i) ds f c) d c (same_place d c) refl h.0
     (λ e. placed_typed types t f k (suc i) ds c h.1 (without_first d ds c e p))
 
 -- t says of each collection that is made, where f names it, what types says
@@ -78,7 +79,7 @@ AllNamed types t f made = (c : Place) → IsIn c made → t (f c) ≡ types c
 record AreFitted (s : Signatures) (types : Place → Ty) (t : PlanPlace → Ty) (es : List Entry)
     (k : ℕ) (f : Place → PlanPlace) (made : List Place) (os : List Operation) : Type 0 where
   pub stages : AreStagesTyped s t k (stages_of es k f os)
-  pub named : AllNamed types t (places_of es k f os) (made_by es made os)
+  pub named : AllNamed types t (places_of es k f os) (made_after es made os)
 
 stages_fitted : (s : Signatures) (types : Place → Ty) (es : List Entry) (all : List Operation)
     (done : List Operation) (k : ℕ) (f : Place → PlanPlace) (made : List Place)
@@ -93,12 +94,13 @@ stages_fitted s types es all done k f made (o ∷ os) a m w e n h r g =
     let gives : GivesTypes types t k 0 (gives_of es o) =
     subst (λ (xs : List Operation). GivesTypes types (plan_types s types es xs) k 0
     (gives_of es o)) (sym e) (result_types s types es done o os k n) in
-    let next : AllNamed types t (placed k 0 (gives_of es o) f) (gives_of es o ++ made) = λ c i.
+    let next : AllNamed types t (placed_results k 0 (gives_of es o) f) (gives_of es o ++ made) =
+    λ c i.
     placed_typed types t f k 0 (gives_of es o) c gives
     (elim (in_append c (gives_of es o) made i) [ inl j ↦ inl j | inr j ↦ inr (g c j) ]) in
     let long = length-append done (o ∷ []) in
     let rest = stages_fitted s types es all (done ++ o ∷ []) (suc k)
-    (placed k 0 (gives_of es o) f) (gives_of es o ++ made) os a m w
+    (placed_results k 0 (gives_of es o) f) (gives_of es o ++ made) os a m w
     (e ∙ sym (append_assoc done (o ∷ []) os)) (omega arith) h.1 r.1 next in
     record {
       stages = (
@@ -168,5 +170,5 @@ outputs_typed s n g os types ok d a =
     let t : PlanPlace → Ty = plan_types s types g.nodes os in
     let f : Place → PlanPlace = places_of g.nodes 1 (at_source g.nodes) os in
     same_types types t f g.outputs
-    (Each-weaker (λ c. IsIn c (made_by g.nodes (source_places g.nodes) os))
+    (Each-weaker (λ c. IsIn c (made_after g.nodes (source_places g.nodes) os))
     (λ c. t (f c) ≡ types c) (fitted s g os types ok d a).named g.outputs d.told)

@@ -13,14 +13,14 @@ use Rattle.graph_laws.proofs.of_exec_graph.Entries.{all_found}
 use Rattle.plan_making.specs.of_exec_plan.declared.plan.PlanPlace.{PlanPlace}
 use Rattle.plan_making.specs.of_exec_plan.declared.plan.PlanPlace.TheVariants as at
 use Rattle.plan_making.specs.of_exec_plan.Channels.{outs_of}
-use Rattle.plan_making.specs.of_exec_plan.Typing.{ChannelTyped, GroupTyped, OutChannelTyped, StageTyped, types_from}
-use Rattle.plan_making.specs.of_exec_plan.Wellformed.{width}
+use Rattle.plan_making.specs.of_exec_plan.Typing.{ChannelTyped, GroupTyped, OutChannelTyped, StageTyped, stage_types}
+use Rattle.plan_making.specs.of_exec_plan.Wellformed.{results_given}
 use Rattle.graph_laws.proofs.TypedForests.{typed_moved}
 use Rattle.plan_laws.specs.declared.operations.Key.{Key}
 use Rattle.plan_laws.specs.declared.operations.Grouped.{Grouped}
 use Rattle.plan_laws.specs.declared.operations.Operation.{Operation}
 use Rattle.plan_laws.specs.declared.operations.Operation.TheVariants.{Flat, Class}
-use Rattle.plan_laws.specs.Operations.{flat_stage, IsFlat, IsGroupedOk, IsHonest, IsReducer, IsTakenPlace, IsPdoOn, TakesInputs, flat_inputs, forest_at, gives_of, group_at, group_gives, group_of, numbered_outs, outs_at, pass_of, reads_of, reduced, reducer_of, stage_of}
+use Rattle.plan_laws.specs.Operations.{flat_stage, IsFlat, IsGroupedOk, IsHonest, IsReducer, IsTakenPlace, IsPdoOn, TakesInputs, flat_inputs, forest_in, gives_of, group_at, group_gives, group_channel, numbered_outs, outs_at, pass_of, reads_of, reduced, reducer_forest, stage_of}
 use Rattle.plan_rules.proofs.Counted.{out_stands}
 use Rattle.plan_rules.proofs.Taking.{AreNumbered, IsNodeNumbered}
 use Rattle.plan_rules.proofs.TypedChannels.{AreNamed, AreTyped, all_inputs_typed, channel_types, taken_typed, takes_typed, typed_at}
@@ -69,7 +69,7 @@ map_at r (suc j) (n ∷ ns) i h = map_at r j ns i h
 forest_typed : (s : Signatures) (types : Place → Ty) (t : PlanPlace → Ty) (es : List Entry)
     (k i n r : ℕ) (o : Option Node) → AreTyped s types es → AreNumbered es → node_at es r ≡ o
     → IsPdoOn (place n 0) o → GivesTypes types t k i (map (place r) (outs_at o))
-    → ChannelTyped s (types_from t k i) 0 (types (place n 0)) (forest_at o)
+    → ChannelTyped s (stage_types t k i) 0 (types (place n 0)) (forest_in o)
 forest_typed s types t es k i n r None a m h p g = absurd p
 forest_typed s types t es k i n r (Some (Source q)) a m h p g = absurd p
 forest_typed s types t es k i n r (Some (Flatten ins)) a m h p g = absurd p
@@ -77,7 +77,7 @@ forest_typed s types t es k i n r (Some (Gbk d o l q)) a m h p g = absurd p
 forest_typed s types t es k i n r (Some (Barrier ins x y d)) a m h p g = absurd p
 forest_typed s types t es k i n r (Some (Pdo d f)) a m h p g =
     let order : numbered 0 f ≡ f = all_found (λ e. IsNodeNumbered e.node) es r (Pdo d f) h m in
-    typed_moved s types (types_from t k i) r 0 (types (place n 0)) f
+    typed_moved s types (stage_types t k i) r 0 (types (place n 0)) f
     (λ j e. given_at types t k i j (map (place r) (outs_of f)) (place r j) g
     (map_at r j (outs_of f) j (out_stands f j order e)))
     (subst (λ (c : Place). ForestTyped s types r (types c) f) p
@@ -86,7 +86,7 @@ forest_typed s types t es k i n r (Some (Pdo d f)) a m h p g =
 reducer_typed : (s : Signatures) (types : Place → Ty) (t : PlanPlace → Ty) (es : List Entry)
     (k i n : ℕ) (r : Option ℕ) → AreTyped s types es → AreNumbered es → IsReducer es n r
     → GivesTypes types t k i (reduced es n r)
-    → ChannelTyped s (types_from t k i) 0 (types (place n 0)) (reducer_of es r)
+    → ChannelTyped s (stage_types t k i) 0 (types (place n 0)) (reducer_forest es r)
 reducer_typed s types t es k i n None a m p g =
     let z : i + 0 ≡ i = omega arith in ap (λ (j : ℕ). t (at.Result k j)) z ∙ g.0
 reducer_typed s types t es k i n (Some r) a m p g =
@@ -137,7 +137,7 @@ outputs_typed : (s : Signatures) (types : Place → Ty) (t : PlanPlace → Ty) (
     → AllByRecursion (IsTakenPlace es keys) cs
     → GivesTypes types t k i (flat_map (group_gives es) gs ++ cs)
     → AllByRecursion (OutChannelTyped s t (channel_types types keys) k)
-    (numbered_outs i (map (group_of es keys) gs ++ map (pass_of keys) cs))
+    (numbered_outs i (map (group_channel es keys) gs ++ map (pass_of keys) cs))
 outputs_typed s types t es keys k i [] cs a m w h p g =
     passes_typed s types t es keys k i cs p g
 outputs_typed s types t es keys k i (x ∷ xs) cs a m w h p g =
@@ -145,11 +145,12 @@ outputs_typed s types t es keys k i (x ∷ xs) cs a m w h p g =
     let parts : GivesTypes types t k i (group_gives es x ++ rest) =
     subst (GivesTypes types t k i)
     (append_assoc (group_gives es x) (flat_map (group_gives es) xs) cs) g in
-    let e : width (group_of es keys x) ≡ length (group_gives es x) =
+    let e : results_given (group_channel es keys x) ≡ length (group_gives es x) =
     group_width es keys x.gbk x.reducer (node_at es x.gbk) h.0.0 h.0.1 in (
       group_typed s types t es keys k i x.gbk x.reducer (node_at es x.gbk) a m w refl h.0.0 h.0.1
           (given_first types t k i (group_gives es x) rest parts),
-      outputs_typed s types t es keys k (i + width (group_of es keys x)) xs cs a m w h.1 p
+      outputs_typed s types t es keys k (i + results_given (group_channel es keys x)) xs cs a m w
+          h.1 p
           (subst (λ (j : ℕ). GivesTypes types t k (i + j) rest) (sym e)
           (given_later types t k i (group_gives es x) rest parts)),
     )

@@ -17,7 +17,7 @@ use Rattle.plan_laws.specs.declared.operations.Key.TheVariants.{Mapper, Whole}
 use Rattle.plan_laws.specs.declared.operations.Grouped.{Grouped}
 use Rattle.plan_laws.specs.declared.operations.Operation.{Operation}
 use Rattle.plan_laws.specs.declared.operations.Operation.TheVariants.{Flat, Class}
-use Rattle.plan_laws.specs.Operations.{has_key, read_through, times}
+use Rattle.plan_laws.specs.Operations.{is_read_under, read_through, times_named}
 
 -- ---- keys
 
@@ -34,7 +34,7 @@ gbk_inputs es o = []
 
 -- whether the group takes a collection of the channel
 abbrev pub takes_key : List Entry → Key → Grouped → Bool
-takes_key es k g = list_any (has_key k) (gbk_inputs es (node_at es g.gbk))
+takes_key es k g = list_any (is_read_under k) (gbk_inputs es (node_at es g.gbk))
 
 -- a group takes of the channel
 abbrev pub IsUsed : List Entry → List Grouped → Key → Type 0
@@ -78,7 +78,7 @@ flat_runs (Class keys groups passes) = []
 -- what forming gives: no Flatten is carried out twice
 pub record AreFit (es : List Entry) (os : List Operation) : Type 0 where
   pub fit : AllByRecursion (FitsEntries es) os
-  pub flats : (n : ℕ) → times n (flat_map flat_runs os) ≤ 1
+  pub flats : (n : ℕ) → times_named n (flat_map flat_runs os) ≤ 1
 
 -- ---- graphs
 

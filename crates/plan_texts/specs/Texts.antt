@@ -4,7 +4,7 @@ use Rattle.serde_json.specs.Data.{Data}
 use Rattle.exec_plan.specs.declared.plan.Plan.{Plan}
 use Rattle.graph_print.specs.of_script_program.declared.made.Output.{Output}
 use Rattle.graph_print.specs.of_script_program.Script.{Script}
-use Rattle.graph_print.specs.Names.{name_at}
+use Rattle.graph_print.specs.Names.{printed_name}
 use Rattle.graph_print.specs.Steps.{combiner_text, step_text}
 use Rattle.plan_writing.specs.Naming.{Naming, Written}
 use Rattle.plan_writing.specs.PlanText as text
@@ -18,7 +18,7 @@ written_of output = record { name = output.1.name; file = output.0 }
 abbrev pub naming_of : Script → Naming
 naming_of script = record {
   step = step_text script;
-  node = name_at script.nodes;
+  node = printed_name script.nodes;
   combiner = combiner_text;
   outputs = map written_of script.outputs;
 }

@@ -10,7 +10,7 @@ use Rattle.exec_graph.specs.declared.graph.Graph.{Graph}
 use Rattle.fusion_blocks.specs.Blocks.{unmarked}
 use Rattle.graph_laws.specs.Lifting.{LiftsLead, lift_of, lifted, lifted_at, marked, marked_entry}
 use Rattle.graph_laws.proofs.LiftChain.{all_lead, all_lifts, is_group, may_lift}
-use Rattle.graph_rewrites.specs.Replays.{Leads, group_of}
+use Rattle.graph_rewrites.specs.Replays.{Leads, rewrite_group}
 use Rattle.graph_rewrites.specs.declared.rewrite.Rewrite.{Rewrite}
 use Rattle.graph_rewrites.specs.declared.rewrite.Rewrite.TheVariants.{Lift}
 use Rattle.graph_tracing.specs.Traces.{IsTrace}
@@ -51,7 +51,7 @@ lifts_by [] g h l = ap unmarked l
 lifts_by (n ∷ ns) g h l =
     ((let at : 1 ≤ 1 = omega arith in at, l.0), lifts_by ns (lifted_at n g) h l.1)
 
-lifts_all : (ns : List ℕ) → AllByRecursion (λ r. group_of r ≡ 1) (lift_all ns)
+lifts_all : (ns : List ℕ) → AllByRecursion (λ r. rewrite_group r ≡ 1) (lift_all ns)
 lifts_all [] = tt
 lifts_all (n ∷ ns) = (refl, lifts_all ns)
 

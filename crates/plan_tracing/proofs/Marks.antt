@@ -9,7 +9,7 @@ use Rattle.exec_graph.specs.declared.graph.Blocked.{Blocked}
 use Rattle.exec_graph.specs.declared.graph.Graph.{Graph}
 use Rattle.exec_graph.specs.declared.graph.Place.{Place}
 use Rattle.fusion_blocks.specs.Blocks.{CanMark, unmarked}
-use Rattle.graph_rewrites.specs.Replays.{Leads, group_of}
+use Rattle.graph_rewrites.specs.Replays.{Leads, rewrite_group}
 use Rattle.graph_rewrites.specs.declared.rewrite.Rewrite.{Rewrite}
 use Rattle.graph_rewrites.specs.declared.rewrite.Rewrite.TheVariants.{Merge, Sink, Lift, Kid, Sibling, Mark}
 use Rattle.graph_tracing.specs.Fusions.{IsFusion}
@@ -19,7 +19,7 @@ use Rattle.pardo_fuse.proofs.Places.{same_is, same_self}
 use Rattle.graph_tracing.specs.of_pass_rewrites.Passes.{ByRewrites}
 use Rattle.graph_tracing.proofs.of_pass_rewrites.Lists.{leads_both}
 use Rattle.plan_tracing.specs.Lists.{IsBefore, Rise, mark_of}
-use Rattle.plan_tracing.specs.Refined.{IsMarkedBy}
+use Rattle.plan_tracing.specs.Refined.{IsFusedBy}
 
 abbrev pub marked : Graph → List Place → Blocked
 marked g cs = record { graph = g; marks = cs }
@@ -28,7 +28,7 @@ marked g cs = record { graph = g; marks = cs }
 
 -- marks that lead to b are each on what can be marked
 can_by : (rs : List Rewrite) (g : Graph) (ms : List Place) (b : Blocked)
-    → Each (λ r. group_of r ≡ 3) rs → Leads 3 rs (marked g ms) b → Each (CanMark g) ms
+    → Each (λ r. rewrite_group r ≡ 3) rs → Leads 3 rs (marked g ms) b → Each (CanMark g) ms
     → (b.graph ≡ g) × Each (CanMark g) b.marks
 can_by [] g ms b all l a =
     subst (λ (x : Blocked). (x.graph ≡ g) × Each (CanMark g) x.marks) l (refl, a)
@@ -95,7 +95,7 @@ marks_order f (c ∷ cs) r = (before c cs r.0, marks_order f cs r.1)
     before c (d ∷ ds) a = (a.0, before c ds a.1)
 
 -- marks may stand behind all others
-behind_all : (f : ℕ → ℕ) (r : Rewrite) (cs : List Place) → (group_of r ≡ 3 → ⊥)
+behind_all : (f : ℕ → ℕ) (r : Rewrite) (cs : List Place) → (rewrite_group r ≡ 3 → ⊥)
     → Each (Precedes r) (with_formers f (map mark_of cs))
 behind_all f r [] other = tt
 behind_all f (Merge outer inner) (c ∷ cs) other =
@@ -107,7 +107,7 @@ behind_all f (Sibling p q) (c ∷ cs) other = (tt, behind_all f (Sibling p q) cs
 behind_all f (Mark n k) (c ∷ cs) other = absurd (other refl)
 
 behind_more : (r : Rewrite) (f : ℕ → ℕ) (rs : List Rewrite) (cs : List Place)
-    → (group_of r ≡ 3 → ⊥) → Each (Precedes r) (with_formers f rs)
+    → (rewrite_group r ≡ 3 → ⊥) → Each (Precedes r) (with_formers f rs)
     → Each (Precedes r) (with_formers f (rs ++ map mark_of cs))
 behind_more r f [] cs other a = behind_all f r cs other
 behind_more r f (Merge outer inner ∷ rs) cs other a = (a.0, behind_more r f rs cs other a.1)
@@ -119,7 +119,7 @@ behind_more r f (Sibling p q ∷ rs) cs other a = (a.0, behind_more r f rs cs ot
 behind_more r f (Mark n k ∷ rs) cs other a = (a.0, behind_more r f rs cs other a.1)
 
 fusions_order : (f : ℕ → ℕ) (rs : List Rewrite) (cs : List Place)
-    → Each (λ r. group_of r ≡ 2) rs → Ascend (with_formers f rs) → Rise cs
+    → Each (λ r. rewrite_group r ≡ 2) rs → Ascend (with_formers f rs) → Rise cs
     → Ascend (with_formers f (rs ++ map mark_of cs))
 fusions_order f [] cs all o r = marks_order f cs r
 fusions_order f (Merge outer inner ∷ rs) cs all o r =
@@ -141,15 +141,17 @@ fusions_order f (Mark n k ∷ rs) cs all o r = absurd (let e = all.0 in omega ar
 fused_marked : (b : Blocked) (fusions : List Rewrite) (cs : List Place)
     → IsFusion b fusions → Each (CanMark (fused b).graph) (fused b).marks → Rise cs
     → ((c : Place) → among c cs ≡ among c (fused b).marks)
-    → IsMarkedBy 2 b.graph (fused b) (fusions ++ map mark_of cs) (marked (fused b).graph cs)
+    → IsFusedBy b.graph (fused b) (fusions ++ map mark_of cs) (marked (fused b).graph cs)
 fused_marked b fusions cs f can rise same =
     let g : Graph = (fused b).graph in
     record {
-      graph = refl;
-      marks = same;
-      leads = leads_both 2 3 fusions (map mark_of cs) (unmarked b.graph) (unmarked g) (marked g cs)
-          f.traced.all (omega arith) f.traced.leads
-          (lead_marks g cs [] (same_can g cs (fused b).marks same can));
+      marked = record {
+        graph = refl;
+        marks = same;
+        leads = leads_both 2 3 fusions (map mark_of cs) (unmarked b.graph) (unmarked g)
+            (marked g cs) f.traced.all (omega arith) f.traced.leads
+            (lead_marks g cs [] (same_can g cs (fused b).marks same can));
+      };
       order = fusions_order (λ n. n) fusions cs f.traced.all f.order rise;
     }
 
@@ -157,10 +159,10 @@ pub marked_by : (b blocked : Blocked) (fusions : List Rewrite) (cs : List Place)
     (rs : List Rewrite) → blocked ≡ fused b → IsFusion b fusions
     → Each (CanMark blocked.graph) blocked.marks → Rise cs
     → ((c : Place) → among c cs ≡ among c blocked.marks) → rs ≡ fusions ++ map mark_of cs
-    → IsMarkedBy 2 b.graph blocked rs (marked blocked.graph cs)
+    → IsFusedBy b.graph blocked rs (marked blocked.graph cs)
 marked_by b blocked fusions cs rs is f can rise same all =
-    subst (λ (x : List Rewrite). IsMarkedBy 2 b.graph blocked x (marked blocked.graph cs)) (sym all)
-    (subst (λ (x : Blocked). IsMarkedBy 2 b.graph x (fusions ++ map mark_of cs)
+    subst (λ (x : List Rewrite). IsFusedBy b.graph blocked x (marked blocked.graph cs)) (sym all)
+    (subst (λ (x : Blocked). IsFusedBy b.graph x (fusions ++ map mark_of cs)
     (marked x.graph cs)) (sym is)
     (fused_marked b fusions cs f
     (subst (λ (x : Blocked). Each (CanMark x.graph) x.marks) is can) rise

@@ -1,5 +1,5 @@
 -- All passes before forming, with their rewrites.
-use Rattle.std.proofs.Common.{◌≡◌, ◌≤◌, ℕ, List, [], ◌∷◌, ◌++◌, refl, sym, ◌∙◌, subst, inl, inr, ◌⊎◌, arith, append_assoc}
+use Rattle.std.proofs.Common.{◌≡◌, ◌≤◌, ℕ, List, [], ◌∷◌, ◌++◌, refl, sym, ap, ◌∙◌, subst, arith, append_assoc}
 use Rattle.std.specs.List.{AllByRecursion as Each}
 use Rattle.exec_graph.specs.Wellformed.{Ascends, IsBlockedOk, IsGraphOk}
 use Rattle.exec_graph.specs.declared.graph.Blocked.{Blocked}
@@ -13,10 +13,10 @@ use Rattle.graph_rewrites.proofs.of_graph_bounds.Narrowing.{narrow_lifted, narro
 use Rattle.graph_laws.specs.Lifting.{lift_of, lifted}
 use Rattle.graph_laws.specs.Single.{HasNarrowSteps, IsOneStep, IsUnfused}
 use Rattle.graph_laws.proofs.SingleSteps.{AllSteps-remarked}
-use Rattle.graph_rewrites.specs.Replays.{Leads, group_of}
+use Rattle.graph_rewrites.specs.Replays.{Leads, rewrite_group}
+use Rattle.graph_rewrites.specs.Rewrites.{applied}
 use Rattle.graph_rewrites.specs.declared.rewrite.Rewrite.{Rewrite}
-use Rattle.graph_rewrites.specs.declared.rewrite.Rewrite.TheVariants.{Merge, Sink, Lift, Kid, Sibling, Mark}
-use Rattle.graph_tracing.specs.Orders.{AreInOrder, Ascend, Precedes, with_formers}
+use Rattle.graph_tracing.specs.Sinks.{IsSinking}
 use Rattle.graph_tracing.specs.Traces.{IsTrace}
 use Rattle.plan_check.specs.of_optimise.Optimised.{IsOptimised, source_count}
 use Rattle.pardo_fuse.specs.Fusing.{fused}
@@ -27,7 +27,8 @@ use Rattle.sink_laws.specs.Chain.{IsSunk}
 use Rattle.sink_laws.specs.Kept.{KeepsSteps}
 use Rattle.sink_laws.proofs.TypesKept.{AllSteps-kept}
 use Rattle.plan_check.specs.Checked.{Forms}
-use Rattle.plan_tracing.specs.Refined.{IsMarkedBy, IsRefinedBy}
+use Rattle.plan_tracing.specs.Lists.{lifts_in}
+use Rattle.plan_tracing.specs.Refined.{IsFusedBy, IsRefinedBy}
 use Rattle.plan_tracing.proofs.Marks.{marks_can}
 
 -- ---- what is blocked can be fused
@@ -51,70 +52,30 @@ can_be_marked scales b fu blocked = marks_can (fused b) (fused_list b scales fu 
 
 -- ---- the order of all
 
--- merges, sinks and lifts may stand before all others
-free_first : (r : Rewrite) (rs : List Rewrite) → (group_of r ≡ 0) ⊎ (group_of r ≡ 1)
-    → Each (Precedes r) rs
-free_first r [] h = tt
-free_first (Merge outer inner) (s ∷ rs) h = (tt, free_first (Merge outer inner) rs h)
-free_first (Sink flatten pdo) (s ∷ rs) h = (tt, free_first (Sink flatten pdo) rs h)
-free_first (Lift n) (s ∷ rs) h = (tt, free_first (Lift n) rs h)
-free_first (Kid p k q) (s ∷ rs) (inl e) = absurd (omega arith)
-free_first (Kid p k q) (s ∷ rs) (inr e) = absurd (omega arith)
-free_first (Sibling p q) (s ∷ rs) (inl e) = absurd (omega arith)
-free_first (Sibling p q) (s ∷ rs) (inr e) = absurd (omega arith)
-free_first (Mark n k) (s ∷ rs) (inl e) = absurd (omega arith)
-free_first (Mark n k) (s ∷ rs) (inr e) = absurd (omega arith)
-
-is_free : (group : ℕ) (r : Rewrite) → group_of r ≡ group → (group ≡ 0) ⊎ (group ≡ 1)
-    → (group_of r ≡ 0) ⊎ (group_of r ≡ 1)
-is_free group r is (inl e) = inl (is ∙ e)
-is_free group r is (inr e) = inr (is ∙ e)
-
--- the last two groups are not free
-not_free : (r : Rewrite) → 2 ≤ group_of r → (group_of r ≡ 0) ⊎ (group_of r ≡ 1) → ⊥
-not_free r up (inl e) = omega (arith, up)
-not_free r up (inr e) = omega (arith, up)
-
-free_order : (f : ℕ → ℕ) (group : ℕ) (rs ss : List Rewrite) → (group ≡ 0) ⊎ (group ≡ 1)
-    → Each (λ r. group_of r ≡ group) rs → Ascend (with_formers f ss)
-    → Ascend (with_formers f (rs ++ ss))
-free_order f group [] ss h all o = o
-free_order f group (Merge outer inner ∷ rs) ss h all o = (
-  free_first (Merge outer inner) (with_formers f (rs ++ ss)) (inl refl),
-  free_order f group rs ss h all.1 o,
-)
-free_order f group (Sink flatten pdo ∷ rs) ss h all o = (
-  free_first (Sink flatten pdo) (with_formers f (rs ++ ss)) (inl refl),
-  free_order f group rs ss h all.1 o,
-)
-free_order f group (Lift n ∷ rs) ss h all o =
-    (free_first (Lift n) (with_formers f (rs ++ ss)) (inr refl), free_order f group rs ss h all.1 o)
-free_order f group (Kid p k q ∷ rs) ss h all o =
-    absurd (not_free (Kid p k q) (omega arith) (is_free group (Kid p k q) all.0 h))
-free_order f group (Sibling p q ∷ rs) ss h all o =
-    absurd (not_free (Sibling p q) (omega arith) (is_free group (Sibling p q) all.0 h))
-free_order f group (Mark n k ∷ rs) ss h all o =
-    absurd (not_free (Mark n k) (omega arith) (is_free group (Mark n k) all.0 h))
+-- what is led to behind lifts is of the groups behind them
+late : (group : ℕ) (rs : List Rewrite) (a b : Blocked) → 2 ≤ group → Leads group rs a b
+    → Each (λ r. 2 ≤ rewrite_group r) rs
+late group [] a b up l = tt
+late group (r ∷ rs) a b up l =
+    let at : 2 ≤ rewrite_group r = omega (arith, up, l.0.0) in
+    (at, late (rewrite_group r) rs (applied a r) b at l.1)
 
 -- ---- the whole
 
 pub refined_by : (scales : List ℕ) (g sunk raised : Graph) (b c : Blocked)
     (sinks lifts rest : List Rewrite) → IsSunk g sunk → raised ≡ lifted sunk → b.graph ≡ raised
-    → IsBlocked scales b → IsTrace 0 g sinks sunk → IsTrace 1 sunk lifts raised
-    → IsMarkedBy 2 b.graph (fused b) rest c
+    → IsBlocked scales b → IsSinking g sinks sunk → IsTrace 1 sunk lifts raised
+    → lifts ≡ lifts_in raised.nodes → IsFusedBy b.graph (fused b) rest c
     → IsRefinedBy scales g ((sinks ++ lifts) ++ rest) c
-refined_by scales g sunk raised b c sinks lifts rest s lift same blocked a l m =
+refined_by scales g sunk raised b c sinks lifts rest s lift same blocked a l is m =
     let from : Leads 2 rest (unmarked raised) c =
-    subst (λ (x : Graph). Leads 2 rest (unmarked x) c) same m.leads in
+    subst (λ (x : Graph). Leads 2 rest (unmarked x) c) same m.marked.leads in
     let behind : Leads 1 (lifts ++ rest) (unmarked sunk) c =
     leads_both 1 2 lifts rest (unmarked sunk) (unmarked raised) c l.all (omega arith) l.leads from
     in
     let whole : Leads 0 (sinks ++ (lifts ++ rest)) (unmarked g) c =
-    leads_both 0 1 sinks (lifts ++ rest) (unmarked g) (unmarked sunk) c a.all (omega arith) a.leads
-    behind in
-    let order : AreInOrder (sinks ++ (lifts ++ rest)) =
-    free_order (λ n. n) 0 sinks (lifts ++ rest) (inl refl) a.all
-    (free_order (λ n. n) 1 lifts rest (inr refl) l.all m.order) in
+    leads_both 0 1 sinks (lifts ++ rest) (unmarked g) (unmarked sunk) c a.traced.all (omega arith)
+    a.traced.leads behind in
     let one : sinks ++ (lifts ++ rest) ≡ (sinks ++ lifts) ++ rest =
     sym (append_assoc sinks lifts rest) in
     record {
@@ -128,10 +89,20 @@ refined_by scales g sunk raised b c sinks lifts rest s lift same blocked a l m =
         is_fused = refl;
       };
       marked = record {
-        graph = m.graph;
-        marks = m.marks;
+        graph = m.marked.graph;
+        marks = m.marked.marks;
         leads = subst (λ (rs : List Rewrite). Leads 0 rs (unmarked g) c) one whole;
-        order = subst AreInOrder one order;
+      };
+      order = record {
+        sunk = sunk;
+        is_sunk = s;
+        sinks = sinks;
+        are_next = a.order;
+        rest = rest;
+        are_late = late 2 rest (unmarked b.graph) c (omega arith) m.marked.leads;
+        order = m.order;
+        whole = ap (λ (rs : List Rewrite). (sinks ++ rs) ++ rest)
+            (is ∙ ap (λ (h : Graph). lifts_in h.nodes) lift);
       };
     }
 

@@ -7,7 +7,7 @@ ghost use Rattle.graph_tracing.specs.Fusions.{IsFusion};
 ghost use Rattle.pardo_fuse.specs.Fusing.{fused};
 ghost use Rattle.pardo_fuse.specs.Wellformed.{IsFusible};
 ghost use Rattle.plan_tracing.specs.Lists.{mark_of};
-ghost use Rattle.plan_tracing.specs.Refined.{IsMarkedBy};
+ghost use Rattle.plan_tracing.specs.Refined.{IsFusedBy};
 
 use crate::lists::joined;
 use crate::marking::{ascending, marks_of};
@@ -30,7 +30,7 @@ pub(crate) struct Refined {
 pub(crate) fn fuse_traced(alloc: Global, blocked: Blocked) -> Result<Refined, AllocError>
     requires fusible { IsFusible blocked }
     requires marks { AllByRecursion (CanMark (fused blocked).graph) (fused blocked).marks }
-    ensures { IfOk result (λ r. IsMarkedBy 2 blocked.graph (fused blocked) r.rewrites r.blocked) }
+    ensures { IfOk result (λ r. IsFusedBy blocked.graph (fused blocked) r.rewrites r.blocked) }
 {
     let copy = copy_graph(alloc, &blocked.graph)?;
     let fusions = fusions_of(alloc, copy, blocked.marks.as_slice())?;
@@ -47,7 +47,7 @@ fn with_marks(
 ) -> Result<Refined, AllocError>
     requires { AllByRecursion (CanMark blocked.graph) blocked.marks }
     ensures { IfOk result (λ r. (b : GhostBlocked) → IsFusion b fusions →
-        blocked ≡ fused b → IsMarkedBy 2 b.graph blocked r.rewrites r.blocked) }
+        blocked ≡ fused b → IsFusedBy b.graph blocked r.rewrites r.blocked) }
 {
     let Blocked { graph, marks } = blocked;
     let marks = ascending(alloc, marks.as_slice())?;

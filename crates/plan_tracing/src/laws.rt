@@ -8,7 +8,7 @@ ghost use Rattle.graph_rewrites.specs.declared.rewrite.Rewrite.{Rewrite};
 ghost use Rattle.plan_check.specs.Checked.{Forms, IsChecked};
 ghost use Rattle.plan_faults.specs.declared.fault.PlanFault.{PlanFault};
 ghost use Rattle.plan_faults.specs.declared.fault.PlanFault.TheVariants.{Memory};
-ghost use Rattle.plan_file_law.specs.Files.{text_of};
+ghost use Rattle.plan_file_law.specs.Files.{plan_file_text};
 ghost use Rattle.plan_file_law.specs.of_plan_files.Written.{HasSmallNumbers};
 ghost use Rattle.plan_writing.specs.Naming.{Naming};
 
@@ -20,12 +20,12 @@ use plan_file_law::file_law;
 pub fn accepted_law()
     ensures text { (names : Naming) (g : Graph) (rewrites : List Rewrite) (plan : Plan)
         (answer : Result Plan PlanFault) → IsGraphOk g → AllByRecursion HasSmallNumbers rewrites →
-        Forms g rewrites plan → IsChecked names g (text_of names plan rewrites) answer →
+        Forms g rewrites plan → IsChecked names g (plan_file_text names plan rewrites) answer →
         (answer ≡ Err Memory → ⊥) → answer ≡ Ok plan }
     ensures line { (names : Naming) (g : Graph) (rewrites : List Rewrite) (plan : Plan)
         (answer : Result Plan PlanFault) → IsGraphOk g → AllByRecursion HasSmallNumbers rewrites →
         Forms g rewrites plan →
-        IsChecked names g (text_of names plan rewrites ++ codes "\n") answer →
+        IsChecked names g (plan_file_text names plan rewrites ++ codes "\n") answer →
         (answer ≡ Err Memory → ⊥) → answer ≡ Ok plan }
 {
     answer_law();

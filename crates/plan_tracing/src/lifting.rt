@@ -18,6 +18,7 @@ pub(crate) fn lift_traced(alloc: Global, graph: Graph) -> Result<Trace, AllocErr
     ensures lifted { IfOk result (λ t. t.graph ≡ lifted graph) }
     ensures well_formed { IfOk result (λ t. IsGraphOk t.graph) }
     ensures traced { IfOk result (λ t. IsTrace 1 graph t.rewrites t.graph) }
+    ensures lifts { IfOk result (λ t. t.rewrites ≡ lifts_in t.graph.nodes) }
 {
     let graph = lift(alloc, graph)?;
     let rewrites = lifts_of(alloc, graph.nodes.as_slice())?;

@@ -1,7 +1,7 @@
 // Sinking, with its rewrites.
 ghost use Rattle.std.specs.Prelude.{IfOk};
 ghost use Rattle.exec_graph.specs.Wellformed.{IsGraphOk};
-ghost use Rattle.graph_tracing.specs.Traces.{IsTrace};
+ghost use Rattle.graph_tracing.specs.Sinks.{IsSinking};
 ghost use Rattle.sink_laws.specs.Chain.{IsSunk};
 ghost use Rattle.sink_laws.specs.Kept.{KeepsSteps};
 
@@ -16,7 +16,7 @@ pub(crate) fn sink_traced(alloc: Global, graph: Graph) -> Result<Trace, AllocErr
     ensures sunk { IfOk result (λ t. IsSunk graph t.graph) }
     ensures well_formed { IfOk result (λ t. IsGraphOk t.graph) }
     ensures steps { IfOk result (λ t. KeepsSteps graph t.graph) }
-    ensures traced { IfOk result (λ t. IsTrace 0 graph t.rewrites t.graph) }
+    ensures sinking { IfOk result (λ t. IsSinking graph t.rewrites t.graph) }
 {
     let copy = copy_graph(alloc, &graph)?;
     let rewrites = sinks_of(alloc, copy)?;

@@ -1,10 +1,10 @@
 // The optimiser's plan, with the rewrites that lead to it.
 ghost use Rattle.std.specs.Prelude.{◌≡◌, ◌<◌, ◌^◌, IfOk};
 ghost use Rattle.std.specs.List.{AllByRecursion};
-ghost use Rattle.graph_tracing.specs.Orders.{AreInOrder};
 ghost use Rattle.plan_check.specs.of_optimise.Optimised.{CanOptimise, IsOptimised};
 ghost use Rattle.plan_check.specs.Checked.{Forms};
 ghost use Rattle.plan_file_law.specs.of_plan_files.Written.{HasSmallNumbers};
+ghost use Rattle.plan_tracing.specs.Refined.{IsPassOrder};
 
 use crate::fusing::Refined;
 use crate::refining::refine_traced;
@@ -29,7 +29,7 @@ pub fn optimise_traced(alloc: Global, scales: &[u32], graph: Graph) -> Result<Tr
     requires ok { CanOptimise graph }
     ensures optimised { IfOk result (λ t. IsOptimised scales.now graph t.plan) }
     ensures forms { IfOk result (λ t. Forms graph t.rewrites t.plan) }
-    ensures order { IfOk result (λ t. AreInOrder t.rewrites) }
+    ensures order { IfOk result (λ t. IsPassOrder graph t.rewrites) }
     ensures small { IfOk result (λ t. AllByRecursion HasSmallNumbers t.rewrites) }
 {
     replay_law();

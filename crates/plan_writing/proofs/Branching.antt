@@ -6,10 +6,10 @@ use Rattle.exec_graph.specs.Forests.{Branch, Twig, Forest, Grow, label_at, twigs
 use Rattle.exec_graph.specs.Twigs.{twig}
 use Rattle.exec_graph.specs.declared.step.Output.{Output}
 use Rattle.plan_writing.specs.Naming.{Naming}
-use Rattle.plan_writing.specs.Forests.{goes_on, is_bare, kids_text, number_text, steps_text}
+use Rattle.plan_writing.specs.Forests.{is_further_output, is_bare, kids_text, number_text, steps_text}
 use Rattle.plan_writing.specs.inner.Branches.{branch_text, branches_text, choice_text, first_of_several, space_before, twig_text, twigs_text}
 
-begins_anew : (bs : List Branch) → goes_on (grown bs) ≡ false
+begins_anew : (bs : List Branch) → is_further_output (grown bs) ≡ false
 begins_anew [] = refl
 begins_anew (b ∷ bs) = refl
 
@@ -28,7 +28,7 @@ later names b n t rest =
 
 -- the one output of a step
 alone : (names : Naming) (before : List ℕ) (b : Branch) (t : Twig) (rest : Forest)
-    → goes_on rest ≡ false
+    → is_further_output rest ≡ false
     → steps_text names before (Grow (label_at b 0 t) t.kids rest)
     ≡ before
     ++ ((names.step b.origin b.does ++ (twig_text names None t ++ []))
@@ -37,7 +37,7 @@ alone names before b t rest last = rw last (simp append_assoc)
 
 -- the first output of several
 leading : (names : Naming) (before : List ℕ) (b : Branch) (t : Twig) (rest : Forest)
-    → goes_on rest ≡ true
+    → is_further_output rest ≡ true
     → steps_text names before (Grow (label_at b 0 t) t.kids rest)
     ≡ before
     ++ (names.step b.origin b.does

@@ -8,9 +8,9 @@ is_bare Bare = true
 is_bare (Grow label kids rest) = false
 
 -- whether the first output of the forest is a further one of a step that began before it
-abbrev pub goes_on : Forest → Bool
-goes_on Bare = false
-goes_on (Grow label kids rest) = not (label.at == 0)
+abbrev pub is_further_output : Forest → Bool
+is_further_output Bare = false
+is_further_output (Grow label kids rest) = not (label.at == 0)
 
 -- the number of an output that is kept
 abbrev pub number_text : Option ℕ → List ℕ
@@ -43,7 +43,7 @@ abbrev pub steps_text : Naming → List ℕ → Forest → List ℕ
 steps_text names before Bare = []
 steps_text names before (Grow label kids rest) =
     begun_text names before label
-    ++ (which_text (not (label.at == 0) || goes_on rest) label kids
+    ++ (which_text (not (label.at == 0) || is_further_output rest) label kids
     ++ (number_text label.out
     ++ (kids_text kids (steps_text names [] kids) ++ steps_text names (codes " ") rest)))
 

@@ -8,9 +8,9 @@ abbrev pub spaced : {X : Type 0} → (X → List ℕ) → List X → List ℕ
 spaced print xs = flat_map (λ x. codes " " ++ print x) xs
 
 -- what is made of each member and its number, where the first has number n
-abbrev pub numbered : {X Y : Type 0} → (ℕ → X → Y) → ℕ → List X → List Y
-numbered make n [] = []
-numbered make n (x ∷ xs) = make n x ∷ numbered make (suc n) xs
+abbrev pub numbered_texts : {X Y : Type 0} → (ℕ → X → Y) → ℕ → List X → List Y
+numbered_texts make n [] = []
+numbered_texts make n (x ∷ xs) = make n x ∷ numbered_texts make (suc n) xs
 
 -- what is made of the members at each place of both lists
 abbrev pub paired : {X Y Z : Type 0} → (X → Y → Z) → List X → List Y → List Z

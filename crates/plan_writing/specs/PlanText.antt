@@ -2,7 +2,7 @@
 use Rattle.std.specs.Prelude.{ℕ, List, [], ◌++◌, codes, decimal, Option, Some, None}
 use Rattle.combine_table.specs.declared.comb.Comb.{Comb}
 use Rattle.exec_graph.specs.declared.graph.Act.{Act}
-use Rattle.exec_plan.specs.Channels.{numbers}
+use Rattle.exec_plan.specs.Channels.{output_numbers_of}
 use Rattle.exec_plan.specs.declared.plan.PlanPlace.{PlanPlace}
 use Rattle.exec_plan.specs.declared.plan.Take.{Take}
 use Rattle.exec_plan.specs.declared.plan.InChannel.{InChannel}
@@ -14,7 +14,7 @@ use Rattle.exec_plan.specs.declared.plan.Stage.TheVariants.{Mscr, Flatten, Opera
 use Rattle.exec_plan.specs.declared.plan.Plan.{Plan}
 use Rattle.printing.specs.Printed.{quoted}
 use Rattle.plan_writing.specs.Acts.{act_text}
-use Rattle.plan_writing.specs.Lists.{one_text, numbered, paired, spaced}
+use Rattle.plan_writing.specs.Lists.{one_text, numbered_texts, paired, spaced}
 use Rattle.plan_writing.specs.Naming.{Naming, Written}
 use Rattle.plan_writing.specs.Places.{dotted, given_text, place_text, take_text}
 use Rattle.plan_writing.specs.Forests.{forest_text}
@@ -52,7 +52,7 @@ group_begin names number group =
 
 abbrev pub group_end : ℕ → Grouping → List ℕ
 group_end stage group =
-    codes " gives" ++ (spaced (given_text stage group) (numbers group.does) ++ codes "\n")
+    codes " gives" ++ (spaced (given_text stage group) (output_numbers_of group.does) ++ codes "\n")
 
 -- a grouping channel of a stage
 abbrev pub group_line : Naming → ℕ → ℕ → Grouping → List ℕ
@@ -100,8 +100,8 @@ operate_line names stage takes origin does =
 abbrev pub stage_text : Naming → ℕ → Stage → List ℕ
 stage_text names stage (Mscr mscr) =
     mscr_line stage
-    ++ (one_text (numbered (in_line names) 0 mscr.inputs)
-    ++ one_text (numbered (out_line names stage) 0 mscr.outputs))
+    ++ (one_text (numbered_texts (in_line names) 0 mscr.inputs)
+    ++ one_text (numbered_texts (out_line names stage) 0 mscr.outputs))
 stage_text names stage (Flatten takes) = flatten_line stage takes
 stage_text names stage (Operate takes origin last does) =
     operate_line names stage takes origin does
@@ -120,5 +120,5 @@ output_line output place =
 abbrev pub plan_text_of : Naming → Plan → List ℕ
 plan_text_of names plan =
     codes "plan\n"
-    ++ (one_text (numbered (stage_text names) 1 plan.stages)
+    ++ (one_text (numbered_texts (stage_text names) 1 plan.stages)
     ++ one_text (paired output_line names.outputs plan.outputs))

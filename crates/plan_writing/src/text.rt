@@ -1,6 +1,6 @@
 // The text of a plan: its stages, and the outputs of the script.
 ghost use Rattle.std.specs.Prelude.{◌≡◌, ◌++◌, ◌<◌, IfOk, OnOk, Some, length, slice_get};
-ghost use Rattle.plan_writing.specs.Lists.{one_text, numbered, paired};
+ghost use Rattle.plan_writing.specs.Lists.{one_text, numbered_texts, paired};
 ghost use Rattle.plan_writing.specs.Naming.{Written};
 ghost use Rattle.plan_writing.specs.PlanText as spec;
 
@@ -32,7 +32,7 @@ fn push_stages<N: Names>(
     stages: &[Stage],
 ) -> Result<(), AllocError>
     ensures { OnOk result (text.new.items ≡ text.old.items
-        ++ one_text (numbered (spec.stage_text (N.naming names.now)) 1 stages.now)) }
+        ++ one_text (numbered_texts (spec.stage_text (N.naming names.now)) 1 stages.now)) }
 {
     for (i, stage) in stages.iter().enumerate() {
         push_stage(alloc, text, names, i as u64 + 1, stage)?;
@@ -69,8 +69,9 @@ fn push_mscr<N: Names>(
 ) -> Result<(), AllocError>
     ensures { OnOk result (text.new.items ≡ text.old.items
         ++ (spec.mscr_line number
-        ++ (one_text (numbered (spec.in_line (N.naming names.now)) 0 mscr.now.inputs)
-        ++ one_text (numbered (spec.out_line (N.naming names.now) number) 0 mscr.now.outputs)))) }
+        ++ (one_text (numbered_texts (spec.in_line (N.naming names.now)) 0 mscr.now.inputs)
+        ++ one_text (numbered_texts (spec.out_line (N.naming names.now) number) 0
+        mscr.now.outputs)))) }
 {
     push_mscr_line(text, number)?;
     push_ins(text, names, mscr.inputs.as_slice())?;
@@ -87,7 +88,7 @@ fn push_mscr_line(text: &mut Vec<u8>, number: u64) -> Result<(), AllocError>
 
 fn push_ins<N: Names>(text: &mut Vec<u8>, names: &N, inputs: &[InChannel]) -> Result<(), AllocError>
     ensures { OnOk result (text.new.items ≡ text.old.items
-        ++ one_text (numbered (spec.in_line (N.naming names.now)) 0 inputs.now)) }
+        ++ one_text (numbered_texts (spec.in_line (N.naming names.now)) 0 inputs.now)) }
 {
     for (i, channel) in inputs.iter().enumerate() {
         push_in(text, names, i as u64, channel)?;
@@ -103,7 +104,7 @@ fn push_outs<N: Names>(
     outputs: &[OutChannel],
 ) -> Result<(), AllocError>
     ensures { OnOk result (text.new.items ≡ text.old.items
-        ++ one_text (numbered (spec.out_line (N.naming names.now) stage) 0 outputs.now)) }
+        ++ one_text (numbered_texts (spec.out_line (N.naming names.now) stage) 0 outputs.now)) }
 {
     for (i, channel) in outputs.iter().enumerate() {
         push_out(alloc, text, names, stage, i as u64, channel)?;

@@ -6,8 +6,8 @@ use Rattle.flume_value.specs.declared.value.Value.{Value, Value-F, fold-Value}
 
 -- a byte of a text as it stands between quotes: LF, tab, CR, `\` and `"` by their escapes, any
 -- other as it is
-abbrev pub escaped : ℕ → List ℕ
-escaped byte =
+abbrev pub printed_byte : ℕ → List ℕ
+printed_byte byte =
     if byte == 10 then codes "\\n"
     else if byte == 9 then codes "\\t"
     else if byte == 13 then codes "\\r"
@@ -17,7 +17,7 @@ escaped byte =
 
 -- a text in quotes
 abbrev pub quoted : List ℕ → List ℕ
-quoted text = codes "\"" ++ (flat_map escaped text ++ codes "\"")
+quoted text = codes "\"" ++ (flat_map printed_byte text ++ codes "\"")
 
 -- texts with a comma and a space between them
 abbrev pub listed : {X : Type 0} → (X → List ℕ) → List X → List ℕ

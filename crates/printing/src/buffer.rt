@@ -1,7 +1,7 @@
 // Texts that are made of pieces, and names in quotes, in a buffer.
 ghost use Rattle.std.specs.Prelude.{◌≡◌, ◌++◌, IfOk, OnOk};
 ghost use Rattle.std.specs.List.{flat_map};
-ghost use Rattle.printing.specs.Printed.{escaped, quoted};
+ghost use Rattle.printing.specs.Printed.{printed_byte, quoted};
 
 use crate::escape::escape_of;
 use std::alloc::{AllocError, Global};
@@ -18,7 +18,7 @@ pub fn joined(alloc: Global, pieces: &[&[u8]]) -> Result<Vec<u8>, AllocError>
 }
 
 fn push_escaped(text: &mut Vec<u8>, byte: u8) -> Result<(), AllocError>
-    ensures { OnOk result (text.new.items ≡ text.old.items ++ escaped byte) }
+    ensures { OnOk result (text.new.items ≡ text.old.items ++ printed_byte byte) }
 {
     match escape_of(byte) {
         Some(escape) => text.extend_from_slice(escape),

@@ -2,7 +2,7 @@
 ghost use Rattle.std.specs.Prelude.{◌++◌};
 ghost use Rattle.std.specs.List.{flat_map};
 ghost use Rattle.outside.specs.Says.{Says};
-ghost use Rattle.printing.specs.Printed.{escaped, quoted};
+ghost use Rattle.printing.specs.Printed.{printed_byte, quoted};
 
 use crate::escape::escape_of;
 use outside::{Failed, Screen, say, say_all};
@@ -33,7 +33,7 @@ pub(crate) fn say_quoted<P: Screen>(screen: &mut P, name: &[u8]) -> Result<(), F
 }
 
 fn say_escaped<P: Screen>(screen: &mut P, name: &[u8]) -> Result<(), Failed>
-    ensures { Says (flat_map escaped name.now) (P.seen screen.old) (P.seen screen.new) result }
+    ensures { Says (flat_map printed_byte name.now) (P.seen screen.old) (P.seen screen.new) result }
 {
     for byte in name {
         say_byte(screen, byte)?;
@@ -42,7 +42,7 @@ fn say_escaped<P: Screen>(screen: &mut P, name: &[u8]) -> Result<(), Failed>
 }
 
 fn say_byte<P: Screen>(screen: &mut P, byte: &u8) -> Result<(), Failed>
-    ensures { Says (escaped byte.now) (P.seen screen.old) (P.seen screen.new) result }
+    ensures { Says (printed_byte byte.now) (P.seen screen.old) (P.seen screen.new) result }
 {
     match escape_of(*byte) {
         Some(escape) => say(screen, escape),

@@ -6,7 +6,7 @@ use Rattle.outside.specs.declared.source.BeginFault.TheVariants.{Missing, Failed
 
 -- no file is there where the path's last part, or a folder on the way to it, is missing or no
 -- folder; any other error is a failure, that it is a folder itself among them
-abbrev pub fault_of : ErrorKind → BeginFault
-fault_of NotFound = Missing
-fault_of NotADirectory = Missing
-fault_of _ = Failed
+abbrev pub begin_fault : ErrorKind → BeginFault
+begin_fault NotFound = Missing
+begin_fault NotADirectory = Missing
+begin_fault _ = Failed

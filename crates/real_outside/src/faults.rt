@@ -52,7 +52,7 @@ impl FaultCount {
         ensures same { IfOk result (λ x. answer ≡ Ok x) }
         ensures ok { IsOk result ↔ IsOk answer }
         ensures fault { IfErr result (λ fault.
-            IfErr answer (λ e. fault ≡ spec.fault_of (error_kind e))) }
+            IfErr answer (λ e. fault ≡ spec.begin_fault (error_kind e))) }
         ensures failed { IsErrOf result BeginFault.Failed →
             self.new.count ≡ raised self.old.count }
         ensures kept { (IsErrOf result BeginFault.Failed → ⊥) → self.new.count ≡ self.old.count }
@@ -88,7 +88,7 @@ pub fn write_some<W: Write>(out: &mut W, piece: &[u8]) -> Option<usize>
 /// Which answer an error is: no file is there where the last part of the path, or a folder on the
 /// way to it, is missing or no folder; any other error is a failure.
 fn fault_of(kind: ErrorKind) -> BeginFault
-    ensures { result ≡ spec.fault_of kind }
+    ensures { result ≡ spec.begin_fault kind }
 {
     match kind {
         ErrorKind::NotFound | ErrorKind::NotADirectory => BeginFault::Missing,

@@ -11,7 +11,7 @@ use Rattle.crew.specs.declared.attempts.Attempt.{Attempt}
 use Rattle.crew.specs.declared.attempts.Attempt.TheVariants.{Made, Down}
 use Rattle.crew.specs.Attempts.{MadeHas}
 use Rattle.exec_graph.specs.World.{World}
-use Rattle.exec_plan.specs.Wellformed.{AreOutChannels, width}
+use Rattle.exec_plan.specs.Wellformed.{AreOutChannels, results_given}
 use Rattle.exec_plan.specs.declared.plan.Grouping.{Grouping}
 use Rattle.exec_plan.specs.declared.plan.InChannel.{InChannel}
 use Rattle.exec_plan.specs.declared.plan.OutChannel.{OutChannel}
@@ -35,7 +35,7 @@ groups_first ins n [] ok r g is = cc is
 groups_first ins n (Group h ∷ channels) ok zero g is =
     let same : h ≡ g = cc in ap (λ (c : Grouping). Some (Group c)) same
 groups_first ins n (Group h ∷ channels) ok (suc r) g is =
-    groups_first ins (n + width (Group h)) channels ok.1 r g is
+    groups_first ins (n + results_given (Group h)) channels ok.1 r g is
 groups_first ins n (Pass k i ∷ channels) ok r g is =
     let none : slice_get [] r ≡ Some g =
     sym (ap (λ (l : List Grouping). slice_get l r) (none_behind ins (n + 1) channels ok.1)) ∙ is in

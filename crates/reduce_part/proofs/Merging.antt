@@ -13,7 +13,7 @@ use Rattle.crew.specs.declared.attempts.Attempt.{Attempt}
 use Rattle.crew.specs.declared.attempts.Attempt.TheVariants.{Made, Down}
 use Rattle.crew.specs.Attempts.{MadeHas}
 use Rattle.exec_graph.specs.Calls.{called}
-use Rattle.exec_graph.specs.Forests.{Branch, Forest, Bare, after, grown, limb, numbered}
+use Rattle.exec_graph.specs.Forests.{Branch, Forest, Bare, next_after, grown, limb, numbered}
 use Rattle.exec_graph.specs.Wellformed.{root_comb}
 use Rattle.exec_graph.specs.World.{World}
 use Rattle.exec_graph.specs.declared.step.Does.{Does}
@@ -78,7 +78,7 @@ module _ (w : World) (c : Comb) (f : Forest) (b : Branch) (root : IsRoot c f b) 
 
     -- what the accumulators come to is what the groups come to
     module _ (sizes : List ℕ) (start : Given) (sized : sizes ≡ sizes_in f)
-        (fresh : start ≡ none_given (after 0 f) (outputs_in f)) (few : outputs_in f < 2 ^ 64)
+        (fresh : start ≡ none_given (next_after 0 f) (outputs_in f)) (few : outputs_in f < 2 ^ 64)
         (is : numbered 0 f ≡ f) where
       same_run : (groups : List Value) → AnswerFor w c merged groups
           → in_turn (map (run_partial w sizes b c) merged) start

@@ -8,7 +8,7 @@ use Rattle.flume_value.specs.declared.value.Value.{Value}
 use Rattle.bag_groups.specs.Pairs.{IsPair, parts_of}
 use Rattle.combine_table.specs.declared.comb.Comb.{Comb}
 use Rattle.shuffle_parts.specs.declared.out.MapOut.{MapOut}
-use Rattle.shuffle_parts.specs.Partitions.{falls_in, is_in, part_of}
+use Rattle.shuffle_parts.specs.Partitions.{falls_in, is_in_part, pairs_in_part}
 use Rattle.shuffle_parts.proofs.Passing.{grouped-passing}
 use Rattle.shuffle_parts.proofs.Whole.{part_own}
 use Rattle.exec_graph.specs.World.{World}
@@ -29,17 +29,17 @@ with_key : (f : Value → Bool) (o : Option (Value × Value))
 with_key f None h = cc h
 with_key f (Some parts) h = refl
 
-part_pairs : (n p : ℕ) (pairs : List Value) → All IsPair (part_of n p pairs)
+part_pairs : (n p : ℕ) (pairs : List Value) → All IsPair (pairs_in_part n p pairs)
 part_pairs n p pairs =
     All-weaker (λ pair. IsTrue (falls_in n p pair)) IsPair
-    (λ pair falls. with_key (is_in n p) (parts_of pair) falls) (part_of n p pairs)
+    (λ pair falls. with_key (is_in_part n p) (parts_of pair) falls) (pairs_in_part n p pairs)
     (part_own n p pairs)
 
 module _ (w : World) (n : Split) (t : Lists) (s : Mscr) (outs : List MapOut) (r : ℕ)
     (some : 0 < n.shards) (made : AreMapOuts w n t s outs) where
   -- the pairs of the partition, which the accumulators of a lifted channel stand for
   abbrev pub pairs_at : Grouping → ℕ → List Value
-  pairs_at g p = part_of n.partitions p (gathered w n t s.inputs g.takes)
+  pairs_at g p = pairs_in_part n.partitions p (gathered w n t s.inputs g.takes)
 
   gathered_by : (g : Grouping) (p : ℕ) → p < n.partitions
       → slice_get s.outputs r ≡ Some (Group g) → (lifted : Option Comb) → g.lifted ≡ lifted
@@ -59,7 +59,7 @@ module _ (w : World) (n : Split) (t : Lists) (s : Mscr) (outs : List MapOut) (r 
   pub task_is : (g : Grouping) (p : ℕ)
       → group_task g (pairs_at g p) ≡ reduce_task w n t s.inputs g p
   task_is g p =
-      let groups = grouped-passing (is_in n.partitions p) (gathered w n t s.inputs g.takes) in
+      let groups = grouped-passing (is_in_part n.partitions p) (gathered w n t s.inputs g.takes) in
       let of : List Value → Task = λ l. record { elements = l; beside = None; does = g.does } in
       ap of groups
 

@@ -11,9 +11,9 @@ use Rattle.written_types.specs.Answer.{◌>>=◌, or_fault, unless}
 use Rattle.written_types.specs.Named.{Named, fresh}
 use Rattle.written_types.specs.Written.{whole_type}
 use Rattle.script_program.specs.Limits.{most_collections, most_files}
-use Rattle.script_program.specs.Script.{Node, Script, State, nothing, script_from}
+use Rattle.script_program.specs.Script.{Node, Script, State, empty_state, script_from}
 use Rattle.script_program.specs.Script.{with_statement}
-use Rattle.script_rules.specs.Operations.{collection}
+use Rattle.script_rules.specs.Operations.{operand_named}
 use Rattle.script_rules.specs.Repeats.{unrolled}
 use Rattle.script_rules.specs.Rules as spec
 use Rattle.script_rules.proofs.CheckedLemmas.{both, ok-same}
@@ -58,7 +58,7 @@ rule_adds line s after (form.Repeat names written) e =
     (record { more = unrolled it.part.repeat; is = sym has.nodes })
 rule_adds line s after (form.Output name file) e =
     let few = both (spec.room line 1 most_files s.outputs) _ after e in
-    let one = both (collection line name s) _ after few.then in
+    let one = both (operand_named line name s) _ after few.then in
     let columns = both (or_fault line NotFlat (columns_of one.part.type)) _ after one.then in
     let new = both (fresh line file s.outputs) _ after columns.then in
     subst (Adds s) (ok-same _ after new.then) (record { more = []; is = append-nil s.nodes })
@@ -106,9 +106,9 @@ pub is_unrolled : (before after : List Statement) (line : ℕ) (names : List (Li
     → IsUnrolled before line names written script
 is_unrolled before after line names written script e =
     let all = before ++ let_repeat line names written ∷ after in
-    let s = both (spec.defined all nothing) _ script e in
+    let s = both (spec.defined all empty_state) _ script e in
     let some = both (unless 0 NoOutput (nat_lt 0 (length s.part.outputs))) _ script s.then in
-    let parts = parted before (let_repeat line names written ∷ after) nothing s.part s.first in
+    let parts = parted before (let_repeat line names written ∷ after) empty_state s.part s.first in
     let front = parts.middle in
     let next = both (spec.rule_repeat line names written front) _ s.part parts.there in
     let it = both (spec.repeated line names written front) _ next.part next.first in

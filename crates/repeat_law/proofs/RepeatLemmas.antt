@@ -13,7 +13,7 @@ use Rattle.direct_meaning.specs.Direct.{made_at, meaning}
 use Rattle.repeat_law.proofs.EquationLemmas.{as_long}
 use Rattle.repeat_law.proofs.TurnLemmas.{turns_agree}
 use Rattle.repeat_law.specs.Turns.{MeansTurns, turns_left}
-use Rattle.repeat_law.specs.Reading.{HasRepeat, IsClosedRepeat, number_in}
+use Rattle.repeat_law.specs.Reading.{HasRepeat, IsClosedRepeat, let_number}
 use Rattle.script_rules.specs.Repeats.{Repeat, last_gives, unrolled}
 use Rattle.script_laws.proofs.MemberLemmas.{in_first, in_second, in_taken, taken_length, within}
 
@@ -61,4 +61,4 @@ repeat_means script repeat well ok has inputs whole place number means at needed
     (λ p n is needed_too. from_means whole repeat.from p n is)
     (length-map repeat.from (made_at whole)) place number at needed
     ∙ ap (λ (n : ℕ). made_at
-    (turns_left script.functions (number_in repeat) repeat outside n 1 entered) place) left
+    (turns_left script.functions (let_number repeat) repeat outside n 1 entered) place) left

@@ -12,13 +12,13 @@ use Rattle.script_program.specs.Needed.{operands}
 use Rattle.script_program.specs.Script.{Script}
 use Rattle.script_laws.specs.WellFormed.{function_at}
 use Rattle.script_laws.proofs.FitLemmas.{itself}
-use Rattle.direct_meaning.specs.Direct.{all_made, combined_by, counted_by, done_by, joined_by}
+use Rattle.direct_meaning.specs.Direct.{all_made, combined_by, counted_by, done_by, joined_collections}
 use Rattle.direct_meaning.specs.Direct.{made_as, made_at, top_by}
 use Rattle.direct_meaning.specs.Calls.{answer_of}
 use Rattle.direct_meaning.specs.Objects.{combined_whole, done_beside, operated_by}
-use Rattle.repeat_law.specs.Turns.{only}
+use Rattle.repeat_law.specs.Turns.{functions_alone}
 use Rattle.repeat_law.specs.Reading.{ReadsInFront}
-use Rattle.script_rules.specs.Repeats.{renumbered}
+use Rattle.script_rules.specs.Repeats.{made_from_others}
 
 -- from no file, and from nothing that is kept
 abbrev pub FromNoFile : Made → Type 0
@@ -40,8 +40,8 @@ module _ (to : ℕ → ℕ) (here there : List (Option Collection)) where
   pub same_made : (script : Script) (number : ℕ) (how : Made) (inputs : List (List Value))
       → FromNoFile how
       → ((n : ℕ) → Contains (operands how) n → made_at here (to n) ≡ made_at there n)
-      → made_as script number (renumbered to how) inputs here
-      ≡ made_as (only script.functions) number how [] there
+      → made_as script number (made_from_others to how) inputs here
+      ≡ made_as (functions_alone script.functions) number how [] there
   same_made script number (made.Input file columns) inputs none same = absurd none
   same_made script number (made.Do source called output) inputs none same =
       let first = same source (at_head source []) in
@@ -60,7 +60,7 @@ module _ (to : ℕ → ℕ) (here there : List (Option Collection)) where
       let first = same left (at_head left (right_ ∷ [])) in
       let second =
       same right_ (at_tail left (right_ ∷ []) right_ (at_head right_ [])) in
-      λ i. option_and_then (λ a. option_map (joined_by a) (second i)) (first i)
+      λ i. option_and_then (λ a. option_map (joined_collections a) (second i)) (first i)
   same_made script number (made.Top many source) inputs none same =
       ap (option_map (top_by many)) (same source (at_head source []))
   same_made script number (made.CombineAll source by) inputs none same =
@@ -99,13 +99,13 @@ let_no_file place front (made.Saved is_object call) is = absurd is
 let_no_file place front _ is = tt
 
 pub renumbered_no_file : (to : ℕ → ℕ) (how : Made) → FromNoFile how
-    → FromNoFile (renumbered to how)
+    → FromNoFile (made_from_others to how)
 renumbered_no_file to (made.Input file columns) is = absurd is
 renumbered_no_file to (made.Saved is_object call) is = absurd is
 renumbered_no_file to _ is = tt
 
 pub renumbered_reads : (to : ℕ → ℕ) (how : Made)
-    → operands (renumbered to how) ≡ map to (operands how)
+    → operands (made_from_others to how) ≡ map to (operands how)
 renumbered_reads to (made.Input file columns) = refl
 renumbered_reads to _ = refl
 

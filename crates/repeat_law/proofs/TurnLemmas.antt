@@ -18,10 +18,10 @@ use Rattle.direct_meaning.specs.Direct.{made_as, made_at, meaning}
 use Rattle.repeat_law.proofs.EquationLemmas.{equation, reads}
 use Rattle.repeat_law.proofs.SameLemmas.{let_no_file, let_reads, renumbered_no_file}
 use Rattle.repeat_law.proofs.SameLemmas.{renumbered_reads, same_made}
-use Rattle.repeat_law.specs.Turns.{one, only, turns_left, with_lets}
+use Rattle.repeat_law.specs.Turns.{turn_over, functions_alone, turns_left, with_lets}
 use Rattle.direct_meaning.proofs.PlaceLemmas.{mapped_has}
-use Rattle.repeat_law.specs.Reading.{EachReadsInFront, ReadsInFront, IsClosedRepeat, in_front, number_in}
-use Rattle.script_rules.specs.Repeats.{Repeat, copied, gives_left, nodes_left, seen}
+use Rattle.repeat_law.specs.Reading.{EachReadsInFront, ReadsInFront, IsClosedRepeat, in_front, let_number}
+use Rattle.script_rules.specs.Repeats.{Repeat, copied_let, gives_left, nodes_left, seen}
 use Rattle.script_rules.specs.Repeats.{turn_gives, turn_nodes, turn_to}
 use Rattle.script_laws.proofs.MemberLemmas.{at_end, in_first, in_second, of_mapped, within}
 use Rattle.script_laws.proofs.StandLemmas.{seen_entering, seen_let, stands_inside}
@@ -44,7 +44,7 @@ module _ (script : Script) (well : IsWellFormed script) (inputs : List (List Val
   -- ---- one turn
 
   module _ (turn : ℕ) (entering : List ℕ) (start : ℕ)
-      (origin : (place : ℕ) → number_in repeat turn place ≡ start + place)
+      (origin : (place : ℕ) → let_number repeat turn place ≡ start + place)
       (many : length entering ≡ length repeat.from) where
     abbrev to : ℕ → ℕ
     to = turn_to repeat entering start
@@ -98,13 +98,13 @@ module _ (script : Script) (well : IsWellFormed script) (inputs : List (List Val
     module _ (place : ℕ) (entry : List ℕ × Node) (table : List (Option Collection))
         (inner : place < length repeat.body) (long : length table ≡ in_front repeat + place)
         (is_let : ReadsInFront place (length table) entry.1.made)
-        (there : slice_get script.nodes (start + place) ≡ Some (copied turn to entry))
+        (there : slice_get script.nodes (start + place) ≡ Some (copied_let turn to entry))
         (agrees : Agrees table) where
       abbrev how : Made
       how = entry.1.made
 
       abbrev last : Option Collection
-      last = made_as (only script.functions) (number_in repeat turn place) how [] table
+      last = made_as (functions_alone script.functions) (let_number repeat turn place) how [] table
 
       stands_last : to (length table) ≡ start + place
       stands_last =
@@ -118,19 +118,20 @@ module _ (script : Script) (well : IsWellFormed script) (inputs : List (List Val
           → made_at whole (to n) ≡ made_at table n
       reads_same needed n has =
           agrees n (let_reads place (length table) how is_let n has)
-          (reads script well (start + place) (copied turn to entry) there needed (to n)
+          (reads script well (start + place) (copied_let turn to entry) there needed (to n)
           (subst (λ (l : List ℕ). Contains l (to n)) (sym (renumbered_reads to how))
           (mapped_has to (operands how) n has)))
 
       last_made : is_needed script (start + place) ≡ true
           → made_at whole (start + place) ≡ last
       last_made needed =
-          equation script well inputs whole means (start + place) (copied turn to entry) there
+          equation script well inputs whole means (start + place) (copied_let turn to entry) there
           needed
           (renumbered_no_file to how (let_no_file place (length table) how is_let))
           ∙ (same_made to whole table script (start + place) how []
           (let_no_file place (length table) how is_let) (reads_same needed)
-          ∙ ap (λ (n : ℕ). made_as (only script.functions) n how [] table) (sym (origin place)))
+          ∙ ap (λ (n : ℕ). made_as (functions_alone script.functions) n how [] table)
+          (sym (origin place)))
 
       let_agrees : Agrees (table ++ last ∷ [])
       let_agrees number below =
@@ -151,11 +152,13 @@ module _ (script : Script) (well : IsWellFormed script) (inputs : List (List Val
     made_of_all lets = map (λ entry. entry.1.made) lets
 
     lets_long : (lets : Named Node) (place : ℕ) (table : List (Option Collection))
-        → length (with_lets script.functions (number_in repeat turn) place (made_of_all lets) table)
+        → length (with_lets script.functions (let_number repeat turn) place (made_of_all lets)
+        table)
         ≡ length table + length lets
     lets_long [] place table = omega arith
     lets_long (entry ∷ lets) place table =
-        let last = made_as (only script.functions) (number_in repeat turn place) entry.1.made []
+        let last =
+        made_as (functions_alone script.functions) (let_number repeat turn place) entry.1.made []
         table in
         let rest = lets_long lets (suc place) (table ++ last ∷ []) in
         let longer = length-append table (last ∷ []) in
@@ -166,12 +169,14 @@ module _ (script : Script) (well : IsWellFormed script) (inputs : List (List Val
         → front ≡ length table
         → EachReadsInFront place front (made_of_all lets)
         → ((i : ℕ) (entry : List ℕ × Node) → slice_get lets i ≡ Some entry
-        → slice_get script.nodes (start + (place + i)) ≡ Some (copied turn to entry))
+        → slice_get script.nodes (start + (place + i)) ≡ Some (copied_let turn to entry))
         → Agrees table
-        → Agrees (with_lets script.functions (number_in repeat turn) place (made_of_all lets) table)
+        → Agrees (with_lets script.functions (let_number repeat turn) place (made_of_all lets)
+        table)
     lets_agree [] place front table last long fronts are there agrees = agrees
     lets_agree (entry ∷ lets) place front table inner long fronts are there agrees =
-        let last = made_as (only script.functions) (number_in repeat turn place) entry.1.made []
+        let last =
+        made_as (functions_alone script.functions) (let_number repeat turn place) entry.1.made []
         table in
         let longer = length-append table (last ∷ []) in
         let first : start + (place + 0) ≡ start + place = omega arith in
@@ -203,11 +208,11 @@ module _ (script : Script) (well : IsWellFormed script) (inputs : List (List Val
     turn_agrees : (entered : List (Option Collection)) → Means entering entered
         → length entered ≡ length entering → IsClosedRepeat repeat
         → ((i : ℕ) (entry : List ℕ × Node) → slice_get repeat.body i ≡ Some entry
-        → slice_get script.nodes (start + i) ≡ Some (copied turn to entry))
+        → slice_get script.nodes (start + i) ≡ Some (copied_let turn to entry))
         → Means (turn_gives repeat entering start)
-        (one script.functions (number_in repeat) repeat outside turn entered)
+        (turn_over script.functions (let_number repeat) repeat outside turn entered)
     turn_agrees entered is same ok there =
-        let table = with_lets script.functions (number_in repeat turn) 0 (lets_of repeat)
+        let table = with_lets script.functions (let_number repeat turn) 0 (lets_of repeat)
         (outside ++ entered) in
         let long = length-append outside entered in
         let whole_long = lets_long repeat.body 0 (outside ++ entered) in
@@ -223,15 +228,15 @@ module _ (script : Script) (well : IsWellFormed script) (inputs : List (List Val
 
   -- ---- all turns
 
-  next_start : (turn start : ℕ) → ((place : ℕ) → number_in repeat (suc turn) place ≡ start + place)
+  next_start : (turn start : ℕ) → ((place : ℕ) → let_number repeat (suc turn) place ≡ start + place)
       → (place : ℕ)
-      → number_in repeat (suc (suc turn)) place ≡ start + length repeat.body + place
+      → let_number repeat (suc (suc turn)) place ≡ start + length repeat.body + place
   next_start turn start origin place =
-      let this : number_in repeat (suc turn) place
+      let this : let_number repeat (suc turn) place
       ≡ repeat.outside + turn * length repeat.body + place
       = ap (λ (t : ℕ). repeat.outside + t * length repeat.body + place)
       (let t : suc turn - 1 ≡ turn = omega arith in t) in
-      let next : number_in repeat (suc (suc turn)) place
+      let next : let_number repeat (suc (suc turn)) place
       ≡ repeat.outside + suc turn * length repeat.body + place
       = ap (λ (t : ℕ). repeat.outside + t * length repeat.body + place)
       (let t : suc (suc turn) - 1 ≡ suc turn = omega arith in t) in
@@ -241,7 +246,7 @@ module _ (script : Script) (well : IsWellFormed script) (inputs : List (List Val
       ∙ added repeat.outside (turn * length repeat.body) (length repeat.body) place start now)
 
   pub turns_agree : IsClosedRepeat repeat → (left turn : ℕ) (entering : List ℕ) (start : ℕ)
-      → ((place : ℕ) → number_in repeat (suc turn) place ≡ start + place)
+      → ((place : ℕ) → let_number repeat (suc turn) place ≡ start + place)
       → length entering ≡ length repeat.from
       → ((i : ℕ) (entry : List ℕ × Node)
       → slice_get (nodes_left repeat left (suc turn) entering start) i ≡ Some entry
@@ -249,14 +254,14 @@ module _ (script : Script) (well : IsWellFormed script) (inputs : List (List Val
       → (entered : List (Option Collection)) → Means entering entered
       → length entered ≡ length entering
       → Means (gives_left repeat left entering start)
-      (turns_left script.functions (number_in repeat) repeat outside left (suc turn) entered)
+      (turns_left script.functions (let_number repeat) repeat outside left (suc turn) entered)
   turns_agree ok zero turn entering start origin many there entered is same = is
   turns_agree ok (suc left) turn entering start origin many there entered is same =
       let to_now = turn_to repeat entering start in
       let nodes = turn_nodes repeat entering start (suc turn) in
       let later = nodes_left repeat left (suc (suc turn)) (turn_gives repeat entering start)
       (start + length repeat.body) in
-      let long = length-map repeat.body (copied (suc turn) to_now) in
+      let long = length-map repeat.body (copied_let (suc turn) to_now) in
       let given = length-map repeat.gives to_now in
       turns_agree ok left (suc turn) (turn_gives repeat entering start)
       (start + length repeat.body) (next_start turn start origin) (given ∙ ok.many)
@@ -267,13 +272,13 @@ module _ (script : Script) (well : IsWellFormed script) (inputs : List (List Val
       ∙ there (length nodes + i) entry
       (in_second nodes later (length nodes + i) (omega arith)
       ∙ (ap (slice_get later) back ∙ at)))
-      (one script.functions (number_in repeat) repeat outside (suc turn) entered)
+      (turn_over script.functions (let_number repeat) repeat outside (suc turn) entered)
       (turn_agrees (suc turn) entering start origin many entered is same ok
       (λ i entry at.
-      let inner = of_mapped (copied (suc turn) to_now) repeat.body i entry at in
-      there i (copied (suc turn) to_now entry)
-      (in_first nodes later i (within nodes i (copied (suc turn) to_now entry) inner) ∙ inner)))
+      let inner = of_mapped (copied_let (suc turn) to_now) repeat.body i entry at in
+      there i (copied_let (suc turn) to_now entry)
+      (in_first nodes later i (within nodes i (copied_let (suc turn) to_now entry) inner) ∙ inner)))
       (length-map repeat.gives
-      (made_at (with_lets script.functions (number_in repeat (suc turn)) 0 (lets_of repeat)
+      (made_at (with_lets script.functions (let_number repeat (suc turn)) 0 (lets_of repeat)
       (outside ++ entered)))
       ∙ sym given)

@@ -7,7 +7,7 @@ use Rattle.flume_grammar.specs.declared.tree.Statement.{Statement}
 use Rattle.written_types.specs.Named.{Named}
 use Rattle.script_program.specs.declared.made.Made.{Made}
 use Rattle.script_program.specs.declared.made.Made.TheVariants as made
-use Rattle.script_program.specs.Script.{Node, Script, State, nothing}
+use Rattle.script_program.specs.Script.{Node, Script, State, empty_state}
 use Rattle.script_rules.specs.Repeats.{Repeat, unrolled}
 use Rattle.script_rules.specs.Rules.{Repeated, defined, repeated}
 use Rattle.script_laws.specs.Fitting.{lets_of}
@@ -51,8 +51,8 @@ pub record IsClosedRepeat (repeat : Repeat) : Type 0 where
 -- ---- where its turns stand
 
 -- the number of the let at that place of the body, in that turn
-abbrev pub number_in : Repeat → ℕ → ℕ → ℕ
-number_in repeat turn place = repeat.outside + (turn - 1) * length repeat.body + place
+abbrev pub let_number : Repeat → ℕ → ℕ → ℕ
+let_number repeat turn place = repeat.outside + (turn - 1) * length repeat.body + place
 
 -- a script has the turns of a repeat behind the collections that stand outside it
 pub record HasRepeat (script : Script) (repeat : Repeat) : Type 0 where
@@ -70,7 +70,7 @@ let_repeat line names written = record { line = line; form = form.Repeat names w
 pub record IsUnrolled (statements : List Statement) (line : ℕ) (names : List (List ℕ))
     (written : WrittenRepeat) (script : Script) : Type 0 where
   pub front : State
-  pub defines : defined statements nothing ≡ Ok front
+  pub defines : defined statements empty_state ≡ Ok front
   pub it : Repeated
   pub rules : repeated line names written front ≡ Ok it
   pub reads : IsClosedRepeat it.repeat

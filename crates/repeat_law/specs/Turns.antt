@@ -12,11 +12,11 @@ use Rattle.script_program.specs.Script.{Function, Script}
 use Rattle.script_rules.specs.Repeats.{Repeat, last_gives}
 use Rattle.script_laws.specs.Fitting.{lets_of}
 use Rattle.direct_meaning.specs.Direct.{made_as, made_at, meaning}
-use Rattle.repeat_law.specs.Reading.{number_in}
+use Rattle.repeat_law.specs.Reading.{let_number}
 
 -- these functions, and nothing else
-abbrev pub only : Named Function → Script
-only functions = record { functions = functions; nodes = []; outputs = [] }
+abbrev pub functions_alone : Named Function → Script
+functions_alone functions = record { functions = functions; nodes = []; outputs = [] }
 
 -- the collections of lets, the first of which has that place in the body, behind those in front
 abbrev pub with_lets : Named Function → (ℕ → ℕ) → ℕ → List Made → List (Option Collection)
@@ -24,13 +24,13 @@ abbrev pub with_lets : Named Function → (ℕ → ℕ) → ℕ → List Made �
 with_lets functions origin place [] table = table
 with_lets functions origin place (how ∷ lets) table =
     with_lets functions origin (suc place) lets
-    (table ++ made_as (only functions) (origin place) how [] table ∷ [])
+    (table ++ made_as (functions_alone functions) (origin place) how [] table ∷ [])
 
 module _ (functions : Named Function) (origin : ℕ → ℕ → ℕ) (repeat : Repeat)
     (outside : List (Option Collection)) where
   -- what one turn gives: the direct meaning of the body's lets, over what enters the turn
-  abbrev pub one : ℕ → List (Option Collection) → List (Option Collection)
-  one turn entering =
+  abbrev pub turn_over : ℕ → List (Option Collection) → List (Option Collection)
+  turn_over turn entering =
       map
       (made_at (with_lets functions (origin turn) 0 (lets_of repeat) (outside ++ entering)))
       repeat.gives
@@ -38,7 +38,7 @@ module _ (functions : Named Function) (origin : ℕ → ℕ → ℕ) (repeat : R
   -- so many turns, the first of which has that number
   abbrev pub turns_left : ℕ → ℕ → List (Option Collection) → List (Option Collection)
   turns_left zero turn entering = entering
-  turns_left (suc left) turn entering = turns_left left (suc turn) (one turn entering)
+  turns_left (suc left) turn entering = turns_left left (suc turn) (turn_over turn entering)
 
   -- the turns of these numbers, from the first to the last
   abbrev pub turns : ℕ → ℕ → List (Option Collection) → List (Option Collection)
@@ -55,6 +55,6 @@ MeansTurns script repeat =
     → IsTrue (is_needed script number)
     → made_at made number
     ≡ made_at
-    (turns script.functions (number_in repeat) repeat (take repeat.outside made) 1 repeat.turns
+    (turns script.functions (let_number repeat) repeat (take repeat.outside made) 1 repeat.turns
     (map (made_at made) repeat.from))
     place

@@ -8,10 +8,10 @@ use Rattle.written_types.specs.Named.{Named}
 use Rattle.script_program.specs.declared.made.Made.{Made}
 use Rattle.script_program.specs.declared.made.Made.TheVariants as made
 use Rattle.script_program.specs.Script.{Node}
-use Rattle.script_rules.specs.Repeats.{Repeat, in_turn}
+use Rattle.script_rules.specs.Repeats.{Repeat, name_in_turn}
 
-abbrev pub ints : Made → Node
-ints how = record { made = how; type = ty.Int; statement = 1 }
+abbrev pub int_node : Made → Node
+int_node how = record { made = how; type = ty.Int; statement = 1 }
 
 -- `let t = repeat 3 from a as c { let d = .. give d }`, where `a` is all that stands outside: the
 -- body's order is a, c, d
@@ -20,7 +20,7 @@ three_of how = record {
   outside = 1;
   turns = 3;
   from = 0 ∷ [];
-  body = (codes "d", ints how) ∷ [];
+  body = (codes "d", int_node how) ∷ [];
   gives = 2 ∷ [];
 }
 
@@ -30,8 +30,9 @@ calls = three_of (made.Do 1 0 0)
 
 abbrev pub called_nodes : Named Node
 called_nodes =
-    (in_turn 1 (codes "d"), ints (made.Do 0 0 0)) ∷ (in_turn 2 (codes "d"), ints (made.Do 1 0 0))
-    ∷ (in_turn 3 (codes "d"), ints (made.Do 2 0 0)) ∷ []
+    (name_in_turn 1 (codes "d"), int_node (made.Do 0 0 0)) ∷
+    (name_in_turn 2 (codes "d"), int_node (made.Do 1 0 0))
+    ∷ (name_in_turn 3 (codes "d"), int_node (made.Do 2 0 0)) ∷ []
 
 -- `flatten c, c`
 abbrev pub doubles : Repeat
@@ -39,9 +40,9 @@ doubles = three_of (made.Flatten (1 ∷ 1 ∷ []))
 
 abbrev pub doubled_nodes : Named Node
 doubled_nodes =
-    (in_turn 1 (codes "d"), ints (made.Flatten (0 ∷ 0 ∷ [])))
-    ∷ (in_turn 2 (codes "d"), ints (made.Flatten (1 ∷ 1 ∷ [])))
-    ∷ (in_turn 3 (codes "d"), ints (made.Flatten (2 ∷ 2 ∷ []))) ∷ []
+    (name_in_turn 1 (codes "d"), int_node (made.Flatten (0 ∷ 0 ∷ [])))
+    ∷ (name_in_turn 2 (codes "d"), int_node (made.Flatten (1 ∷ 1 ∷ [])))
+    ∷ (name_in_turn 3 (codes "d"), int_node (made.Flatten (2 ∷ 2 ∷ []))) ∷ []
 
 -- so many sevens
 abbrev pub sevens : ℕ → List (Option Collection)

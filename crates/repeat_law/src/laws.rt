@@ -9,13 +9,13 @@ ghost use Rattle.flume_grammar.specs.declared.tree.Statement.{Statement};
 ghost use Rattle.written_types.specs.Named.{Named};
 ghost use Rattle.script_program.specs.Needed.{is_needed};
 ghost use Rattle.script_program.specs.Script.{Function, Node, Script, State};
-ghost use Rattle.script_rules.specs.Repeats.{Repeat, in_turn, last_gives, unrolled};
+ghost use Rattle.script_rules.specs.Repeats.{Repeat, name_in_turn, last_gives, unrolled};
 ghost use Rattle.script_rules.specs.Rules.{Repeated, repeated, script_of};
 ghost use Rattle.script_laws.specs.Fitting.{RepeatFits};
 ghost use Rattle.script_laws.specs.WellFormed.{AllFit, IsWellFormed};
 ghost use Rattle.direct_meaning.specs.Direct.{made_at, meaning};
-ghost use Rattle.repeat_law.specs.Reading.{HasRepeat, IsClosedRepeat, IsUnrolled, let_repeat, number_in};
-ghost use Rattle.repeat_law.specs.Turns.{MeansTurns, one, turns};
+ghost use Rattle.repeat_law.specs.Reading.{HasRepeat, IsClosedRepeat, IsUnrolled, let_repeat, let_number};
+ghost use Rattle.repeat_law.specs.Turns.{MeansTurns, turn_over, turns};
 ghost use Rattle.repeat_law.specs.Worked.{called_nodes, calls, doubled_nodes, doubles, sevens};
 
 /// The body of a repeat is checked once: what the rules accept fits, it then reads what stands in
@@ -42,7 +42,7 @@ pub fn turns_law()
         (entering : List (Option Collection)) → turn ≤ last →
         turns functions origin repeat outside turn last entering
         ≡ turns functions origin repeat outside (suc turn) last
-        (one functions origin repeat outside turn entering) }
+        (turn_over functions origin repeat outside turn entering) }
 {}
 
 /// In the meaning of a script each needed collection that the last turn of a repeat gives is what
@@ -65,10 +65,10 @@ pub fn origin_law()
         HasRepeat script repeat → 1 ≤ turn → turn ≤ repeat.turns →
         slice_get repeat.body place ≡ Some entry →
         option_map (λ (node : List ℕ × Node). node.0)
-        (slice_get script.nodes (number_in repeat turn place))
-        ≡ Some (in_turn turn entry.0) }
+        (slice_get script.nodes (let_number repeat turn place))
+        ≡ Some (name_in_turn turn entry.0) }
     ensures first { (repeat : Repeat) (turn place output : ℕ) → output ≤ place →
-        number_in repeat turn place - output ≡ number_in repeat turn (place - output) }
+        let_number repeat turn place - output ≡ let_number repeat turn (place - output) }
 {}
 
 /// Three calls one after another, and a collection put together with itself three times.
@@ -76,5 +76,5 @@ pub fn worked_law()
     ensures calls { unrolled calls ≡ called_nodes }
     ensures gives { last_gives calls ≡ 3 ∷ [] }
     ensures doubles { unrolled doubles ≡ doubled_nodes }
-    ensures eight { turns [] (number_in doubles) doubles (sevens 1) 1 3 (sevens 1) ≡ sevens 8 }
+    ensures eight { turns [] (let_number doubles) doubles (sevens 1) 1 3 (sevens 1) ≡ sevens 8 }
 {}

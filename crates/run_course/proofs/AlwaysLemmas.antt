@@ -20,7 +20,7 @@ use Rattle.script_loading.specs.Loads.{AllHaveRows}
 use Rattle.run_course.specs.Asked.{AskFor, IsAskedFor, AskOn, inputs_read, plan_read}
 use Rattle.run_course.specs.Plans.{HasPlan, IsPlanFor}
 use Rattle.run_course.specs.Promises.{IsUnlessFailed}
-use Rattle.run_course.specs.World.{World}
+use Rattle.run_course.specs.Outside.{Outside}
 use Rattle.run_course.specs.Written.{IsMeant, IsWritten, CollectionTable, Writes}
 use Rattle.run_course.proofs.ReadLemmas.{Told, Words}
 use Rattle.run_course.proofs.StopLemmas.{Stops, asked_some, input_stops, no_file_stops, no_run, one_stop, plan_stops, script_stops, too_long_stops}
@@ -85,7 +85,7 @@ trap_rows words told (Run s from) script rows table olds news trap reads meant t
     read_of words told (Run s from) script rows reads meant.inputs
     (has_plan told script from tells.1.0 tells.1.1)
 
-trap_read : (words : Words) (before after : World) (origin : ℕ) (kind : Kind) (element : Value)
+trap_read : (words : Words) (before after : Outside) (origin : ℕ) (kind : Kind) (element : Value)
     → IsTrap origin kind element words before after → HasRead words before.source.files
 trap_read words before after origin kind element it =
     trap_rows words before.source.files it.0 it.1 it.2 it.3 before.hosts after.hosts
@@ -105,7 +105,7 @@ not_stopped words told wanted tells stops read =
     absurd (no_run words told wanted read.command read.script read.rows tells stops read.reads
     read.inputs read.plan)
 
-pub always : (words : Words) (before after : World) (status wanted : Status)
+pub always : (words : Words) (before after : Outside) (status wanted : Status)
     → IsSome before.source.files → Stops words before.source.files wanted
     → Answers words before after status → IsUnlessFailed wanted status
 always words before after Done wanted tells stops answers =
@@ -161,7 +161,7 @@ none_turn words told command name limit none (inr (inl asked)) =
 none_turn words told command name limit none (inr (inr asked)) =
     none_asked words command asked.1.1.0 none asked.1.1.2
 
-pub always_usage : (words : Words) (before after : World) (status : Status) → IsUsage words
+pub always_usage : (words : Words) (before after : Outside) (status : Status) → IsUsage words
     → Answers words before after status → IsUnlessFailed Usage status
 always_usage words before after Usage none answers = refl
 always_usage words before after WantOfMemory none answers = tt

@@ -20,7 +20,7 @@ use Rattle.script_loading.specs.Loads.{AllHaveRows, IsAbove, IsMissing, Loads}
 use Rattle.run_course.specs.Asked.{AskFor, IsAskedFor, IsPlanTurn, IsTurnOf, AskOn, inputs_read, tries_of}
 use Rattle.run_course.specs.Lent.{lent}
 use Rattle.run_course.specs.Plans.{IsFileCause, IsPlanFor}
-use Rattle.run_course.specs.World.{World}
+use Rattle.run_course.specs.Outside.{Outside}
 use Rattle.run_course.specs.Written.{IsMeant, IsWritten, Writes}
 use Rattle.script_loading.specs.Limits.{script_limit, input_limit, plan_limit}
 use Rattle.run_course.specs.declared.stop.Stop.{Stop}
@@ -241,7 +241,7 @@ no_plan_stop s (Some name) before middle after olds news script rows status told
 -- ---- the answer
 
 -- what a call that came to its writing answers
-pub delivered : (words : Words) (before after : World) (files : List NamedBytes) (text : List ℕ)
+pub delivered : (words : Words) (before after : Outside) (files : List NamedBytes) (text : List ℕ)
     (status : Status) → IsWritten words before.source.files before.hosts after.hosts files text
     → Delivers files text before.shelf after.shelf before.screen after.screen status
     → Answers words before after status
@@ -253,7 +253,7 @@ delivered words before after files text (WriteFault Screen) writes left =
 delivered words before after files text _ writes left = absurd left
 
 -- what a call that was refused answers
-refusal : (words : Words) (before after : World) (status : Status)
+refusal : (words : Words) (before after : Outside) (status : Status)
     → IsCause words before.source after.source before.hosts after.hosts status
     → IsRefused status before after
     → Answers words before after status
@@ -263,7 +263,7 @@ refusal words before after (Trap origin kind element) cause left = absurd cause
 refusal words before after _ cause left = (cause, left)
 
 -- what a call answers whose script has this trap
-trapped : (words : Words) (before after : World) (trap : Trapped)
+trapped : (words : Words) (before after : Outside) (trap : Trapped)
     → HasTrap words before.source.files before.hosts after.hosts trap → after.shelf ≡ before.shelf
     → HasLine (trap_line trap.name trap.trap.kind trap.trap.element) before.screen after.screen
     → Answers words before after (Trap trap.trap.origin trap.trap.kind trap.trap.element)
@@ -271,7 +271,7 @@ trapped words before after trap has shelf line =
     (has.0, has.1, has.2, has.3, trap.name, has.4, has.5, has.6, has.7, shelf, line)
 
 -- what a call answers that this stops
-pub stopped : (words : Words) (before after : World) (why : Stop) (status : Status)
+pub stopped : (words : Words) (before after : Outside) (why : Stop) (status : Status)
     → IsStopped words before.source after.source before.hosts after.hosts why
     → TellsStop why before.screen after.screen status → after.shelf ≡ before.shelf
     → Answers words before after status

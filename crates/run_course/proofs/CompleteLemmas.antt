@@ -25,7 +25,7 @@ use Rattle.script_loading.specs.Loads.{AllHaveRows}
 use Rattle.run_course.specs.Asked.{IsAskedFor, AskOn, inputs_read, tries_of}
 use Rattle.run_course.specs.Lent.{lent}
 use Rattle.run_course.specs.Promises.{CanEnd, CanRun, EndsAs, EndsWith, IsEnd, IsShelfCalm}
-use Rattle.run_course.specs.World.{World}
+use Rattle.run_course.specs.Outside.{Outside}
 use Rattle.run_course.specs.Written.{IsThrough, CollectionTable, Writes}
 use Rattle.run_course.proofs.AlwaysLemmas.{none_asked}
 use Rattle.run_course.proofs.GivenUpLemmas.{not_given_up}
@@ -49,7 +49,7 @@ through_end words told c d p q rows others front text files table tells reads re
   done_end (traps_of table) t.through,
 )
 
-done_as : (words : Words) (before after : World) (c d : Command) (p q : Script)
+done_as : (words : Words) (before after : Outside) (c d : Command) (p q : Script)
     (rows : List (List Value)) (files : List NamedBytes) (text : List ℕ)
     → CanRun words before after c p rows → AskOn words before.source.files d q
     → Writes c before.source.files before.hosts after.hosts q files text → EndsAs c p rows Done
@@ -80,7 +80,7 @@ told_end Direct told script rows olds news traps origin kind element trap tells 
 told_end (Run s from) told script rows olds news traps origin kind element trap tells =
     trapped_end traps origin kind element trap tells.0
 
-trapped_meaning : (words : Words) (before after : World) (c : Command) (p : Script)
+trapped_meaning : (words : Words) (before after : Outside) (c : Command) (p : Script)
     (rows : List (List Value)) (origin : ℕ) (kind : Kind) (element : Value)
     → IsSome before.source.files → AskOn words before.source.files c p
     → AllHaveRows before.source.files (inputs_of p) rows
@@ -95,7 +95,7 @@ trapped_meaning words before after c p rows origin kind element tells reads inpu
 )
 
 -- a trap is told by a command that may tell it
-told_by : (words : Words) (before after : World) (c : Command) (p : Script) (origin : ℕ)
+told_by : (words : Words) (before after : Outside) (c : Command) (p : Script) (origin : ℕ)
     (kind : Kind) (element : Value) → AskOn words before.source.files c p
     → (it : IsTrap origin kind element words before after)
     → MayTell c before.source.files it.1 it.2 before.hosts after.hosts (traps_of it.3)
@@ -110,7 +110,7 @@ told_by words before after command p origin kind element reads it =
       kind = kind;
     })) same it.7
 
-trapped_as : (words : Words) (before after : World) (c : Command) (p : Script)
+trapped_as : (words : Words) (before after : Outside) (c : Command) (p : Script)
     (rows : List (List Value)) (origin : ℕ) (kind : Kind) (element : Value)
     → CanRun words before after c p rows → IsTrap origin kind element words before after
     → EndsAs c p rows (Trap origin kind element)
@@ -149,7 +149,7 @@ no_file_fault Direct told olds news q files text place before after calm writes 
 no_file_fault (Run s from) told olds news q files text place before after calm writes fails =
     calm fails.faults
 
-stopped : {A : Type 0} (words : Words) (before after : World) (status : Status) (c : Command)
+stopped : {A : Type 0} (words : Words) (before after : Outside) (status : Status) (c : Command)
     (script : Script) (rows : List (List Value))
     → CanRun words before after c script rows → Stops words before.source.files status → A
 stopped words before after status c script rows can stops =
@@ -166,7 +166,7 @@ asked_as words told c d p name limit reads (inr (inl asked)) =
 asked_as words told c d p name limit reads (inr (inr asked)) =
     same_command words told d c asked.0 p asked.1.1 reads
 
-read_calm : {A : Type 0} (words : Words) (before after : World) (name : List ℕ) (c : Command)
+read_calm : {A : Type 0} (words : Words) (before after : Outside) (name : List ℕ) (c : Command)
     (script : Script) (rows : List (List Value)) → CanRun words before after c script rows
     → IsReadFault name words before.source after.source → A
 read_calm words before after name c script rows can cause =
@@ -176,7 +176,7 @@ read_calm words before after name c script rows can cause =
     after.source.faults) same cause.3))
 
 -- hosts that can end all tasks give none up
-given_up : {A : Type 0} (words : Words) (before after : World) (c : Command) (script : Script)
+given_up : {A : Type 0} (words : Words) (before after : Outside) (c : Command) (script : Script)
     (rows : List (List Value)) (stage : ℕ) (phase : Phase) (task : ℕ)
     → CanRun words before after c script rows
     → IsGaveUp stage phase task words before.source.files before.hosts after.hosts → A
@@ -211,7 +211,7 @@ same_writes words told olds news c d p q files text reads read writes =
     subst (λ (e : Command). Writes e told olds news q files text)
     (same_command words told d c q p read reads) writes
 
-pub complete : (words : Words) (before after : World) (status : Status) (c : Command)
+pub complete : (words : Words) (before after : Outside) (status : Status) (c : Command)
     (script : Script) (rows : List (List Value))
     → Answers words before after status → CanRun words before after c script rows
     → IsEnd c script rows status

@@ -8,10 +8,10 @@ use Rattle.run_texts.specs.declared.status.Status.{Status}
 use Rattle.run_texts.specs.declared.status.Status.TheVariants.{Done, Trap, WriteFault}
 use Rattle.run_course.specs.Answers.{Answers}
 use Rattle.run_course.specs.Promises.{IsEnded, IsRefusal}
-use Rattle.run_course.specs.World.{World}
+use Rattle.run_course.specs.Outside.{Outside}
 use Rattle.run_course.proofs.ReadLemmas.{Words}
 
-pub refused_part : (words : Words) (before after : World) (status : Status)
+pub refused_part : (words : Words) (before after : Outside) (status : Status)
     → Answers words before after status → IsRefusal status before after
 refused_part words before after Done answers = tt
 refused_part words before after (Trap origin kind element) answers = tt
@@ -44,7 +44,7 @@ same_begun before after none same = ap (λ (s : SeenShelf). s.begun) same ∙ no
 pub same_left : (before after : SeenShelf) → after ≡ before → after.left ≡ before.left
 same_left before after same = ap (λ (s : SeenShelf). s.left) same
 
-pub ended : (words : Words) (before after : World) (status : Status) → before.shelf.begun ≡ false
+pub ended : (words : Words) (before after : Outside) (status : Status) → before.shelf.begun ≡ false
     → Answers words before after status → IsEnded status after.shelf
 ended words before after Done none answers = begun_then answers.0 before.shelf after.shelf none
     answers.3.begun
@@ -56,7 +56,7 @@ ended words before after (WriteFault Screen) none answers = begun_then answers.0
 ended words before after _ none answers =
     same_begun before.shelf after.shelf none answers.1.shelf
 
-pub left : (words : Words) (before after : World) (status : Status) → before.shelf.begun ≡ false
+pub left : (words : Words) (before after : Outside) (status : Status) → before.shelf.begun ≡ false
     → Answers words before after status
     → after.shelf.left ≡ before.shelf.left
 left words before after Done none answers = left_then answers.0 before.shelf after.shelf none

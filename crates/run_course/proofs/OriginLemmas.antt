@@ -17,9 +17,9 @@ use Rattle.flume_value.specs.declared.fault.Kind.{Kind}
 use Rattle.flume_value.specs.declared.fault.Kind.TheVariants as kind
 use Rattle.flume_value.specs.declared.value.Value.{Value}
 use Rattle.flume_value.specs.declared.value.Value.TheVariants as value
-use Rattle.script_loading.specs.of_direct_meaning.Calls.{answer_of, calls_on}
+use Rattle.script_loading.specs.of_direct_meaning.Calls.{answer_of, answers_on}
 use Rattle.script_loading.specs.of_direct_meaning.Direct as spec
-use Rattle.script_loading.specs.of_direct_meaning.Objects.{answer_beside, answered_once, argument_of, done_on, nothing_behind, object_as, one_of, only, operated_on, value_of, values_of, whole_behind}
+use Rattle.script_loading.specs.of_direct_meaning.Objects.{answer_beside, answered_once, argument_of, done_on, nothing_behind, object_as, emission_on, only, operated_on, value_of, object_values, whole_behind}
 use Rattle.script_program.specs.declared.made.Made.{Made}
 use Rattle.script_program.specs.declared.made.Made.TheVariants as made
 use Rattle.script_program.specs.Script.{Node, Script}
@@ -161,10 +161,10 @@ counts_below n (trap ∷ traps) bag all = all
 
 calls_below : (n origin output : ℕ) (answer : Value → Option Called) (c d : Collection)
     → origin ≤ n → Below (suc n) c.traps
-    → option_map (spec.called_by origin output c.traps) (calls_on answer c.bag) ≡ Some d
+    → option_map (spec.called_by origin output c.traps) (answers_on answer c.bag) ≡ Some d
     → Own n d
 calls_below n origin output answer c d low all is =
-    let (calls, made, same) = mapped _ (calls_on answer c.bag) d is in
+    let (calls, made, same) = mapped _ (answers_on answer c.bag) d is in
     let own = flat_map (trap_of origin) calls in
     as_own n _ d same
     (set_below (suc n) (c.traps ++ own) (both_below (suc n) c.traps own all
@@ -184,7 +184,7 @@ whole_below n [] (Err why) all =
     (none_below (suc n))
 whole_below n (trap ∷ traps) whole all = all
 
-one_of_below : (n : ℕ) (x : Value) (one : Option Value) → Own n (object_as (one_of n x one))
+one_of_below : (n : ℕ) (x : Value) (one : Option Value) → Own n (object_as (emission_on n x one))
 one_of_below n x (Some v) = none_below (suc n)
 one_of_below n x None =
     one_below (suc n) (trap_named n (kind.NotOne, x)) [] (omega arith) (none_below (suc n))
@@ -264,7 +264,7 @@ own_below script n (made.CombineAll source by) inputs table d all is =
 own_below script n (made.Operate objects called) inputs table d all is =
     let (function, at, rest) = bound _ (function_at script.functions called) d is in
     let (cs, found, does) = bound _ (spec.all_made table objects) d rest in
-    operated_below n (answer_of function) cs (values_of cs) d
+    operated_below n (answer_of function) cs (object_values cs) d
     (all_below n table objects cs all found) does
 own_below script n (made.DoWith source called object) inputs table d all is =
     let (function, at, rest) = bound _ (function_at script.functions called) d is in

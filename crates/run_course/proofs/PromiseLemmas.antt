@@ -10,7 +10,7 @@ use Rattle.run_course.specs.Answers.{Answers}
 use Rattle.run_course.specs.Asks.{AsksFor}
 use Rattle.run_course.specs.Hosts.{AsksHosts}
 use Rattle.run_course.specs.Promises.{ScriptPromises}
-use Rattle.run_course.specs.World.{Keeps, World}
+use Rattle.run_course.specs.Outside.{Keeps, Outside}
 use Rattle.run_course.specs.declared.stop.Stop.{Stop}
 use Rattle.run_course.specs.inner.Course.{AsksHostsInCall, AsksInCall, IsStopped, TellsStop}
 use Rattle.run_course.proofs.AskLemmas.{stopped_for}
@@ -23,7 +23,7 @@ use Rattle.run_course.proofs.ReadLemmas.{Words}
 use Rattle.run_course.proofs.StopLemmas.{input_stops, plan_stops, script_stops, too_long_stops}
 
 -- what is kept where the shelf was let alone
-pub shelf_alone : (before after : World) → after.shelf ≡ before.shelf
+pub shelf_alone : (before after : Outside) → after.shelf ≡ before.shelf
     → after.source.files ≡ before.source.files → before.source.faults ≤ after.source.faults
     → before.screen.faults ≤ after.screen.faults → AllZip Grew before.hosts after.hosts
     → Keeps before after
@@ -35,7 +35,7 @@ shelf_alone before after same told later screen grew = record {
   hosts = grew;
 }
 
-pub promises : (words : Words) (before after : World) (status : Status)
+pub promises : (words : Words) (before after : Outside) (status : Status)
     → Answers words before after status → Keeps before after
     → AsksFor words before.source after.source status
     → AsksHosts words before.source.files before.hosts after.hosts status
@@ -82,7 +82,7 @@ promises words before after status answers kept asked hosts =
     }
 
 -- what a call promises that something stops: it has let the shelf alone
-pub stop_promises : (T : Type 0) (words : Words) (before after : World) (why : Stop)
+pub stop_promises : (T : Type 0) (words : Words) (before after : Outside) (why : Stop)
     (status : Status)
     → IsStopped words before.source after.source before.hosts after.hosts why
     → TellsStop why before.screen after.screen status → after.shelf ≡ before.shelf

@@ -40,7 +40,7 @@ use Rattle.run_course.specs.Asked.{AskFor, IsAskedFor, IsPlanTurn, IsTurnOf, Ask
 use Rattle.command_words.specs.Words.{asked_for}
 use Rattle.run_course.specs.Lent.{lent}
 use Rattle.run_course.specs.Plans.{IsPlanFor}
-use Rattle.run_course.specs.World.{World}
+use Rattle.run_course.specs.Outside.{Outside}
 use Rattle.run_course.specs.Written.{IsMeant, IsWritten, CollectionTable}
 use Rattle.script_loading.specs.Limits.{script_limit, input_limit, plan_limit}
 use Rattle.command_words.specs.declared.words.Command.{Command}
@@ -68,7 +68,7 @@ FailsAtFile name files before after =
 -- Done: each output file of the command is whole and ended, and the screen has got its text. For
 -- `direct` and `run` no call traps, and a file is the sorted text of the script's direct meaning,
 -- and for `run` each task of the plan was run.
-abbrev pub IsDone : List (List ℕ) → World → World → Type 0
+abbrev pub IsDone : List (List ℕ) → Outside → Outside → Type 0
 IsDone words before after =
     (files : List NamedBytes) × (text : List ℕ)
     × IsWritten words before.source.files before.hosts after.hosts files text
@@ -76,7 +76,7 @@ IsDone words before after =
 
 -- WriteFault of a file: the call came to its writing, so no call of a function traps, and the shelf
 -- failed there
-abbrev pub IsFileFault : List ℕ → List (List ℕ) → World → World → Type 0
+abbrev pub IsFileFault : List ℕ → List (List ℕ) → Outside → Outside → Type 0
 IsFileFault name words before after =
     (files : List NamedBytes) × (text : List ℕ)
     × IsWritten words before.source.files before.hosts after.hosts files text
@@ -84,14 +84,14 @@ IsFileFault name words before after =
     × HasLine (line_of (WriteFault (File name))) before.screen after.screen
 
 -- WriteFault of the screen: every output file is whole and ended, and the screen failed in its text
-abbrev pub IsScreenFault : List (List ℕ) → World → World → Type 0
+abbrev pub IsScreenFault : List (List ℕ) → Outside → Outside → Type 0
 IsScreenFault words before after =
     (files : List NamedBytes) × (text : List ℕ)
     × IsWritten words before.source.files before.hosts after.hosts files text
     × HasFiles files before.shelf after.shelf × IsCutOff text before.screen after.screen
 
 -- what a call that came to its writing left, where that failed
-abbrev pub IsWriteFault : Place → List (List ℕ) → World → World → Type 0
+abbrev pub IsWriteFault : Place → List (List ℕ) → Outside → Outside → Type 0
 IsWriteFault (File name) words before after = IsFileFault name words before after
 IsWriteFault Screen words before after = IsScreenFault words before after
 
@@ -130,7 +130,7 @@ name_at script number = option_map (λ entry. entry.0) (slice_get script.nodes n
 
 -- Trap: the words ask for a script's meaning, and this is one of its traps; the shelf is untouched,
 -- and the screen has the line, with the name of the collection that the trap's call makes
-abbrev pub IsTrap : ℕ → Kind → Value → List (List ℕ) → World → World → Type 0
+abbrev pub IsTrap : ℕ → Kind → Value → List (List ℕ) → Outside → Outside → Type 0
 IsTrap origin kind element words before after =
     (command : Command) × (script : Script) × (rows : List (List Value)) × (table : CollectionTable)
     × (name : List ℕ)
@@ -210,7 +210,7 @@ IsGaveUp stage phase task words told olds news =
 
 -- a refusal before anything is written: the shelf is untouched, and the screen has the refusal's
 -- line
-pub record IsRefused (status : Status) (before after : World) : Type 0 where
+pub record IsRefused (status : Status) (before after : Outside) : Type 0 where
   pub shelf : after.shelf ≡ before.shelf
   pub line : HasLine (line_of status) before.screen after.screen
 
@@ -237,7 +237,7 @@ IsCause words before after olds news (Trap origin kind element) = ⊥
 IsCause words before after olds news (WriteFault place) = ⊥
 
 -- what each answer says of the words, of what stood before the call and of what stands after it
-abbrev pub Answers : List (List ℕ) → World → World → Status → Type 0
+abbrev pub Answers : List (List ℕ) → Outside → Outside → Status → Type 0
 Answers words before after Done = IsDone words before after
 Answers words before after (Trap origin kind element) =
     IsTrap origin kind element words before after

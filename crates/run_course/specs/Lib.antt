@@ -6,7 +6,7 @@ pub mod Lent
 pub mod Limits
 pub mod Plans
 pub mod Promises
-pub mod World
+pub mod Outside
 pub mod Written
 pub mod inner
 pub use Rattle.script_loading.specs.of_build_law

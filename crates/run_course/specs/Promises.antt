@@ -21,7 +21,7 @@ use Rattle.run_course.specs.Asked.{AskOn, inputs_read, plan_read, tries_of}
 use Rattle.run_course.specs.Hosts.{AsksHosts}
 use Rattle.run_course.specs.Lent.{lent}
 use Rattle.run_course.specs.Plans.{HasPlan, IsPlanFor}
-use Rattle.run_course.specs.World.{Keeps, World}
+use Rattle.run_course.specs.Outside.{Keeps, Outside}
 use Rattle.run_course.specs.Written.{CollectionTable}
 use Rattle.command_words.specs.declared.words.Command.{Command}
 use Rattle.command_words.specs.declared.words.Command.TheVariants.{Check, Plan as Show, Direct, Run}
@@ -33,7 +33,7 @@ use Rattle.run_texts.specs.declared.status.Status.{Status}
 use Rattle.run_texts.specs.declared.status.Status.TheVariants.{Done, GaveUp, Usage, ScriptRefused, InputRefused, Trap, ReadFault, WriteFault, WantOfMemory, TooLong, NoFile, PlanRefused}
 
 -- what stands after each answer that comes before anything is written
-abbrev pub IsRefusal : Status → World → World → Type 0
+abbrev pub IsRefusal : Status → Outside → Outside → Type 0
 IsRefusal Usage before after = IsRefused Usage before after
 IsRefusal (NoFile name) before after = IsRefused (NoFile name) before after
 IsRefusal (TooLong name limit) before after = IsRefused (TooLong name limit) before after
@@ -82,7 +82,7 @@ CanEnd _ told script rows olds news = ⊤
 -- inputs that it reads have these rows, the plan of a file that it names is taken, the source fails
 -- less often than each file may be tried, neither the shelf, where it writes files, nor the screen
 -- fails, and its hosts can end its tasks.
-pub record CanRun (words : List (List ℕ)) (before after : World) (command : Command)
+pub record CanRun (words : List (List ℕ)) (before after : Outside) (command : Command)
     (script : Script) (rows : List (List Value)) : Type 0 where
   pub told : IsSome before.source.files
   pub reads : AskOn words before.source.files command script
@@ -133,7 +133,7 @@ pub record IsAlwaysRefused (words : List (List ℕ)) (source : SeenSource) (stat
 
 -- What is so after a call with these words, which found the one world and left the other, and
 -- answered so.
-pub record ScriptPromises (words : List (List ℕ)) (before after : World)
+pub record ScriptPromises (words : List (List ℕ)) (before after : Outside)
     (status : Status) : Type 0 where
   -- the headline: every output file is whole, ended and right, and so is the screen's text
   pub done : status ≡ Done → IsDone words before after

@@ -9,7 +9,7 @@ use Rattle.flume_collection.specs.Collection.{Collection}
 use Rattle.flume_value.specs.declared.value.Value.{Value}
 use Rattle.script_loading.specs.of_graph_build.Graphs.{graph_of}
 use Rattle.outer_plans.specs.of_graph_rewrites.declared.rewrite.Rewrite.{Rewrite}
-use Rattle.outer_plans.specs.Plans.{IsTaken, LeadTo, file_text_of}
+use Rattle.outer_plans.specs.Plans.{IsTaken, LeadTo, StandInOrder, file_text_of}
 use Rattle.outside.specs.declared.file.File.{File}
 use Rattle.plan_phases.specs.declared.winners.PhaseWinners.{PhaseWinners}
 use Rattle.outer_plans.specs.of_graph_print.GraphText.{graph_text}
@@ -82,8 +82,8 @@ json_shown script plan = compact_text (plan_json_of script plan) ++ codes "\n"
 abbrev pub file_shown : Script → List Rewrite → Plan → List ℕ
 file_shown script rewrites plan = file_text_of script rewrites plan ++ codes "\n"
 
--- the text shows the script's plan, and maybe rewrites that lead from the script's graph to it: as
--- the file of a plan it is then taken as just that
+-- the text shows the script's plan, and maybe rewrites that lead from the script's graph to it, in
+-- the order of the passes: as the file of a plan it is then taken as just that
 abbrev pub ShowsPlan : PlanForm → Script → List ℕ → Type 0
 ShowsPlan Text script text =
     (plan : Plan) × IsScriptPlan script plan × (text ≡ text_shown script plan)
@@ -91,7 +91,7 @@ ShowsPlan Json script text =
     (plan : Plan) × IsScriptPlan script plan × (text ≡ json_shown script plan)
 ShowsPlan Rewrites script text =
     (plan : Plan) × (rewrites : List Rewrite) × IsScriptPlan script plan
-    × LeadTo script rewrites plan × IsTaken script text plan
+    × LeadTo script rewrites plan × StandInOrder script rewrites × IsTaken script text plan
     × (text ≡ file_shown script rewrites plan)
 
 -- ---- runs

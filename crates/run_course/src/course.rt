@@ -6,7 +6,7 @@ ghost use Rattle.crew.specs.Hosts.{Grew};
 ghost use Rattle.outside.specs.Saves.{output_file};
 ghost use Rattle.run_course.specs.Lent.{lent_to};
 ghost use Rattle.run_course.specs.Promises.{ScriptPromises};
-ghost use Rattle.run_course.specs.World.{world};
+ghost use Rattle.run_course.specs.Outside.{world};
 ghost use Rattle.run_course.specs.Written.{IsWritten};
 ghost use Rattle.run_course.specs.inner.Course.{AsksHostsInCall, AsksInCall, Delivers, IsStopped, TellsStop};
 

@@ -7,7 +7,7 @@ use Rattle.std.specs.List.{filter, flat_map}
 use Rattle.flume_value.specs.declared.value.Value.{Value}
 use Rattle.flume_collection.specs.Collection.{Collection}
 use Rattle.written_types.specs.Named.{Named}
-use Rattle.script_program.specs.Needed.{is_needed, numbered}
+use Rattle.script_program.specs.Needed.{is_needed, collections_numbered}
 use Rattle.script_program.specs.Script.{Node, Script}
 use Rattle.script_program.specs.Sources.{in_order, source_kind, source_kinds}
 use Rattle.script_program.specs.declared.made.Made.{Made}
@@ -19,7 +19,7 @@ use Rattle.build_law.proofs.Tables.{and_then_some, one_longer}
 abbrev kinds_from : Script → ℕ → Named Node → List Bool
 kinds_from script number nodes =
     flat_map (λ it. source_kind it.1.1.made)
-    (filter (λ it. is_needed script it.0) (numbered number nodes))
+    (filter (λ it. is_needed script it.0) (collections_numbered number nodes))
 
 none_taken : (lists : List (List Value)) → length lists ≡ 0 + length lists
 none_taken lists = omega arith
@@ -71,8 +71,8 @@ module _ (script : Script) (all : List (Option Collection)) where
       ≡ length (flat_map (λ (it : ℕ × (List ℕ × Node)). source_kind it.1.1.made)
       (cond b
       ((length table, entry)
-      ∷ filter (λ it. is_needed script it.0) (numbered (suc (length table)) nodes))
-      (filter (λ it. is_needed script it.0) (numbered (suc (length table)) nodes))))
+      ∷ filter (λ it. is_needed script it.0) (collections_numbered (suc (length table)) nodes))
+      (filter (λ it. is_needed script it.0) (collections_numbered (suc (length table)) nodes))))
   next_listed entry nodes lists table true more h =
       let (c, here, rest) =
       and_then_some

@@ -8,4 +8,4 @@ mod calls;
 #[cfg(test)]
 mod hosts;
 #[cfg(test)]
-mod worlds;
+mod meetings;

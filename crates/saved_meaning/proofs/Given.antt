@@ -10,8 +10,8 @@ use Rattle.written_types.specs.Named.{Named}
 use Rattle.script_program.specs.declared.made.Made.{Made}
 use Rattle.script_program.specs.declared.made.Made.TheVariants as made
 use Rattle.script_program.specs.Kinds.{gives_object}
-use Rattle.script_program.specs.Needed.{has, is_needed, numbered}
-use Rattle.script_program.specs.Saved.{IsUnsaved, saved_as, saved_from, saved_node, with_saved}
+use Rattle.script_program.specs.Needed.{holds_number, is_needed, collections_numbered}
+use Rattle.script_program.specs.Saved.{IsUnsaved, saved_as, saved_among, saved_node, with_saved}
 use Rattle.script_program.specs.Script.{Node, Script}
 use Rattle.direct_meaning.specs.of_script_laws.WellFormed.{IsWellFormed}
 use Rattle.direct_meaning.proofs.PlainLemmas.{flat-if, more_if}
@@ -19,7 +19,7 @@ use Rattle.direct_meaning.specs.Direct.{inputs_behind, made_at}
 use Rattle.direct_meaning.specs.Inputs.{AreLists, IsListOf, Sourced, sourced_by}
 use Rattle.direct_meaning.specs.Made.{AreMade, IsCollectionOf, IsMadeFor, IsObjectFor}
 use Rattle.direct_meaning.specs.Objects.{IsObject, members_behind}
-use Rattle.saved_meaning.specs.Found.{MayBeFound, members_of}
+use Rattle.saved_meaning.specs.Found.{MayBeFound, bag_or_none}
 use Rattle.saved_meaning.proofs.Going.{Lists, Table, later, own_list, none_first, rows_left, to_come}
 use Rattle.saved_meaning.proofs.SameMakes.{IsNoSource, Kind, input, kind_of, other, saved}
 use Rattle.saved_meaning.proofs.StillNeeded.{needed-before}
@@ -53,7 +53,7 @@ module _ (script : Script) (table : Table) (are : AreMade script script.nodes ta
   pub kept-list : (n : ℕ) (entry : List ℕ × Node) → slice_get script.nodes n ≡ Some entry
       → MayBeFound table n
       → IsListOf (record { type = entry.1.type; is_object = gives_object entry.1.made })
-      (members_of (made_at table n))
+      (bag_or_none (made_at table n))
   kept-list n entry there is_sound =
       let it = sound (made_at table n) is_sound in
       let c = it.collection in
@@ -64,7 +64,7 @@ module _ (script : Script) (table : Table) (are : AreMade script script.nodes ta
       entry c there it.is in
       subst
       (λ o. IsListOf (record { type = entry.1.type; is_object = gives_object entry.1.made })
-      (members_of o)) (sym it.is)
+      (bag_or_none o)) (sym it.is)
       (record {
         typed = made_.typed;
         one = λ yes_. object yes_ ∙ ap members_behind it.none;
@@ -142,23 +142,23 @@ at_seam (first ∷ before) nodes entry (suc n) size = at_seam before nodes entry
 
 module _ (script : Script) (well : IsWellFormed script) (found : List ℕ) (all : Table)
     (lists : (n : ℕ) (entry : List ℕ × Node) → slice_get script.nodes n ≡ Some entry
-    → has found n ≡ true
+    → holds_number found n ≡ true
     → IsListOf (record { type = entry.1.type; is_object = gives_object entry.1.made })
-    (members_of (made_at all n))) where
+    (bag_or_none (made_at all n))) where
   abbrev to : Script
   to = later script found all
 
   abbrev sourced_in : Script → ℕ → Named Node → List Sourced
   sourced_in own n nodes =
       flat_map (λ it. sourced_by it.1.1.made it.1.1.type)
-      (filter (λ it. is_needed own it.0) (numbered n nodes))
+      (filter (λ it. is_needed own it.0) (collections_numbered n nodes))
 
   abbrev AllGiven : Named Node → Type 0
   AllGiven nodes = (before : Named Node) → before ++ nodes ≡ script.nodes
       → Each (λ entry. IsUnsaved entry.1.made) nodes
       → (n : ℕ) → length before ≡ n → (rows : Lists)
       → AreLists (sourced_in script n nodes) rows
-      → AreLists (sourced_in to n (saved_from found n nodes))
+      → AreLists (sourced_in to n (saved_among found n nodes))
       (to_come script found all n nodes rows)
 
   sourced-saved : (b : Bool) (entry : List ℕ × Node)
@@ -175,8 +175,8 @@ module _ (script : Script) (well : IsWellFormed script) (found : List ℕ) (all 
       let how = entry.1.made in
       let needed = is_needed script n in
       let still = is_needed to n in
-      let b = has found n in
-      let saved_nodes = saved_from found (suc n) nodes in
+      let b = holds_number found n in
+      let saved_nodes = saved_among found (suc n) nodes in
       let own = sourced_in script (suc n) nodes in
       let others = sourced_in to (suc n) saved_nodes in
       let entry_ : List ℕ × Node = if b then (entry.0, saved_node entry.1) else entry in
@@ -184,14 +184,14 @@ module _ (script : Script) (well : IsWellFormed script) (found : List ℕ) (all 
       ap (λ (l : Named Node). slice_get l n) (sym split) ∙ at_seam before nodes entry n place in
       let mine =
       flat-if (λ (x : ℕ × (List ℕ × Node)). sourced_by x.1.1.made x.1.1.type) needed (n, entry)
-      (filter (λ it. is_needed script it.0) (numbered (suc n) nodes)) in
+      (filter (λ it. is_needed script it.0) (collections_numbered (suc n) nodes)) in
       let theirs =
       flat-if (λ (x : ℕ × (List ℕ × Node)). sourced_by x.1.1.made x.1.1.type) still (n, entry_)
-      (filter (λ it. is_needed to it.0) (numbered (suc n) saved_nodes))
+      (filter (λ it. is_needed to it.0) (collections_numbered (suc n) saved_nodes))
       ∙ ap (λ l. more_if still l others) (sourced-saved b entry) in
       subst (λ l. AreLists l (to_come script found all n (entry ∷ nodes) rows)) (sym theirs)
       (given own others (to_come script found all (suc n) nodes (rows_left needed how rows))
-      needed still b (kind_of how) un.0 entry.1.type (members_of (made_at all n)) rows
+      needed still b (kind_of how) un.0 entry.1.type (bag_or_none (made_at all n)) rows
       (needed-before script well found n)
       (lists n entry there)
       (subst (λ l. AreLists l rows) mine have)

@@ -9,13 +9,13 @@ use Rattle.script_program.specs.declared.made.Emitted.{Emitted}
 use Rattle.script_program.specs.declared.made.Made.{Made}
 use Rattle.script_program.specs.declared.made.Made.TheVariants as made
 use Rattle.script_program.specs.Kinds.{emitted_as, gives_object}
-use Rattle.script_program.specs.Needed.{has, is_needed, made_of, operands}
-use Rattle.script_program.specs.Saved.{IsUnsaved, saved_as, saved_from, saved_node, with_saved}
+use Rattle.script_program.specs.Needed.{holds_number, is_needed, made_of, operands}
+use Rattle.script_program.specs.Saved.{IsUnsaved, saved_as, saved_among, saved_node, with_saved}
 use Rattle.script_program.specs.Script.{Node, Script}
 use Rattle.direct_meaning.specs.of_script_laws.WellFormed.{IsWellFormed}
 use Rattle.direct_meaning.specs.Direct.{collections, inputs_behind, made_as, made_at, rows_as}
 use Rattle.direct_meaning.specs.Made.{IsMadeFor}
-use Rattle.saved_meaning.specs.Found.{MayBeFound, members_of, where_needed}
+use Rattle.saved_meaning.specs.Found.{MayBeFound, bag_or_none, where_needed}
 use Rattle.saved_meaning.proofs.SameMakes.{IsMadeOfOthers, IsNoSource, Kind, input, kind_of, other, same_made, saved}
 use Rattle.saved_meaning.proofs.StillNeeded.{needed-before, reads-needed}
 use Rattle.saved_meaning.proofs.Tables.{and_then_some, found-members, next-made, one_longer, related-more, settled-at, sound-at}
@@ -71,7 +71,8 @@ module _ (script : Script) (found : List ℕ) (all : Table) where
   abbrev pub to_come : ℕ → Named Node → Lists → Lists
   to_come n [] rows = []
   to_come n (entry ∷ nodes) rows =
-      own_list (is_needed later n) (has found n) (members_of (made_at all n)) entry.1.made rows
+      own_list (is_needed later n) (holds_number found n) (bag_or_none (made_at all n)) entry.1.made
+      rows
       ++ to_come (suc n) nodes (rows_left (is_needed script n) entry.1.made rows)
 
   -- ---- one collection more
@@ -110,8 +111,8 @@ module _ (script : Script) (found : List ℕ) (all : Table) where
       (settled : AllZip IsMadeFor script.nodes all) where
     -- where it is kept
     kept-next : (n : ℕ) (c : Collection) (call : Option Emitted) (more : Lists) (there : Table)
-        → made_at all n ≡ Some c → has found n ≡ true → (is_object : Bool)
-        → SameNext (made.Saved is_object call) (members_of (made_at all n) ∷ more) more there c
+        → made_at all n ≡ Some c → holds_number found n ≡ true → (is_object : Bool)
+        → SameNext (made.Saved is_object call) (bag_or_none (made_at all n) ∷ more) more there c
     kept-next n c call more there is kept is_object = record {
       made_so =
           ap Some
@@ -154,7 +155,7 @@ module _ (script : Script) (found : List ℕ) (all : Table) where
 
     pub record Goes (nodes : Named Node) (lists : Lists) (n : ℕ) (there : Table) : Type 0 where
       pub own : Table
-      pub means : collections later (saved_from found n nodes) lists there ≡ Some own
+      pub means : collections later (saved_among found n nodes) lists there ≡ Some own
       pub same : (j : ℕ) → made_at own j ≡ where_needed (is_needed later j) (made_at all j)
 
     abbrev Related : Table → Table → Type 0
@@ -193,7 +194,8 @@ module _ (script : Script) (found : List ℕ) (all : Table) where
             rest
 
         -- what it is made of is there
-        reads : has found n ≡ false → is_needed later n ≡ true → (j : ℕ) → Contains (operands how) j
+        reads : holds_number found n ≡ false → is_needed later n ≡ true → (j : ℕ)
+            → Contains (operands how) j
             → made_at there j ≡ made_at here j
         reads made_again needed j reads_it =
             related j
@@ -209,16 +211,17 @@ module _ (script : Script) (found : List ℕ) (all : Table) where
         abbrev GoesWith : Bool → Bool → Bool → Type 0
         GoesWith needed still kept =
             (own : Table)
-            × (collections later (later_entry kept ∷ saved_from found (suc n) nodes)
-            (own_list still kept (members_of (made_at all n)) how rows
+            × (collections later (later_entry kept ∷ saved_among found (suc n) nodes)
+            (own_list still kept (bag_or_none (made_at all n)) how rows
             ++ to_come (suc n) nodes (rows_left needed how rows)) there ≡ Some own)
             × ((j : ℕ) → made_at own j ≡ where_needed (is_needed later j) (made_at all j))
 
         -- it is made, as a kept one or again
-        next-of : (kept : Bool) → has found n ≡ kept → is_needed later n ≡ true → (c : Collection)
+        next-of : (kept : Bool) → holds_number found n ≡ kept → is_needed later n ≡ true
+            → (c : Collection)
             → made_as script (length here) how rows here ≡ Some c → made_at all n ≡ Some c
             → SameNext (later_entry kept).1.made
-            (own_list true kept (members_of (made_at all n)) how rows
+            (own_list true kept (bag_or_none (made_at all n)) how rows
             ++ to_come (suc n) nodes (inputs_behind how rows))
             (to_come (suc n) nodes (inputs_behind how rows)) there c
         next-of true is needed c made_so at_all =
@@ -232,7 +235,7 @@ module _ (script : Script) (found : List ℕ) (all : Table) where
         needed-there : (b : Bool) → is_needed later n ≡ b → is_needed later (length there) ≡ b
         needed-there b is = ap (is_needed later) sizes ∙ is
 
-        still-goes : (kept : Bool) → has found n ≡ kept → is_needed later n ≡ true
+        still-goes : (kept : Bool) → holds_number found n ≡ kept → is_needed later n ≡ true
             → (c : Collection) → made_as script (length here) how rows here ≡ Some c
             → collections script nodes (inputs_behind how rows) (here ++ Some c ∷ []) ≡ Some all
             → GoesWith true true kept
@@ -245,8 +248,8 @@ module _ (script : Script) (found : List ℕ) (all : Table) where
             let it = on (inputs_behind how rows) (Some c) (Some c)
             (ap (λ b. where_needed b (Some c)) (sym needed)) rest in (
               it.own,
-              goes-made (later_entry kept).1.made (saved_from found (suc n) nodes)
-                  (own_list true kept (members_of (made_at all n)) how rows ++ left) left there c
+              goes-made (later_entry kept).1.made (saved_among found (suc n) nodes)
+                  (own_list true kept (bag_or_none (made_at all n)) how rows ++ left) left there c
                   (is_needed later (length there)) (needed-there true needed) same.made_so
                   same.behind
                   ∙ it.means,
@@ -261,7 +264,7 @@ module _ (script : Script) (found : List ℕ) (all : Table) where
             let it = on (rows_left needed how rows) o None
             (ap (λ b. where_needed b o) (sym needless)) rest in (
               it.own,
-              goes-without (later_entry kept).1.made (saved_from found (suc n) nodes) left there
+              goes-without (later_entry kept).1.made (saved_among found (suc n) nodes) left there
                   (is_needed later (length there)) (needed-there false needless)
                   ∙ it.means,
               it.same,
@@ -269,23 +272,23 @@ module _ (script : Script) (found : List ℕ) (all : Table) where
 
         goes-with : (needed still : Bool) → is_needed script n ≡ needed → is_needed later n ≡ still
             → next script needed how nodes rows here ≡ Some all
-            → GoesWith needed still (has found n)
+            → GoesWith needed still (holds_number found n)
         goes-with true true is still h =
             let (c, made_so, rest) =
             and_then_some
             (λ c. collections script nodes (inputs_behind how rows) (here ++ Some c ∷ []))
             (made_as script (length here) how rows here) all h in
-            still-goes (has found n) refl still c made_so rest
+            still-goes (holds_number found n) refl still c made_so rest
         goes-with true false is still h =
             let (c, made_so, rest) =
             and_then_some
             (λ c. collections script nodes (inputs_behind how rows) (here ++ Some c ∷ []))
             (made_as script (length here) how rows here) all h in
-            none-goes true (has found n) still (Some c) rest
+            none-goes true (holds_number found n) still (Some c) rest
         goes-with false true is still h =
             let e = needed-before script well found n still in
             let no_ : true ≡ false = sym e ∙ is in cc
-        goes-with false false is still h = none-goes false (has found n) still None h
+        goes-with false false is still h = none-goes false (holds_number found n) still None h
 
         goes-one : collections script (entry ∷ nodes) rows here ≡ Some all
             → Goes (entry ∷ nodes) (to_come n (entry ∷ nodes) rows) n there

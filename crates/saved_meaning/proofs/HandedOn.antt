@@ -18,9 +18,9 @@ use Rattle.script_program.specs.Needed.{operands}
 use Rattle.script_program.specs.Script.{Function, Script}
 use Rattle.direct_meaning.specs.of_script_laws.WellFormed.{function_at}
 use Rattle.direct_meaning.proofs.DoneLemmas.{has_done}
-use Rattle.direct_meaning.specs.Calls.{answer_of, called_by, calls_on}
-use Rattle.direct_meaning.specs.Direct.{all_made, combined_by, counted_by, counts_behind, done_beside_at, joined_at, joined_by, made_as, made_at, operated_at, top_by}
-use Rattle.direct_meaning.specs.Objects.{answer_beside, combined_whole, done_beside, done_on, nothing_behind, only, operated_by, operated_on, value_of, values_of, whole_behind}
+use Rattle.direct_meaning.specs.Calls.{answer_of, called_by, answers_on}
+use Rattle.direct_meaning.specs.Direct.{all_made, combined_by, counted_by, counts_behind, done_beside_at, joined_at, joined_collections, made_as, made_at, operated_at, top_by}
+use Rattle.direct_meaning.specs.Objects.{answer_beside, combined_whole, done_beside, done_on, nothing_behind, only, operated_by, operated_on, value_of, object_values, whole_behind}
 use Rattle.saved_meaning.proofs.Tables.{and_then_some, map_some}
 
 -- ---- sets of traps
@@ -111,21 +111,21 @@ value-none c v is = by c.traps c.bag is
     by [] bag e = refl
     by (trap ∷ traps) bag e = cc
 
-values-none : (cs : List Collection) (vs : List Value) → values_of cs ≡ Some vs
+values-none : (cs : List Collection) (vs : List Value) → object_values cs ≡ Some vs
     → flat_map (λ (d : Collection). d.traps) cs ≡ []
 values-none [] vs is = refl
 values-none (c ∷ cs) vs is =
     let (v, first, rest) =
-    and_then_some (λ v. option_map (λ us. v ∷ us) (values_of cs)) (value_of c) vs is in
-    let (us, others, whole) = map_some (λ us. v ∷ us) (values_of cs) vs rest in
+    and_then_some (λ v. option_map (λ us. v ∷ us) (object_values cs)) (value_of c) vs is in
+    let (us, others, whole) = map_some (λ us. v ∷ us) (object_values cs) vs rest in
     (λ i. value-none c v first i ++ values-none cs us others i)
 
 operated-none : (origin : ℕ) (answer : Value → Option Called) (cs : List Collection)
     (c : Collection) → operated_by origin answer cs ≡ Some c → c.traps ≡ []
     → flat_map (λ (d : Collection). d.traps) cs ≡ []
-operated-none origin answer cs c is none = by (values_of cs) refl is
+operated-none origin answer cs c is none = by (object_values cs) refl is
   where
-    by : (o : Option (List Value)) → values_of cs ≡ o
+    by : (o : Option (List Value)) → object_values cs ≡ o
         → operated_on origin answer o cs ≡ Some c
         → flat_map (λ (d : Collection). d.traps) cs ≡ []
     by (Some vs) values is = values-none cs vs values
@@ -144,7 +144,7 @@ beside-none origin answer d e c is none = by (value_of e) refl is
         → (d.traps ≡ []) × (e.traps ≡ [])
     by (Some v) value is =
         let (calls, all, same) =
-        map_some (called_by origin 0 d.traps) (calls_on (answer_beside answer v) d.bag) c is in (
+        map_some (called_by origin 0 d.traps) (answers_on (answer_beside answer v) d.bag) c is in (
           front-of-set d.traps _ c (ap (λ (x : Collection). x.traps) same) none,
           value-none e v value,
         )
@@ -179,9 +179,10 @@ module _ (script : Script) (number : ℕ) (table : List (Option Collection))
       → Contains (left ∷ second ∷ []) n → Hands table n c
   by-joining left second n h reads =
       let (a, left_read, rest) =
-      and_then_some (λ a. option_map (joined_by a) (made_at table second)) (made_at table left) c h
+      and_then_some (λ a. option_map (joined_collections a) (made_at table second))
+      (made_at table left) c h
       in
-      let (b, second_read, is) = map_some (joined_by a) (made_at table second) c rest in
+      let (b, second_read, is) = map_some (joined_collections a) (made_at table second) c rest in
       let both : c.traps ≡ [] → a.traps ++ b.traps ≡ [] =
       λ e. none-in (a.traps ++ b.traps) (ap (λ (x : Collection). x.traps) is ∙ e) in
       two-sources table left second n c a b left_read second_read

@@ -9,15 +9,15 @@ use Rattle.flume_collection.specs.Collection.{Collection}
 use Rattle.written_types.specs.Named.{Named}
 use Rattle.script_program.specs.declared.made.Made.{Made}
 use Rattle.script_program.specs.declared.made.Made.TheVariants as made
-use Rattle.script_program.specs.Needed.{has, is_needed, made_of, needed_nodes, numbered}
-use Rattle.script_program.specs.Saved.{IsUnsaved, saved_as, saved_from, saved_node, with_saved}
+use Rattle.script_program.specs.Needed.{holds_number, is_needed, made_of, needed_nodes, collections_numbered}
+use Rattle.script_program.specs.Saved.{IsUnsaved, saved_as, saved_among, saved_node, with_saved}
 use Rattle.script_program.specs.Script.{Node, Script}
-use Rattle.script_program.specs.Sources.{in_order, in_turn, input_count, ordered, source_kind, source_kinds}
+use Rattle.script_program.specs.Sources.{in_order, lists_in_turn, input_count, by_kinds, source_kind, source_kinds}
 use Rattle.direct_meaning.specs.of_script_laws.WellFormed.{IsWellFormed}
 use Rattle.direct_meaning.proofs.of_script_laws.SavedLemmas.{made-saved}
 use Rattle.direct_meaning.specs.Direct.{collections, inputs_behind, made_as, made_at}
 use Rattle.direct_meaning.proofs.PlainLemmas.{flat-if, more_if}
-use Rattle.saved_meaning.specs.Found.{all_kept, chosen, is_input, lists_for, members_kept, members_of, needed_too, needs_input, still_needed}
+use Rattle.saved_meaning.specs.Found.{all_kept, marked_ones, is_input, lists_for, members_kept, bag_or_none, needed_too, needs_input, still_needed}
 use Rattle.saved_meaning.proofs.Going.{Lists, Table, later, made-here, none_first, own_list, rows_left, to_come}
 use Rattle.saved_meaning.proofs.SameMakes.{IsNoSource, Kind, input, kind_of, other, saved}
 use Rattle.saved_meaning.proofs.StillNeeded.{needed-before}
@@ -34,9 +34,9 @@ back_of [] ys = refl
 back_of (x ∷ xs) ys = back_of xs ys
 
 ordered-both : {X : Type 0} (kinds : List Bool) (xs ys : List X)
-    → length xs ≡ input_count kinds → ordered kinds (xs ++ ys) ≡ in_turn kinds xs ys
+    → length xs ≡ input_count kinds → by_kinds kinds (xs ++ ys) ≡ lists_in_turn kinds xs ys
 ordered-both kinds xs ys size =
-    λ i. in_turn kinds
+    λ i. lists_in_turn kinds
     ((ap (λ n. take n (xs ++ ys)) (sym size) ∙ front_of xs ys) i)
     ((ap (λ n. drop n (xs ++ ys)) (sym size) ∙ back_of xs ys) i)
 
@@ -48,8 +48,8 @@ made_if kept how = if kept then saved_as how else how
 
 -- the next of the lists is in its turn
 pub record IsTurn (kinds marks : List Bool) (rows kept lists : Lists) : Type 0 where
-  pub turn : in_turn kinds (chosen marks rows) kept ≡ lists
-  pub size : length (chosen marks rows) ≡ input_count kinds
+  pub turn : lists_in_turn kinds (marked_ones marks rows) kept ≡ lists
+  pub size : length (marked_ones marks rows) ≡ input_count kinds
 
 -- rows are there where an input is needed
 abbrev HasRow : Bool → Made → Lists → Type 0
@@ -58,7 +58,7 @@ HasRow needed _ rows = Unit {0}
 
 module _ (to : Script) (n : ℕ) (all : Table) (kinds marks : List Bool) (kept rest : Lists) where
   abbrev members : List Value
-  members = members_of (made_at all n)
+  members = bag_or_none (made_at all n)
 
   abbrev Turns : Bool → Bool → Bool → Made → Lists → Type 0
   Turns needed still is_kept how rows =
@@ -77,19 +77,20 @@ module _ (to : Script) (n : ℕ) (all : Table) (kinds marks : List Bool) (kept r
       let some = row refl in absurd (omega arith)
   input-turns true true true file columns (list ∷ rows) both mark row h = record {
     turn =
-        ap (λ m. in_turn (true ∷ kinds) (chosen (m ∷ marks) (list ∷ rows)) (members ∷ kept)) mark
+        ap (λ m. lists_in_turn (true ∷ kinds) (marked_ones (m ∷ marks) (list ∷ rows))
+        (members ∷ kept)) mark
         ∙ ap (λ l. members ∷ l) h.turn;
-    size = ap (λ m. length (chosen (m ∷ marks) (list ∷ rows))) mark ∙ h.size;
+    size = ap (λ m. length (marked_ones (m ∷ marks) (list ∷ rows))) mark ∙ h.size;
   }
   input-turns true true false file columns (list ∷ rows) both mark row h = record {
     turn =
-        ap (λ m. in_turn (false ∷ kinds) (chosen (m ∷ marks) (list ∷ rows)) kept) mark
+        ap (λ m. lists_in_turn (false ∷ kinds) (marked_ones (m ∷ marks) (list ∷ rows)) kept) mark
         ∙ ap (λ l. list ∷ l) h.turn;
-    size = ap (λ m. length (chosen (m ∷ marks) (list ∷ rows))) mark ∙ ap suc h.size;
+    size = ap (λ m. length (marked_ones (m ∷ marks) (list ∷ rows))) mark ∙ ap suc h.size;
   }
   input-turns true false is_kept file columns (list ∷ rows) both mark row h = record {
-    turn = ap (λ m. in_turn kinds (chosen (m ∷ marks) (list ∷ rows)) kept) mark ∙ h.turn;
-    size = ap (λ m. length (chosen (m ∷ marks) (list ∷ rows))) mark ∙ h.size;
+    turn = ap (λ m. lists_in_turn kinds (marked_ones (m ∷ marks) (list ∷ rows)) kept) mark ∙ h.turn;
+    size = ap (λ m. length (marked_ones (m ∷ marks) (list ∷ rows))) mark ∙ h.size;
   }
   input-turns false true is_kept file columns rows both mark row h = let e = both refl in cc
   input-turns false false is_kept file columns rows both mark row h =
@@ -108,7 +109,8 @@ module _ (to : Script) (n : ℕ) (all : Table) (kinds marks : List Bool) (kept r
   }
   other-turns needed true false how none rows both h = record {
     turn =
-        (λ i. in_turn (none.kind i ++ kinds) (chosen marks rows) (none.kept all n i ++ kept))
+        (λ i. lists_in_turn (none.kind i ++ kinds) (marked_ones marks rows)
+        (none.kept all n i ++ kept))
         ∙ h.turn
         ∙ ap (λ l. l ++ rest) (sym (none_first how none.others rows));
     size = h.size ∙ ap (λ l. input_count (l ++ kinds)) (sym none.kind);
@@ -158,7 +160,7 @@ module _ (script : Script) (well : IsWellFormed script) (found : List ℕ) (all 
   Numbers = List (ℕ × (List ℕ × Node))
 
   abbrev needed_in : Script → ℕ → Named Node → Numbers
-  needed_in own n nodes = filter (λ it. is_needed own it.0) (numbered n nodes)
+  needed_in own n nodes = filter (λ it. is_needed own it.0) (collections_numbered n nodes)
 
   abbrev kinds_from : ℕ → Named Node → List Bool
   kinds_from n nodes = flat_map (λ it. source_kind it.1.1.made) (needed_in to n nodes)
@@ -171,8 +173,8 @@ module _ (script : Script) (well : IsWellFormed script) (found : List ℕ) (all 
 
   abbrev InTurn : ℕ → Named Node → Lists → Type 0
   InTurn n nodes rows =
-      IsTurn (kinds_from n (saved_from found n nodes)) (marks_from n nodes) rows
-      (kept_from n (saved_from found n nodes)) (to_come script found all n nodes rows)
+      IsTurn (kinds_from n (saved_among found n nodes)) (marks_from n nodes) rows
+      (kept_from n (saved_among found n nodes)) (to_come script found all n nodes rows)
 
   mark-if : (still is_kept : Bool) (how : Made)
       → (still && is_input (Some (made_if is_kept how)))
@@ -183,11 +185,11 @@ module _ (script : Script) (well : IsWellFormed script) (found : List ℕ) (all 
 
   -- whether an input is needed still
   mark-is : (n : ℕ) (how : Made) → slice_get (made_of script) n ≡ Some how
-      → needs_input to n ≡ (is_needed to n && (not (has found n) && is_input (Some how)))
+      → needs_input to n ≡ (is_needed to n && (not (holds_number found n) && is_input (Some how)))
   mark-is n how is =
       ap (λ o. is_needed to n && is_input o)
-      (made-saved script found n ∙ ap (option_map (made_if (has found n))) is)
-      ∙ mark-if (is_needed to n) (has found n) how
+      (made-saved script found n ∙ ap (option_map (made_if (holds_number found n))) is)
+      ∙ mark-if (is_needed to n) (holds_number found n) how
 
   saved-made : (b : Bool) (entry : List ℕ × Node)
       → (if b then (entry.0, saved_node entry.1) else entry).1.made ≡ made_if b entry.1.made
@@ -242,7 +244,7 @@ module _ (script : Script) (well : IsWellFormed script) (found : List ℕ) (all 
       let how = entry.1.made in
       let needed = is_needed script n in
       let still = is_needed to n in
-      let b = has found n in
+      let b = holds_number found n in
       let now : (if needed then option_and_then (λ c.
       collections script nodes (inputs_behind how rows) (here ++ Some c ∷ []))
       (made_as script (length here) how rows here)
@@ -256,7 +258,7 @@ module _ (script : Script) (well : IsWellFormed script) (found : List ℕ) (all 
       (append_assoc before (entry ∷ []) nodes ∙ split) un.1 (suc n)
       (omega (arith, place, length-append before (entry ∷ []))) (rows_left needed how rows)
       (here ++ left.0 ∷ []) (omega (arith, size, one_longer here left.0)) left.1 in
-      let saved_nodes = saved_from found (suc n) nodes in
+      let saved_nodes = saved_among found (suc n) nodes in
       let it =
       turns to n all (kinds_from (suc n) saved_nodes) (marks_from (suc n) nodes)
       (kept_from (suc n) saved_nodes)
@@ -280,9 +282,11 @@ module _ (script : Script) (well : IsWellFormed script) (found : List ℕ) (all 
       (saved-made b entry) in
       record {
         turn =
-            (λ i. in_turn (kinds_are i) (chosen (marks_are i) rows) (kept_are i)) ∙ it.turn;
+            (λ i. lists_in_turn (kinds_are i) (marked_ones (marks_are i) rows) (kept_are i))
+            ∙ it.turn;
         size =
-            ap (λ l. length (chosen l rows)) marks_are ∙ it.size ∙ ap input_count (sym kinds_are);
+            ap (λ l. length (marked_ones l rows)) marks_are ∙ it.size
+            ∙ ap input_count (sym kinds_are);
       }
 
   -- what is given to the later script, in order
@@ -292,5 +296,5 @@ module _ (script : Script) (well : IsWellFormed script) (found : List ℕ) (all 
       ≡ to_come script found all 0 script.nodes rows
   lists-turn un rows h =
       let it = all-turn script.nodes [] refl un 0 refl rows [] refl h in
-      ordered-both (source_kinds to) (chosen (still_needed script to) rows) (all_kept to all)
+      ordered-both (source_kinds to) (marked_ones (still_needed script to) rows) (all_kept to all)
       it.size ∙ it.turn

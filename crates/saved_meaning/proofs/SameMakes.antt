@@ -16,7 +16,7 @@ use Rattle.script_program.specs.Script.{Script}
 use Rattle.direct_meaning.specs.of_script_laws.WellFormed.{function_at}
 use Rattle.direct_meaning.specs.Calls.{answer_of}
 use Rattle.direct_meaning.specs.Direct.{all_made, combined_by, counted_by, done_by, inputs_behind}
-use Rattle.direct_meaning.specs.Direct.{joined_by, made_as, made_at, top_by}
+use Rattle.direct_meaning.specs.Direct.{joined_collections, made_as, made_at, top_by}
 use Rattle.direct_meaning.specs.Inputs.{sourced_by}
 use Rattle.direct_meaning.specs.Objects.{combined_whole, done_beside, operated_by}
 use Rattle.saved_meaning.specs.Found.{members_kept, needed_too}
@@ -61,7 +61,7 @@ module _ (here there : List (Option Collection)) where
       let first = same left (at_head left (right_ ∷ [])) in
       let second =
       same right_ (at_tail left (right_ ∷ []) right_ (at_head right_ [])) in
-      λ i. option_and_then (λ a. option_map (joined_by a) (second i)) (first i)
+      λ i. option_and_then (λ a. option_map (joined_collections a) (second i)) (first i)
   same_made script found number (made.Top many source) rows lists others same =
       ap (option_map (top_by many)) (same source (at_head source []))
   same_made script found number (made.CombineAll source by) rows lists others same =

@@ -4,7 +4,7 @@ use Rattle.std.proofs.Common.{◌≡◌, ℕ, ◌+◌, ◌<◌, Bool, true, fals
 use Rattle.std.specs.List.{Contains}
 use Rattle.std.specs.Option.{option_map}
 use Rattle.script_program.specs.declared.made.Made.{Made}
-use Rattle.script_program.specs.Needed.{LeadsToOutput, Reads, has, is_needed, made_of, operands}
+use Rattle.script_program.specs.Needed.{LeadsToOutput, Reads, holds_number, is_needed, made_of, operands}
 use Rattle.script_program.specs.Saved.{saved_as, with_saved}
 use Rattle.script_program.specs.Script.{Script}
 use Rattle.direct_meaning.specs.of_script_laws.WellFormed.{IsWellFormed}
@@ -25,7 +25,7 @@ module _ (script : Script) (well : IsWellFormed script) (found : List ℕ) where
 
   reads-before : (reader n : ℕ) → Reads later reader n → Reads script reader n
   reads-before reader n reads =
-      reads-if (has found reader) (slice_get (made_of script) reader) n
+      reads-if (holds_number found reader) (slice_get (made_of script) reader) n
       (subst (λ o. IsSomeAnd o (λ (how : Made). Contains (operands how) n))
       (made-saved script found reader) reads)
 
@@ -42,7 +42,8 @@ module _ (script : Script) (well : IsWellFormed script) (found : List ℕ) where
 
   -- what a needed collection is made of, which is not kept, is needed
   pub reads-needed : (n : ℕ) (how : Made) → slice_get (made_of script) n ≡ Some how
-      → has found n ≡ false → is_needed later n ≡ true → (j : ℕ) → Contains (operands how) j
+      → holds_number found n ≡ false → is_needed later n ≡ true → (j : ℕ)
+      → Contains (operands how) j
       → is_needed later j ≡ true
   reads-needed n how is other needed j reads =
       let law = needed_law later (saved-well script well found) in

@@ -10,11 +10,11 @@ use Rattle.flume_value.specs.declared.value.Value.{Value}
 use Rattle.flume_value.proofs.BagLemmas.{bag_of-settled}
 use Rattle.flume_collection.specs.Collection.{Collection}
 use Rattle.written_types.specs.Named.{Named}
-use Rattle.script_program.specs.Needed.{has, is_needed}
+use Rattle.script_program.specs.Needed.{holds_number, is_needed}
 use Rattle.script_program.specs.Script.{Node, Script}
 use Rattle.direct_meaning.specs.Direct.{collections, inputs_behind, made_as, made_at, rows_as}
 use Rattle.direct_meaning.specs.Made.{IsMadeFor}
-use Rattle.saved_meaning.specs.Found.{MayBeFound, members_of, where_needed}
+use Rattle.saved_meaning.specs.Found.{MayBeFound, bag_or_none, where_needed}
 pub use Rattle.direct_meaning.proofs.PlaceLemmas.{found_then as and_then_some, mapped as map_some}
 
 -- ---- what is made stays
@@ -114,14 +114,15 @@ found-if P x n rest true is own others h = subst P (eqb-true x n is) own
 found-if P x n rest false is own others h = others h
 
 -- what holds of each that is found holds of one that is
-pub holds-at : (P : ℕ → Type 0) (found : List ℕ) → Each P found → (n : ℕ) → has found n ≡ true
+pub holds-at : (P : ℕ → Type 0) (found : List ℕ) → Each P found → (n : ℕ)
+    → holds_number found n ≡ true
     → P n
 holds-at P [] each n h = cc
 holds-at P (x ∷ found) each n h =
-    found-if P x n (has found n) (eqb x n) refl each.0 (holds-at P found each.1 n) h
+    found-if P x n (holds_number found n) (eqb x n) refl each.0 (holds-at P found each.1 n) h
 
 pub sound-at : (table : Table) (found : List ℕ) → Each (MayBeFound table) found → (n : ℕ)
-    → has found n ≡ true → MayBeFound table n
+    → holds_number found n ≡ true → MayBeFound table n
 sound-at table found each n h = holds-at (MayBeFound table) found each n h
 
 -- each collection that is made has a list that ascends
@@ -142,8 +143,8 @@ made-of-members : (c : Collection) → bag_of c.bag ≡ c.bag → c.traps ≡ []
 made-of-members c settled none = λ i. record { bag = settled i; traps = sym none i }
 
 pub found-members : (table : Table) (n : ℕ) (c : Collection) → made_at table n ≡ Some c
-    → MayBeFound table n → bag_of c.bag ≡ c.bag → rows_as (members_of (made_at table n)) ≡ c
+    → MayBeFound table n → bag_of c.bag ≡ c.bag → rows_as (bag_or_none (made_at table n)) ≡ c
 found-members table n c is sound settled =
-    ap (λ o. rows_as (members_of o)) is
+    ap (λ o. rows_as (bag_or_none o)) is
     ∙ made-of-members c settled
     (subst (λ o. IsSomeAnd o (λ (it : Collection). it.traps ≡ [])) is sound)

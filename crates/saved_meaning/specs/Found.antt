@@ -33,21 +33,21 @@ still_needed script later =
     flat_map (λ it. needed_too later it.0 it.1.1.made) (needed_nodes script)
 
 -- those that are marked
-abbrev pub chosen : {X : Type 0} → List Bool → List X → List X
-chosen [] xs = []
-chosen (mark ∷ marks) [] = []
-chosen (true ∷ marks) (x ∷ xs) = x ∷ chosen marks xs
-chosen (false ∷ marks) (x ∷ xs) = chosen marks xs
+abbrev pub marked_ones : {X : Type 0} → List Bool → List X → List X
+marked_ones [] xs = []
+marked_ones (mark ∷ marks) [] = []
+marked_ones (true ∷ marks) (x ∷ xs) = x ∷ marked_ones marks xs
+marked_ones (false ∷ marks) (x ∷ xs) = marked_ones marks xs
 
 -- ---- what is kept
 
-abbrev pub members_of : Option Collection → List Value
-members_of None = []
-members_of (Some c) = c.bag
+abbrev pub bag_or_none : Option Collection → List Value
+bag_or_none None = []
+bag_or_none (Some c) = c.bag
 
 -- of a kept collection the members by this table
 abbrev pub members_kept : List (Option Collection) → ℕ → Made → List (List Value)
-members_kept table number (made.Saved is_object call) = members_of (made_at table number) ∷ []
+members_kept table number (made.Saved is_object call) = bag_or_none (made_at table number) ∷ []
 members_kept table number _ = []
 
 -- the same of each that a script needs, in order
@@ -60,14 +60,15 @@ all_kept script table =
 -- what is given to a later script, where a script means this table over these rows
 abbrev pub lists_for : Script → Script → List (List Value) → List (Option Collection)
     → List (List Value)
-lists_for script later rows table = chosen (still_needed script later) rows ++ all_kept later table
+lists_for script later rows table =
+    marked_ones (still_needed script later) rows ++ all_kept later table
 
 -- members of a collection's type, and just one of an object
 abbrev pub IsKeptList : Script → List (Option Collection) → ℕ → Type 0
 IsKeptList script kept number =
     (entry : List ℕ × Node) → slice_get script.nodes number ≡ Some entry
     → IsListOf (record { type = entry.1.type; is_object = gives_object entry.1.made })
-    (members_of (made_at kept number))
+    (bag_or_none (made_at kept number))
 
 -- a collection that may be found: it is made, without a trap
 abbrev pub MayBeFound : List (Option Collection) → ℕ → Type 0

@@ -8,7 +8,7 @@ use Rattle.flume_value.specs.declared.value.Value.TheVariants as variant
 use Rattle.flume_value.specs.Parts.{fields_of, list_layer, members_of, record_layer, text_layer, text_of, wide_layer, wide_of}
 use Rattle.saved_results.specs.declared.saved.Saved.{Saved}
 use Rattle.saved_results.specs.declared.saved.Size.{Size}
-use Rattle.saved_results.specs.Forms.{count_of, saved_from, saved_of, size_from, size_of, sized, sizes_of, two_among, two_of, with_sizes}
+use Rattle.saved_results.specs.Forms.{natural_of, saved_from, saved_of, size_from, size_in_value, sized, sizes_in_values, two_among, two_of, with_sizes}
 use Rattle.saved_results.specs.Saved.{AreCounts, saved_value, size_value}
 
 -- ---- options that are there
@@ -85,7 +85,7 @@ two_again a b =
 
 -- ---- a size
 
-is_count : (z : ℤ) (n : ℕ) → count_of z ≡ Some n → (z ≡ pos n) × (n < 2 ^ 64)
+is_count : (z : ℤ) (n : ℕ) → natural_of z ≡ Some n → (z ≡ pos n) × (n < 2 ^ 64)
 is_count (pos m) n e = tested (nat_lt m (2 ^ 64)) refl e
   where
     tested : (t : Bool) → nat_lt m (2 ^ 64) ≡ t → (if t then Some m else None) ≡ Some n
@@ -96,19 +96,19 @@ is_count (pos m) n e = tested (nat_lt m (2 ^ 64)) refl e
     tested false q e = absurd (cc)
 is_count (negsuc m) n e = absurd (cc)
 
-count_again : (n : ℕ) → n < 2 ^ 64 → count_of (pos n) ≡ Some n
+count_again : (n : ℕ) → n < 2 ^ 64 → natural_of (pos n) ≡ Some n
 count_again n low = ap (λ t. if t then Some n else None) (lt-ltb n (2 ^ 64) low)
 
-size_read : (v : Value) (size : Size) → size_of v ≡ Some size
+size_read : (v : Value) (size : Size) → size_in_value v ≡ Some size
     → (v ≡ size_value size) × (size.members < 2 ^ 64)
 size_read v size e =
     let p = then_some size_from (two_of v) size e in
     let both = p.0 in
-    let t = then_some (λ name. sized name (option_and_then count_of (wide_of both.1)))
+    let t = then_some (λ name. sized name (option_and_then natural_of (wide_of both.1)))
     (text_of both.0) size p.2 in
     let m = map_some (λ members. record { name = t.0; members = members })
-    (option_and_then count_of (wide_of both.1)) size t.2 in
-    let w = then_some count_of (wide_of both.1) m.0 m.1 in
+    (option_and_then natural_of (wide_of both.1)) size t.2 in
+    let w = then_some natural_of (wide_of both.1) m.0 m.1 in
     let n = is_count w.0 m.0 w.2 in
     let first : both.0 ≡ variant.Text t.0 = is_text both.0 t.0 t.1 in
     let second : both.1 ≡ variant.Wide (pos m.0)
@@ -117,28 +117,30 @@ size_read v size e =
     = is_two v both p.1 ∙ (λ i. variant.Rec (first i ∷ second i ∷ [])) in
     (whole ∙ ap size_value m.2, subst (λ (s : Size). s.members < 2 ^ 64) m.2 n.1)
 
-size_again : (size : Size) → size.members < 2 ^ 64 → size_of (size_value size) ≡ Some size
+size_again : (size : Size) → size.members < 2 ^ 64 → size_in_value (size_value size) ≡ Some size
 size_again size low =
     ap (option_and_then size_from)
     (two_again (variant.Text size.name) (variant.Wide (pos size.members)))
-    ∙ ap (λ x. option_and_then (λ name. sized name (option_and_then count_of (wide_of
+    ∙ ap (λ x. option_and_then (λ name. sized name (option_and_then natural_of (wide_of
     (variant.Wide (pos size.members))))) (text_layer x)) (variant.outs-Text size.name)
-    ∙ ap (λ x. sized size.name (option_and_then count_of (wide_layer x)))
+    ∙ ap (λ x. sized size.name (option_and_then natural_of (wide_layer x)))
     (variant.outs-Wide (pos size.members))
     ∙ ap (sized size.name) (count_again size.members low)
 
 -- ---- all sizes
 
-sizes_read : (values : List Value) (sizes : List Size) → sizes_of values ≡ Some sizes
+sizes_read : (values : List Value) (sizes : List Size) → sizes_in_values values ≡ Some sizes
     → (values ≡ map size_value sizes) × AllByRecursion (λ size. size.members < 2 ^ 64) sizes
 sizes_read [] sizes e =
     let none : [] ≡ sizes = cc in
     subst (λ (all : List Size). ([] ≡ map size_value all)
     × AllByRecursion (λ size. size.members < 2 ^ 64) all) none (refl, tt)
 sizes_read (value ∷ values) sizes e =
-    let f = then_some (λ size. option_map (λ all. size ∷ all) (sizes_of values)) (size_of value)
+    let f =
+    then_some (λ size. option_map (λ all. size ∷ all) (sizes_in_values values))
+    (size_in_value value)
     sizes e in
-    let m = map_some (λ all. f.0 ∷ all) (sizes_of values) sizes f.2 in
+    let m = map_some (λ all. f.0 ∷ all) (sizes_in_values values) sizes f.2 in
     let first = size_read value f.0 f.1 in
     let others = sizes_read values m.0 m.1 in
     subst (λ (all : List Size). (value ∷ values ≡ map size_value all)
@@ -146,10 +148,10 @@ sizes_read (value ∷ values) sizes e =
     ((λ i. first.0 i ∷ others.0 i), (first.1, others.1))
 
 sizes_again : (sizes : List Size) → AllByRecursion (λ size. size.members < 2 ^ 64) sizes
-    → sizes_of (map size_value sizes) ≡ Some sizes
+    → sizes_in_values (map size_value sizes) ≡ Some sizes
 sizes_again [] h = refl
 sizes_again (size ∷ sizes) h =
-    ap (option_and_then (λ s. option_map (λ all. s ∷ all) (sizes_of (map size_value sizes))))
+    ap (option_and_then (λ s. option_map (λ all. s ∷ all) (sizes_in_values (map size_value sizes))))
     (size_again size h.0)
     ∙ ap (option_map (λ all. size ∷ all)) (sizes_again sizes h.1)
 
@@ -159,10 +161,13 @@ pub saved_read : (v : Value) (saved : Saved) → saved_of v ≡ Some saved → v
 saved_read v saved e =
     let p = then_some saved_from (two_of v) saved e in
     let both = p.0 in
-    let ms = then_some (λ members. option_and_then (λ sizes. with_sizes members (sizes_of sizes))
+    let ms =
+    then_some (λ members. option_and_then (λ sizes. with_sizes members (sizes_in_values sizes))
     (members_of both.1)) (members_of both.0) saved p.2 in
-    let ss = then_some (λ sizes. with_sizes ms.0 (sizes_of sizes)) (members_of both.1) saved ms.2 in
-    let all = map_some (λ sizes. record { members = ms.0; sizes = sizes }) (sizes_of ss.0) saved
+    let ss =
+    then_some (λ sizes. with_sizes ms.0 (sizes_in_values sizes)) (members_of both.1) saved ms.2 in
+    let all =
+    map_some (λ sizes. record { members = ms.0; sizes = sizes }) (sizes_in_values ss.0) saved
     ss.2 in
     let sizes = sizes_read ss.0 all.0 all.1 in
     let first : both.0 ≡ variant.List ms.0 = is_list both.0 ms.0 ms.1 in
@@ -177,8 +182,10 @@ saved_again saved h =
     ap (option_and_then saved_from)
     (two_again (variant.List saved.members) (variant.List (map size_value saved.sizes)))
     ∙ ap (λ x. option_and_then (λ members. option_and_then (λ sizes.
-    with_sizes members (sizes_of sizes)) (members_of (variant.List (map size_value saved.sizes))))
+    with_sizes members (sizes_in_values sizes)) (members_of
+    (variant.List (map size_value saved.sizes))))
     (list_layer x)) (variant.outs-List saved.members)
-    ∙ ap (λ x. option_and_then (λ sizes. with_sizes saved.members (sizes_of sizes)) (list_layer x))
+    ∙ ap (λ x. option_and_then (λ sizes. with_sizes saved.members (sizes_in_values sizes))
+    (list_layer x))
     (variant.outs-List (map size_value saved.sizes))
     ∙ ap (with_sizes saved.members) (sizes_again saved.sizes h)

@@ -15,9 +15,9 @@ abbrev pub two_of : Value → Option (Value × Value)
 two_of value = option_and_then two_among (fields_of value)
 
 -- a number, where 64 bits without a sign hold it
-abbrev pub count_of : ℤ → Option ℕ
-count_of (pos n) = if nat_lt n (2 ^ 64) then Some n else None
-count_of (negsuc n) = None
+abbrev pub natural_of : ℤ → Option ℕ
+natural_of (pos n) = if nat_lt n (2 ^ 64) then Some n else None
+natural_of (negsuc n) = None
 
 abbrev pub sized : List ℕ → Option ℕ → Option Size
 sized name count = option_map (λ members. record { name = name; members = members }) count
@@ -25,16 +25,17 @@ sized name count = option_map (λ members. record { name = name; members = membe
 -- a name and a number
 abbrev pub size_from : Value × Value → Option Size
 size_from both =
-    option_and_then (λ name. sized name (option_and_then count_of (wide_of both.1)))
+    option_and_then (λ name. sized name (option_and_then natural_of (wide_of both.1)))
     (text_of both.0)
 
-abbrev pub size_of : Value → Option Size
-size_of value = option_and_then size_from (two_of value)
+abbrev pub size_in_value : Value → Option Size
+size_in_value value = option_and_then size_from (two_of value)
 
-abbrev pub sizes_of : List Value → Option (List Size)
-sizes_of [] = Some []
-sizes_of (value ∷ values) =
-    option_and_then (λ size. option_map (λ sizes. size ∷ sizes) (sizes_of values)) (size_of value)
+abbrev pub sizes_in_values : List Value → Option (List Size)
+sizes_in_values [] = Some []
+sizes_in_values (value ∷ values) =
+    option_and_then (λ size. option_map (λ sizes. size ∷ sizes) (sizes_in_values values))
+    (size_in_value value)
 
 abbrev pub with_sizes : List Value → Option (List Size) → Option Saved
 with_sizes members sizes =
@@ -43,7 +44,8 @@ with_sizes members sizes =
 -- two lists: members, and sizes
 abbrev pub saved_from : Value × Value → Option Saved
 saved_from both =
-    option_and_then (λ members. option_and_then (λ sizes. with_sizes members (sizes_of sizes))
+    option_and_then (λ members. option_and_then (λ sizes. with_sizes members
+    (sizes_in_values sizes))
     (members_of both.1)) (members_of both.0)
 
 abbrev pub saved_of : Value → Option Saved

@@ -23,7 +23,7 @@ pub fn saved_in(alloc: Global, value: Value) -> Result<Option<Saved>, AllocError
 
 // These members with these sizes, if they are some.
 fn with_sizes(alloc: Global, members: Items, sizes: Items) -> Result<Option<Saved>, AllocError>
-    ensures { IfOk result (λ found. found ≡ spec.with_sizes members (spec.sizes_of sizes)) }
+    ensures { IfOk result (λ found. found ≡ spec.with_sizes members (spec.sizes_in_values sizes)) }
 {
     match sizes_in(alloc, sizes)? {
         Some(sizes) => Ok(Some(Saved { members, sizes })),
@@ -33,7 +33,7 @@ fn with_sizes(alloc: Global, members: Items, sizes: Items) -> Result<Option<Save
 
 // The sizes that these values are, if all of them are.
 fn sizes_in(alloc: Global, values: Items) -> Result<Option<Pile<Size>>, AllocError>
-    ensures { IfOk result (λ sizes. sizes ≡ spec.sizes_of values) }
+    ensures { IfOk result (λ sizes. sizes ≡ spec.sizes_in_values values) }
 {
     let mut values = values.into_vec();
     let mut sizes = Vec::new(alloc);
@@ -49,7 +49,7 @@ fn sizes_in(alloc: Global, values: Items) -> Result<Option<Pile<Size>>, AllocErr
 
 // The size that a value is, if it is one.
 fn size_in(value: Value) -> Option<Size>
-    ensures { result ≡ spec.size_of value }
+    ensures { result ≡ spec.size_in_value value }
 {
     let (first, second) = two_in(value)?;
     let members = count_in(&second);
@@ -120,7 +120,7 @@ fn text_in(value: Value) -> Option<Str>
 
 // The number that a value is, if 64 bits without a sign hold it.
 fn count_in(value: &Value) -> Option<u64>
-    ensures { result ≡ option_and_then spec.count_of (wide_of value.now) }
+    ensures { result ≡ option_and_then spec.natural_of (wide_of value.now) }
 {
     match value {
         Value::Wide(n) => count(n),
@@ -129,7 +129,7 @@ fn count_in(value: &Value) -> Option<u64>
 }
 
 fn count(n: &i128) -> Option<u64>
-    ensures { result ≡ spec.count_of n.now }
+    ensures { result ≡ spec.natural_of n.now }
 {
     let n = *n;
     u64::try_from(n).ok()

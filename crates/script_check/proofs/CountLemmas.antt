@@ -15,9 +15,9 @@ use Rattle.operation_check.specs.of_written_types.Named.{fresh}
 use Rattle.operation_check.specs.of_written_types.Written.{whole_type}
 use Rattle.script_program.specs.Limits.{most_collections, most_files}
 use Rattle.script_program.specs.declared.made.Standing.TheVariants.{Hidden}
-use Rattle.script_program.specs.Script.{Making, Operand, State, with_hidden, with_name}
+use Rattle.script_program.specs.Script.{Making, Operand, State, with_hidden, with_standing}
 use Rattle.script_program.specs.Script.{with_node, with_nodes}
-use Rattle.script_rules.specs.Operations.{collection, made_by}
+use Rattle.script_rules.specs.Operations.{operand_named, made_by}
 use Rattle.script_rules.specs.Rules as spec
 use Rattle.script_rules.proofs.CheckedLemmas.{both, ok-same}
 use Rattle.script_rules.proofs.FoundLemmas.{before, found, ruled}
@@ -32,10 +32,10 @@ nodes-count (name ∷ names) (making ∷ makings) s =
 hidden-count : (names : List (List ℕ)) (s : State)
     → s.statements ≡ (with_hidden names s).statements
 hidden-count [] s = refl
-hidden-count (name ∷ names) s = hidden-count names (with_name name Hidden s)
+hidden-count (name ∷ names) s = hidden-count names (with_standing name Hidden s)
 
 entry-count : (names entering : List (List ℕ)) (from : List Operand) (s : State)
-    → s.statements ≡ (spec.with_entry names entering from s).statements
+    → s.statements ≡ (spec.entering_state names entering from s).statements
 entry-count names entering from s =
     hidden-count names s
     ∙ nodes-count entering (map spec.entered from) (with_hidden names s)
@@ -65,7 +65,7 @@ module _ (line : ℕ) (s after : State) where
   function-count function e =
       ap count (ruled line function s after e).is
 
-  named-count : (names : List (List ℕ)) (by : Operation) → spec.named line names by s ≡ Ok after
+  named-count : (names : List (List ℕ)) (by : Operation) → spec.let_rule line names by s ≡ Ok after
       → count s ≡ count after
   named-count names by e =
       let new = both (spec.all_fresh line (keys_of s.names) names) _ after e in
@@ -83,7 +83,7 @@ module _ (line : ℕ) (s after : State) where
       → count s ≡ count after
   output-count name file e =
       let few = both (spec.room line 1 most_files s.outputs) _ after e in
-      let one = both (collection line name s) _ after few.then in
+      let one = both (operand_named line name s) _ after few.then in
       let columns = both (or_fault line NotFlat (columns_of one.part.type)) _ after one.then in
       let new = both (fresh line file s.outputs) _ after columns.then in
       ap count (ok-same _ after new.then)
@@ -92,7 +92,7 @@ all-named-count : (lets : List TurnLet) (s after : State) → spec.all_named let
     → count s ≡ count after
 all-named-count [] s after e = ap count (ok-same s after e)
 all-named-count (it ∷ lets) s after e =
-    let next = both (spec.named it.line it.names it.by s) _ after e in
+    let next = both (spec.let_rule it.line it.names it.by s) _ after e in
     named-count it.line s next.part it.names it.by next.first
     ∙ all-named-count lets next.part after next.then
 

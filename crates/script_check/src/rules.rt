@@ -3,7 +3,7 @@ ghost use Rattle.std.specs.Prelude.{◌≡◌, ◌<◌, false, is_some, length, 
 ghost use Rattle.type_table.specs.Table.{type_at};
 ghost use Rattle.operation_check.specs.of_written_types.Answer.{Gives};
 ghost use Rattle.operation_check.specs.of_written_types.Named.{find};
-ghost use Rattle.script_program.specs.Script.{with_type};
+ghost use Rattle.script_program.specs.Script.{with_named_type};
 ghost use Rattle.script_rules.specs.Rules as spec;
 
 use crate::inputs::{rows_for, rows_of};
@@ -66,7 +66,7 @@ fn type_for(
     state: &mut State,
 ) -> Result<TypeId, ScriptFault>
     ensures gives { Gives
-        (λ id. with_type name.now (type_at state.new.types id) state.old.state) result
+        (λ id. with_named_type name.now (type_at state.new.types id) state.old.state) result
         (spec.rule_type line name.now ty.now state.old.state) }
     ensures new { OnOk result (is_some (find name.now state.old.state.types) ≡ false) }
     ensures within { IfOk result (λ id. id < length state.new.types) }

@@ -1,7 +1,7 @@
 // The scale of a function: how many emissions are expected of a hundred calls.
 ghost use Rattle.std.specs.Prelude.{Some};
 ghost use Rattle.operation_check.specs.of_written_types.Answer.{Gives};
-ghost use Rattle.script_rules.specs.Rules.{scale_of};
+ghost use Rattle.script_rules.specs.Rules.{scale_written};
 
 use flume_grammar::{ScriptFault, ScriptKind};
 use flume_value::Str;
@@ -11,7 +11,7 @@ use operation_check::written_types::refused;
 /// How many emissions are expected of a hundred calls, from 0 to 10000: as many, where nothing is
 /// said.
 pub fn scale(line: u32, digits: &Option<Str>) -> Result<u32, ScriptFault>
-    ensures { Gives (λ number. number) result (scale_of line digits.now) }
+    ensures { Gives (λ number. number) result (scale_written line digits.now) }
 {
     match digits {
         None => Ok(100),
@@ -20,7 +20,7 @@ pub fn scale(line: u32, digits: &Option<Str>) -> Result<u32, ScriptFault>
 }
 
 fn written_scale(line: u32, digits: &Str) -> Result<u32, ScriptFault>
-    ensures { Gives (λ number. number) result (scale_of line (Some digits.now)) }
+    ensures { Gives (λ number. number) result (scale_written line (Some digits.now)) }
 {
     match number_within(0, 10000, digits) {
         Some(number) => Ok(number),

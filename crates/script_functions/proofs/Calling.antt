@@ -9,7 +9,7 @@ use Rattle.flume_value.specs.declared.fault.CallFault.TheVariants as call
 use Rattle.flume_value.specs.declared.value.Value.{Value}
 use Rattle.flume_collection.specs.Calls.{Called}
 use Rattle.written_types.specs.Named.{Named}
-use Rattle.dofn_eval.specs.Function.{Function as Fun}
+use Rattle.dofn_eval.specs.Function.{SlotFunction as Fun}
 use Rattle.dofn_eval.specs.Outcome.{Gives, IsFaultIn}
 use Rattle.dofn_eval.specs.Run.{slots_mean}
 use Rattle.forest_steps.specs.Functions.{IsCallFault}

@@ -5,7 +5,7 @@
 ghost use Rattle.std.specs.Prelude.{◌≡◌, ◌∷◌, [], IfOk, IfSome};
 ghost use Rattle.flume_value.specs.declared.value.Value.{Value as GhostValue};
 ghost use Rattle.bag_groups.specs.Pairs.{pair as pair_of};
-ghost use Rattle.dofn_eval.specs.Meaning.{value_of, values_of};
+ghost use Rattle.dofn_eval.specs.Meaning.{expression_value, part_values};
 ghost use Rattle.dofn_eval.specs.Operations.{field_in};
 ghost use Rattle.dofn_eval.specs.Outcome.{Gives};
 ghost use Rattle.dofn_eval.specs.Run.{slots_mean};
@@ -60,7 +60,7 @@ fn emitted_by(stmt: &Stmt) -> Option<&Expr>
 /// a literal or a record of such. No record is made of two fields, which are a pair.
 fn put_together(alloc: Global, e: &Expr, element: &Value) -> Result<Option<Answer>, AllocError>
     ensures { IfOk result (λ made. IfSome made (λ answer. (v : GhostValue)
-        × (value_of e.now (element.now ∷ []) ≡ Gives v)
+        × (expression_value e.now (element.now ∷ []) ≡ Gives v)
         × (lists_of answer ≡ (v ∷ []) ∷ []))) }
 {
     match e {
@@ -86,8 +86,8 @@ fn couple(
     element: &Value,
 ) -> Result<Option<Answer>, AllocError>
     ensures { IfOk result (λ made. IfSome made (λ answer. (k v : GhostValue)
-        × (value_of key.now (element.now ∷ []) ≡ Gives k)
-        × (value_of value.now (element.now ∷ []) ≡ Gives v)
+        × (expression_value key.now (element.now ∷ []) ≡ Gives k)
+        × (expression_value value.now (element.now ∷ []) ≡ Gives v)
         × (lists_of answer ≡ (pair_of k v ∷ []) ∷ []))) }
 {
     let Some(key) = part(key, element) else {
@@ -104,7 +104,7 @@ fn couple(
 /// What expressions give with the element in scope, where all are parts of that or literals.
 fn fields(alloc: Global, parts: &[Expr], element: &Value) -> Result<Option<Pile<Value>>, AllocError>
     ensures { IfOk result (λ made. IfSome made (λ all.
-        values_of value_of parts.now (element.now ∷ []) [] ≡ Gives all)) }
+        part_values expression_value parts.now (element.now ∷ []) [] ≡ Gives all)) }
 {
     if !parts.iter().all(is_part) {
         return Ok(None);
@@ -130,7 +130,7 @@ fn is_part(e: &Expr) -> bool {
 
 /// The literal that an expression is, or the part of the element that it names.
 fn part<'a>(e: &'a Expr, element: &'a Value) -> Option<&'a Value>
-    ensures { IfSome result (λ part. value_of e.now (element.now ∷ []) ≡ Gives part.now) }
+    ensures { IfSome result (λ part. expression_value e.now (element.now ∷ []) ≡ Gives part.now) }
 {
     match e {
         Expr::Literal(value) => Some(value),

@@ -11,17 +11,18 @@ use Rattle.script_keys.specs.declared.parts.KeyPart.TheVariants as part
 use Rattle.script_keys.specs.Rests.{belongs}
 
 -- the parts that a statement gives to a key to which it belongs: its text, and the file of an input
-abbrev pub parts_of : Outline → List ℕ → List KeyPart
-parts_of (outline.Input name file) text = part.Text text ∷ part.File file ∷ []
-parts_of _ text = part.Text text ∷ []
+abbrev pub key_parts_of : Outline → List ℕ → List KeyPart
+key_parts_of (outline.Input name file) text = part.Text text ∷ part.File file ∷ []
+key_parts_of _ text = part.Text text ∷ []
 
 -- what the key of a collection is made of, in the order of the script, where its statements have
 -- these outlines and texts
-abbrev pub parts_from : List ℕ → List Outline → List (List ℕ) → List KeyPart
-parts_from name [] texts = []
-parts_from name (it ∷ others) [] = []
-parts_from name (it ∷ others) (text ∷ texts) =
-    (if belongs name others it then parts_of it text else []) ++ parts_from name others texts
+abbrev pub key_parts_from : List ℕ → List Outline → List (List ℕ) → List KeyPart
+key_parts_from name [] texts = []
+key_parts_from name (it ∷ others) [] = []
+key_parts_from name (it ∷ others) (text ∷ texts) =
+    (if belongs name others it then key_parts_of it text else [])
+    ++ key_parts_from name others texts
 
 -- ---- bytes
 
@@ -34,8 +35,8 @@ part_bytes files (part.Text text) = piece text
 part_bytes files (part.File name) = piece (unwrap_or (bytes_of files name) [])
 
 -- the key of the collection of a name, which is made of these parts, where these are the files
-abbrev pub key_of : List File → List KeyPart → List ℕ → List ℕ
-key_of files parts name =
+abbrev pub collection_key : List File → List KeyPart → List ℕ → List ℕ
+collection_key files parts name =
     (codes "FLUME1" ++ flat_map (part_bytes files) parts) ++ piece name
 
 -- ---- what a key does not depend on

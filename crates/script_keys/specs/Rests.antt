@@ -8,18 +8,18 @@ use Rattle.script_keys.specs.declared.outline.Outline.TheVariants as outline
 use Rattle.script_keys.specs.declared.rests.Names.{Names}
 
 -- the name is among these
-abbrev pub has : List (List ℕ) → List ℕ → Bool
-has names name = list_any (λ own. bytes_eq own name) names
+abbrev pub holds_name : List (List ℕ) → List ℕ → Bool
+holds_name names name = list_any (λ own. bytes_eq own name) names
 
 -- the name of a collection alone
-abbrev pub only : List ℕ → Names
-only name = record { collections = name ∷ []; functions = [] }
+abbrev pub name_alone : List ℕ → Names
+name_alone name = record { collections = name ∷ []; functions = [] }
 
 -- a statement defines one of these names
 abbrev pub is_named : Names → Outline → Bool
-is_named names (outline.Input name file) = has names.collections name
-is_named names (outline.Function name) = has names.functions name
-is_named names (outline.Let own reads calls) = list_any (has names.collections) own
+is_named names (outline.Input name file) = holds_name names.collections name
+is_named names (outline.Function name) = holds_name names.functions name
+is_named names (outline.Let own reads calls) = list_any (holds_name names.collections) own
 is_named names _ = false
 
 -- these names, and those of what a statement reads and calls
@@ -37,13 +37,13 @@ names_before names it = if is_named names it then with_named names it else names
 
 -- what a collection rests on, by names, before these statements, which are all behind them
 abbrev pub rested_on : List ℕ → List Outline → Names
-rested_on name [] = only name
+rested_on name [] = name_alone name
 rested_on name (it ∷ others) = names_before (rested_on name others) it
 
 -- a statement defines the collection of that name
 abbrev pub defines : Outline → List ℕ → Bool
 defines (outline.Input own file) name = bytes_eq own name
-defines (outline.Let names reads calls) name = has names name
+defines (outline.Let names reads calls) name = holds_name names name
 defines _ name = false
 
 -- one of these does

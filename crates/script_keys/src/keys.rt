@@ -16,7 +16,7 @@ pub fn key_of(
     files: &[File],
     name: &Str,
 ) -> Result<Vec<u8>, AllocError>
-    ensures { IfOk result (λ key. key.items ≡ spec.key_of files.now parts.now name.now) }
+    ensures { IfOk result (λ key. key.items ≡ spec.collection_key files.now parts.now name.now) }
 {
     let mut key = Vec::from_slice(alloc, b"FLUME1")?;
     for part in parts {

@@ -10,9 +10,9 @@ pub fn key_law()
     // The texts of statements that do not belong to it have no part in it,
     ensures texts { (name : List ℕ) (outlines : List Lined) (texts more : List (List ℕ)) →
         spec.AreSameWhereBelonging name outlines texts more →
-        spec.parts_from name outlines texts ≡ spec.parts_from name outlines more }
+        spec.key_parts_from name outlines texts ≡ spec.key_parts_from name outlines more }
     // nor have the files that none of its parts names.
     ensures files { (name : List ℕ) (parts : List Part) (files others : List NamedBytes) →
         spec.AreSameFiles files others parts →
-        spec.key_of files parts name ≡ spec.key_of others parts name }
+        spec.collection_key files parts name ≡ spec.collection_key others parts name }
 {}

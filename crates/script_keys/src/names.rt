@@ -1,7 +1,7 @@
 // Names, copied behind others and looked for.
 ghost use Rattle.std.specs.Prelude.{◌≡◌, ◌++◌, ◌∷◌, [], IfOk, OnOk};
 ghost use Rattle.std.specs.List.{list_any};
-ghost use Rattle.script_keys.specs.Rests.{has};
+ghost use Rattle.script_keys.specs.Rests.{holds_name};
 
 use flume_value::{Pile, Str};
 use std::alloc::{AllocError, Global};
@@ -34,14 +34,14 @@ pub fn copies(alloc: Global, names: &[Str]) -> Result<Pile<Str>, AllocError>
 
 /// Whether the name is among these.
 pub fn has_name(names: &[Str], name: &Str) -> bool
-    ensures { result ≡ has names.now name.now }
+    ensures { result ≡ holds_name names.now name.now }
 {
     names.iter().any(|own| own.is(name.as_bytes()))
 }
 
 /// Whether one of some names is among these.
 pub fn has_some(names: &[Str], some: &[Str]) -> bool
-    ensures { result ≡ list_any (has names.now) some.now }
+    ensures { result ≡ list_any (holds_name names.now) some.now }
 {
     some.iter().any(|name| has_name(names, name))
 }

@@ -56,7 +56,7 @@ fn input(alloc: Global, name: &Str, file: &Str) -> Result<Outline, AllocError>
 
 fn plain_let(alloc: Global, names: &[Str], by: &Operation) -> Result<Outline, AllocError>
     ensures { IfOk result (λ it. it
-        ≡ Outline.Let names.now (spec.operands by.now) (spec.callees by.now)) }
+        ≡ Outline.Let names.now (spec.operand_names by.now) (spec.callees by.now)) }
 {
     let names = copies(alloc, names)?;
     let mut reads = Pile::new(alloc);
@@ -111,7 +111,7 @@ fn called_in(alloc: Global, repeat: &Repeat) -> Result<Pile<Str>, AllocError>
 
 // Puts the collections and objects that an operation reads behind others.
 fn add_operands(alloc: Global, by: &Operation, reads: &mut Pile<Str>) -> Result<(), AllocError>
-    ensures { OnOk result (reads.new ≡ reads.old ++ spec.operands by.now) }
+    ensures { OnOk result (reads.new ≡ reads.old ++ spec.operand_names by.now) }
 {
     match by {
         Operation::Do(source, _) => with_name(alloc, reads, source),

@@ -24,7 +24,7 @@ pub fn key_parts(
 ) -> Result<Pile<KeyPart>, AllocError>
     requires { length texts.now ≡ length outlines.now }
     ensures { IfOk result (λ parts. parts
-        ≡ spec.parts_from name.now outlines.now texts.now) }
+        ≡ spec.key_parts_from name.now outlines.now texts.now) }
 {
     let flags = belonging(alloc, outlines, name)?;
     let mut parts = Vec::new(alloc);
@@ -43,7 +43,7 @@ fn push_marked(
     parts: &mut Vec<KeyPart>,
 ) -> Result<(), AllocError>
     ensures { OnOk result (parts.new.items
-        ≡ parts.old.items ++ (if flag then spec.parts_of outline.now text.now else [])) }
+        ≡ parts.old.items ++ (if flag then spec.key_parts_of outline.now text.now else [])) }
 {
     if flag {
         push_parts(alloc, outline, text, parts)
@@ -60,7 +60,7 @@ fn push_parts(
     parts: &mut Vec<KeyPart>,
 ) -> Result<(), AllocError>
     ensures { OnOk result (parts.new.items
-        ≡ parts.old.items ++ spec.parts_of outline.now text.now) }
+        ≡ parts.old.items ++ spec.key_parts_of outline.now text.now) }
 {
     parts.push(KeyPart::Text(text.copy(alloc)?))?;
     if let Outline::Input { file, .. } = outline {

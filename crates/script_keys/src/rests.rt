@@ -44,7 +44,7 @@ fn unmarked(alloc: Global, count: usize) -> Result<Vec<bool>, AllocError>
 
 // The name of a collection alone.
 fn only(alloc: Global, name: &Str) -> Result<Names, AllocError>
-    ensures { IfOk result (λ names. names ≡ spec.only name.now) }
+    ensures { IfOk result (λ names. names ≡ spec.name_alone name.now) }
 {
     let mut collections = Pile::new(alloc);
     with_name(alloc, &mut collections, name)?;

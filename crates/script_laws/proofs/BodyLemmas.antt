@@ -170,7 +170,8 @@ pub record HasNamed (s after : State) (names : List (List ℕ)) : Type 0 where
   pub few : length after.nodes ≤ length s.nodes + length names
 
 module _ (line : ℕ) (s after : State) where
-  pub has-named : (names : List (List ℕ)) (by : Operation) → spec.named line names by s ≡ Ok after
+  pub has-named : (names : List (List ℕ)) (by : Operation)
+      → spec.let_rule line names by s ≡ Ok after
       → HasNamed s after names
   has-named names by e =
       let new = both (spec.all_fresh line (keys_of s.names) names) _ after e in
@@ -198,6 +199,6 @@ pub has-all-named : (lets : List TurnLet) (s after : State) → spec.all_named l
     → HasLets s after
 has-all-named [] s after e = subst (HasLets s) (ok-same s after e) (no-lets s)
 has-all-named (it ∷ lets) s after e =
-    let next = both (spec.named it.line it.names it.by s) _ after e in
+    let next = both (spec.let_rule it.line it.names it.by s) _ after e in
     let first = has-named it.line s next.part it.names it.by next.first in
     lets-behind s next.part after first.has (has-all-named lets next.part after next.then)

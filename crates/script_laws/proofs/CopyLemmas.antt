@@ -6,7 +6,7 @@ use Rattle.script_rules.specs.of_written_types.Named.{Named}
 use Rattle.script_rules.specs.of_script_program.declared.made.Made.{Made}
 use Rattle.script_rules.specs.of_script_program.declared.made.Made.TheVariants as made
 use Rattle.script_rules.specs.of_script_program.Script.{Function, Node}
-use Rattle.script_rules.specs.Repeats.{Repeat, copied, nodes_left, renumbered, turn_gives}
+use Rattle.script_rules.specs.Repeats.{Repeat, copied_let, nodes_left, made_from_others, turn_gives}
 use Rattle.script_rules.specs.Repeats.{turn_nodes, turn_to}
 use Rattle.script_laws.specs.Fitting.{lets_of}
 use Rattle.script_laws.proofs.CallLemmas.{CallsStand, calls-append}
@@ -21,7 +21,8 @@ record IsCallFrom (to : ℕ → ℕ) (how : Made) (source called output : ℕ) :
   pub stands : to other ≡ source
 
 call-from : (to : ℕ → ℕ) (how : Made) (source called output : ℕ)
-    → renumbered to how ≡ made.Do source called output → IsCallFrom to how source called output
+    → made_from_others to how ≡ made.Do source called output
+    → IsCallFrom to how source called output
 call-from to (made.Do other function place) source called output e =
     let one : to other ≡ source = cc in
     let two : function ≡ called = cc in
@@ -30,16 +31,16 @@ call-from to (made.Do other function place) source called output e =
 call-from to _ source called output e = cc
 
 copied-mades : (turn : ℕ) (to : ℕ → ℕ) (nodes : Named Node)
-    → map how_made (map (copied turn to) nodes) ≡ map (renumbered to) (map how_made nodes)
+    → map how_made (map (copied_let turn to) nodes) ≡ map (made_from_others to) (map how_made nodes)
 copied-mades turn to [] = refl
 copied-mades turn to (entry ∷ nodes) =
-    ap (λ rest. renumbered to entry.1.made ∷ rest) (copied-mades turn to nodes)
+    ap (λ rest. made_from_others to entry.1.made ∷ rest) (copied-mades turn to nodes)
 
 module _ (functions : Named Function) where
   calls-renumbered : (to : ℕ → ℕ) (all : List Made) → CallsStand functions all
-      → CallsStand functions (map (renumbered to) all)
+      → CallsStand functions (map (made_from_others to) all)
   calls-renumbered to all stand number source called output is =
-      let found = in_mapped (renumbered to) all number (made.Do source called output) is in
+      let found = in_mapped (made_from_others to) all number (made.Do source called output) is in
       let call = call-from to found.0 source called output found.2 in
       let it = stand number call.other called output (found.1 ∙ ap Some call.is) in
       record {
@@ -49,7 +50,7 @@ module _ (functions : Named Function) where
         calls = it.calls;
         outputs =
             λ k below.
-            of_mapped (renumbered to) all (it.first + k) (made.Do call.other called k)
+            of_mapped (made_from_others to) all (it.first + k) (made.Do call.other called k)
             (it.outputs k below)
             ∙ ap (λ n. Some (made.Do n called k)) call.stands;
       }

@@ -11,7 +11,7 @@ use Rattle.script_rules.specs.of_script_program.declared.made.Made.{Made}
 use Rattle.script_rules.specs.of_script_program.declared.made.Made.TheVariants as made
 use Rattle.script_rules.specs.of_script_program.declared.made.Output.{Output}
 use Rattle.script_rules.specs.of_script_program.Script.{Function, Node}
-use Rattle.script_rules.specs.Repeats.{renumbered}
+use Rattle.script_rules.specs.Repeats.{made_from_others}
 use Rattle.script_laws.specs.WellFormed.{Fits, AllFit, AllReadKinds, HasColumns, ComesOfEarlierRun, function_at}
 use Rattle.script_laws.specs.WellFormed.{members_at}
 use Rattle.script_laws.proofs.PlaceLemmas.{mapped-kept}
@@ -41,7 +41,7 @@ module _ (functions others : Named Function) (a b : Named Node) (to : ℕ → �
     }
 
     pub fits-kept : (how : Made) (type : Ty) → Fits functions a how type
-        → Fits others b (renumbered to how) type
+        → Fits others b (made_from_others to how) type
     fits-kept (made.Input file columns) type fits = fits
     fits-kept (made.Do source called output) type fits = record {
       function = fits.function;
@@ -116,7 +116,7 @@ module _ (functions others : Named Function) (a b : Named Node) (to : ℕ → �
     fits-kept (made.Saved is_object call) type fits = kept-fits call type fits
 
 -- under the numbers that stand there
-pub itself : (how : Made) → renumbered (λ n. n) how ≡ how
+pub itself : (how : Made) → made_from_others (λ n. n) how ≡ how
 itself (made.Flatten sources) = ap (λ l. made.Flatten l) (map-id sources)
 itself (made.Operate objects called) = ap (λ l. made.Operate l called) (map-id objects)
 itself _ = refl

@@ -9,7 +9,7 @@ use Rattle.flume_types.specs.declared.types.Ty.{Ty}
 use Rattle.script_rules.specs.of_written_types.Named.{Named}
 use Rattle.script_rules.specs.of_script_program.Kinds.{gives_object}
 use Rattle.script_rules.specs.of_script_program.Script.{Function, Node}
-use Rattle.script_rules.specs.Repeats.{Repeat, copied, nodes_left, seen, turn_gives, turn_nodes}
+use Rattle.script_rules.specs.Repeats.{Repeat, copied_let, nodes_left, seen, turn_gives, turn_nodes}
 use Rattle.script_rules.specs.Repeats.{turn_to, unrolled}
 use Rattle.script_laws.specs.Fitting.{IsOfType, RepeatFits}
 use Rattle.script_laws.specs.WellFormed.{AllFit, AllReadKinds}
@@ -58,22 +58,22 @@ module _ (functions : Named Function) (before : Named Node) (repeat : Repeat)
     -- one more let on both sides
     keeps-more : (front real : Named Node) (entry : List ℕ × Node)
         → to (length front) ≡ length real → KeepsSight to front real
-        → KeepsSight to (front ++ entry ∷ []) (real ++ copied turn to entry ∷ [])
+        → KeepsSight to (front ++ entry ∷ []) (real ++ copied_let turn to entry ∷ [])
     keeps-more front real entry stands keeps n x is =
         let within = seen_at (front ++ entry ∷ []) n x is in
         below_more
         (λ n. sight_of (slice_get (front ++ entry ∷ []) n) ≡ Some x
-        → sight_of (slice_get (real ++ copied turn to entry ∷ []) (to n)) ≡ Some x)
+        → sight_of (slice_get (real ++ copied_let turn to entry ∷ []) (to n)) ≡ Some x)
         (length front)
         (λ k earlier held.
         let there =
         keeps k x (ap sight_of (sym (in_first front (entry ∷ []) k earlier)) ∙ held) in
         ap sight_of
-        (in_first real (copied turn to entry ∷ []) (to k) (seen_at real (to k) x there))
+        (in_first real (copied_let turn to entry ∷ []) (to k) (seen_at real (to k) x there))
         ∙ there)
         (λ held.
-        ap (λ k. sight_of (slice_get (real ++ copied turn to entry ∷ []) k)) stands
-        ∙ ap sight_of (at_end real (copied turn to entry) [])
+        ap (λ k. sight_of (slice_get (real ++ copied_let turn to entry ∷ []) k)) stands
+        ∙ ap sight_of (at_end real (copied_let turn to entry) [])
         ∙ ap (λ b. Some (entry.1.type, b)) (kind-kept to entry.1.made)
         ∙ ap sight_of (sym (at_end front entry []))
         ∙ held)
@@ -91,9 +91,9 @@ module _ (functions : Named Function) (before : Named Node) (repeat : Repeat)
         ∙ sym reals
 
     record AreCopied (lets front real : Named Node) : Type 0 where
-      fit : AllFit functions real (map (copied turn to) lets)
-      kinds : AllReadKinds real (map (copied turn to) lets)
-      keeps : KeepsSight to (front ++ lets) (real ++ map (copied turn to) lets)
+      fit : AllFit functions real (map (copied_let turn to) lets)
+      kinds : AllReadKinds real (map (copied_let turn to) lets)
+      keeps : KeepsSight to (front ++ lets) (real ++ map (copied_let turn to) lets)
 
     copies : (lets : Named Node) (place : ℕ) (front real : Named Node)
         → place + length lets ≡ length repeat.body
@@ -108,7 +108,7 @@ module _ (functions : Named Function) (before : Named Node) (repeat : Repeat)
           (subst (λ (l : Named Node). KeepsSight to front l) (sym (append-nil real)) keeps);
     }
     copies (entry ∷ lets) place front real last fronts reals keeps fit kinds =
-        let copy = copied turn to entry in
+        let copy = copied_let turn to entry in
         let more =
         copies lets (suc place) (front ++ entry ∷ []) (real ++ copy ∷ [])
         (omega (arith, last)) (omega (arith, length-append front (entry ∷ [])))
@@ -124,11 +124,11 @@ module _ (functions : Named Function) (before : Named Node) (repeat : Repeat)
           kinds = (kinds-renumbered to front real keeps entry.1.made kinds.0, more.kinds);
           keeps =
               subst
-              (λ (l : Named Node). KeepsSight to l (real ++ copy ∷ map (copied turn to) lets))
+              (λ (l : Named Node). KeepsSight to l (real ++ copy ∷ map (copied_let turn to) lets))
               (append_assoc front (entry ∷ []) lets)
               (subst
               (λ (l : Named Node). KeepsSight to (front ++ entry ∷ [] ++ lets) l)
-              (append_assoc real (copy ∷ []) (map (copied turn to) lets)) more.keeps);
+              (append_assoc real (copy ∷ []) (map (copied_let turn to) lets)) more.keeps);
         }
 
     -- what a turn reads in front of its lets
@@ -188,7 +188,7 @@ module _ (functions : Named Function) (before : Named Node) (repeat : Repeat)
       copies turn entering start many repeat.body 0 (before ++ fits.entering) real (omega arith)
       (omega (arith, length-append before fits.entering)) (omega arith)
       (front-keeps turn entering start many real outer enter) fits.lets fits.kinds in
-      let as_many = length-map repeat.body (copied turn to_now) in
+      let as_many = length-map repeat.body (copied_let turn to_now) in
       let given = length-map repeat.gives to_now in
       let zipped =
       zip_length (IsOfType (before ++ fits.entering ++ repeat.body)) repeat.gives fits.entering

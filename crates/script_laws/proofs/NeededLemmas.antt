@@ -16,17 +16,17 @@ use Rattle.script_rules.specs.of_written_types.Named.{Named}
 use Rattle.script_rules.specs.of_script_program.declared.made.Made.{Made}
 use Rattle.script_rules.specs.of_script_program.declared.made.Made.TheVariants as made
 use Rattle.script_rules.specs.of_script_program.Script.{Function, Node, Script}
-use Rattle.script_rules.specs.of_script_program.Needed.{operands, made_of, IsNeeded, LeadsToOutput, has, is_needed}
+use Rattle.script_rules.specs.of_script_program.Needed.{operands, made_of, IsNeeded, LeadsToOutput, holds_number, is_needed}
 use Rattle.script_rules.specs.of_script_program.Needed.{outputs_read, read_from, with_reads}
 use Rattle.script_laws.specs.WellFormed.{members_at, Fits, AllFit, IsWellFormed}
 use Rattle.script_laws.proofs.NewLemmas.{how_made}
 
 -- ---- numbers of a list
 
-has-from : (xs : List ℕ) (n : ℕ) → Contains xs n → has xs n ≡ true
+has-from : (xs : List ℕ) (n : ℕ) → Contains xs n → holds_number xs n ≡ true
 has-from xs n is = list_any-from_Any (λ it. eqb it n) xs (is.0, n, is.1, is.2, eq-eqb n n refl)
 
-from-has : (xs : List ℕ) (n : ℕ) → has xs n ≡ true → Contains xs n
+from-has : (xs : List ℕ) (n : ℕ) → holds_number xs n ≡ true → Contains xs n
 from-has xs n is =
     let some = Any-from_list_any (λ it. eqb it n) xs is in
     (some.0, some.2, subst (λ m. slice_index_or xs some.0 m ≡ m) (eqb-true some.1 n some.4) some.3)
@@ -110,7 +110,7 @@ at_drop (first ∷ all) (suc k) how rest is = at_drop all k how rest is
 
 module _ (script : Script) where
   at_node : (later : List ℕ) (k : ℕ) (how : Made) (n : ℕ) → slice_get (made_of script) k ≡ Some how
-      → ((m : ℕ) → Contains later m → IsNeeded script m) → (b : Bool) → has later k ≡ b
+      → ((m : ℕ) → Contains later m → IsNeeded script m) → (b : Bool) → holds_number later k ≡ b
       → Contains (if b then operands how ++ later else later) n → IsNeeded script n
   at_node later k how n is deeper true read reads =
       ⊎_elim (λ (here : Contains (operands how) n).
@@ -127,7 +127,7 @@ module _ (script : Script) where
   leads k (how ∷ rest) is n reads =
       let next = at_drop (made_of script) k how rest is in
       let later = read_from (outputs_read script) (suc k) rest in
-      at_node later k how n next.0 (leads (suc k) rest next.1) (has later k) refl reads
+      at_node later k how n next.0 (leads (suc k) rest next.1) (holds_number later k) refl reads
 
   needed-from : (n : ℕ) → is_needed script n ≡ true → IsNeeded script n
   needed-from n is =
@@ -143,7 +143,7 @@ kept_at later xs n false is = is
 
 kept : (later : List ℕ) (k : ℕ) (how : Made) (n : ℕ) → Contains later n
     → Contains (with_reads later k how) n
-kept later k how n is = kept_at later (operands how) n (has later k) is
+kept later k how n is = kept_at later (operands how) n (holds_number later k) is
 
 outputs_kept : (outputs : List ℕ) (k : ℕ) (all : List Made) (n : ℕ) → Contains outputs n
     → Contains (read_from outputs k all) n
@@ -152,7 +152,7 @@ outputs_kept outputs k (how ∷ all) n is =
     kept (read_from outputs (suc k) all) k how n (outputs_kept outputs (suc k) all n is)
 
 -- the operands of a collection that is read are read
-here_at : (later xs : List ℕ) (k n : ℕ) (b : Bool) → has later k ≡ b
+here_at : (later xs : List ℕ) (k n : ℕ) (b : Bool) → holds_number later k ≡ b
     → Contains (if b then xs ++ later else later) k → Contains xs n
     → Contains (if b then xs ++ later else later) n
 here_at later xs k n true is read reads = Contains-append_left xs later n reads
@@ -176,7 +176,7 @@ step functions outputs before (first ∷ rest) k len fit zero r at how is read n
     let later = read_from outputs (suc k) (map how_made rest) in
     let same : first.1.made ≡ how = cc in
     let here : r ≡ k = omega arith in
-    here_at later (operands first.1.made) k n (has later k) refl
+    here_at later (operands first.1.made) k n (holds_number later k) refl
     (subst (λ m. Contains (with_reads later k first.1.made) m) here read)
     (subst (λ (it : Made). Contains (operands it) n) (sym same) reads)
 step functions outputs before (first ∷ rest) k len fit (suc i) r at how is read n reads =
@@ -189,7 +189,7 @@ step functions outputs before (first ∷ rest) k len fit (suc i) r at how is rea
     kept later k first.1.made n
     (step functions outputs (before ++ first ∷ []) rest (suc k) (omega arith) fit.1 i r
     (omega arith) how is
-    (behind_at later (operands first.1.made) r (has later k) away read) n reads)
+    (behind_at later (operands first.1.made) r (holds_number later k) away read) n reads)
 
 module _ (script : Script) (well : IsWellFormed script) where
   abbrev all_read : List ℕ

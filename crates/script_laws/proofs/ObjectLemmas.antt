@@ -17,7 +17,7 @@ use Rattle.script_rules.specs.Arguments.{are_both, are_objects, each_fits, is_be
 use Rattle.script_rules.specs.Arguments.{is_record_of, sole, takes_both, takes_objects}
 use Rattle.script_rules.specs.Arguments.{takes_pair, takes_values}
 use Rattle.script_rules.specs.Operations as spec
-use Rattle.script_rules.specs.Operations.{combined_type, numbers}
+use Rattle.script_rules.specs.Operations.{combined_type, operand_numbers}
 use Rattle.script_laws.specs.WellFormed.{IsArgument, IsRecord, members_at, object_at}
 use Rattle.script_rules.proofs.CheckedLemmas.{both, holds, there, ok-same}
 use Rattle.script_laws.proofs.TypeLemmas.{out-same, same-types}
@@ -99,12 +99,13 @@ module _ (line : ℕ) (functions : Named Function) (nodes : Named Node) where
   AreRead operands = Each (IsRead nodes) operands
 
   values-read : (objects : List Operand) → AreRead objects
-      → AllZip (λ object t. members_at nodes object ≡ Some t) (numbers objects) (types objects)
+      → AllZip (λ object t. members_at nodes object ≡ Some t) (operand_numbers objects)
+      (types objects)
   values-read [] all = tt
   values-read (one ∷ others) all = (all.0.members, values-read others all.1)
 
   objects-read : (objects : List Operand) → AreRead objects → are_objects objects ≡ true
-      → Each (λ number. object_at nodes number ≡ Some true) (numbers objects)
+      → Each (λ number. object_at nodes number ≡ Some true) (operand_numbers objects)
   objects-read [] all are = tt
   objects-read (one ∷ others) all are =
       let parts = both_true one.is_object (are_objects others) are in

@@ -15,7 +15,7 @@ use Rattle.script_rules.specs.of_written_types.Named.{Named}
 use Rattle.script_rules.specs.of_script_program.Script.{Function, Node, Operand, Callee, Making}
 use Rattle.script_rules.specs.Arguments.{are_plain, takes_members}
 use Rattle.script_rules.specs.Operations as spec
-use Rattle.script_rules.specs.Operations.{Pair, pair_in, combined_type, numbers}
+use Rattle.script_rules.specs.Operations.{Pair, pair_in, combined_type, operand_numbers}
 use Rattle.script_rules.specs.Operations.{all_same}
 use Rattle.script_laws.specs.WellFormed.{members_at, object_at}
 use Rattle.script_rules.proofs.CheckedLemmas.{both, holds, there, ok-same}
@@ -53,7 +53,7 @@ module _ (line : ℕ) (functions : Named Function) (nodes : Named Node) where
       }
 
   pub group-fits : (source : Operand) (making : Making) → IsRead nodes source
-      → spec.group_of line source ≡ Ok making → Fine making
+      → spec.group_making line source ≡ Ok making → Fine making
   group-fits source making reads e =
       let pair = both (spec.pair_of line source.type) _ making e in
       let plain = both (spec.plain line source) _ making pair.then in
@@ -101,7 +101,7 @@ module _ (line : ℕ) (functions : Named Function) (nodes : Named Node) where
       })
 
   pub count-fits : (source : Operand) → IsRead nodes source
-      → object_at nodes source.number ≡ Some false → Fine (spec.count_of source)
+      → object_at nodes source.number ≡ Some false → Fine (spec.count_making source)
   count-fits source reads plain = record {
     fits = record { member = source.type; reads = reads.members; gives = refl };
     other = tt;
@@ -154,7 +154,7 @@ module _ (line : ℕ) (functions : Named Function) (nodes : Named Node) where
   HasType t number = members_at nodes number ≡ Some t
 
   same-read : (t : Ty) (sources : List Operand) → AreRead sources → all_same t sources ≡ true
-      → AllByRecursion (HasType t) (numbers sources)
+      → AllByRecursion (HasType t) (operand_numbers sources)
   same-read t [] all same = tt
   same-read t (source ∷ sources) all same =
       let parts =
@@ -165,7 +165,7 @@ module _ (line : ℕ) (functions : Named Function) (nodes : Named Node) where
       )
 
   plain-all : (t : Ty) (sources : List Operand) → AreRead sources → all_same t sources ≡ true
-      → AllByRecursion (λ number. object_at nodes number ≡ Some false) (numbers sources)
+      → AllByRecursion (λ number. object_at nodes number ≡ Some false) (operand_numbers sources)
   plain-all t [] all same = tt
   plain-all t (source ∷ sources) all same =
       let parts =
@@ -186,8 +186,8 @@ module _ (line : ℕ) (functions : Named Function) (nodes : Named Node) where
         fits = record {
           some = omega arith;
           read =
-              subst (λ t. All (HasType t) (numbers (first ∷ others))) type
-              (All-from_recursion (HasType first.type) (numbers (first ∷ others))
+              subst (λ t. All (HasType t) (operand_numbers (first ∷ others))) type
+              (All-from_recursion (HasType first.type) (operand_numbers (first ∷ others))
               (same-read first.type (first ∷ others) all are));
         };
         other = tt;

@@ -78,7 +78,7 @@ name-read nodes None operand e = cc
 name-read nodes (Some standing) operand e = standing-read nodes standing operand e
 
 module _ (line : ℕ) (s : State) where
-  pub is-read : (name : List ℕ) (operand : Operand) → spec.collection line name s ≡ Ok operand
+  pub is-read : (name : List ℕ) (operand : Operand) → spec.operand_named line name s ≡ Ok operand
       → IsRead s.nodes operand
   is-read name operand e =
       name-read s.nodes (find name s.names) operand (there line Unknown _ operand e)

@@ -35,7 +35,7 @@ module _ (line : ℕ) (s : State) where
       → All (IsRead s.nodes) sources
   all-read found [] sources all e = subst (All (IsRead s.nodes)) (ok-same found sources e) all
   all-read found (name ∷ names) sources all e =
-      let one = both (spec.collection line name s) _ sources e in
+      let one = both (spec.operand_named line name s) _ sources e in
       all-read (found ++ one.part ∷ []) names sources
       (All-push (IsRead s.nodes) found one.part all (is-read line s name one.part one.first))
       one.then
@@ -86,10 +86,10 @@ module _ (line : ℕ) (s : State) where
 
   -- what each operation but a call makes
 
-  grouped-fits : (source : List ℕ) (making : Making) → spec.grouped line source s ≡ Ok making
+  grouped-fits : (source : List ℕ) (making : Making) → spec.group_rule line source s ≡ Ok making
       → Makes making
   grouped-fits source making e =
-      let one = both (spec.collection line source s) _ making e in
+      let one = both (spec.operand_named line source s) _ making e in
       group-fits line s.functions s.nodes one.part making
       (is-read line s source one.part one.first) one.then
 
@@ -108,36 +108,37 @@ module _ (line : ℕ) (s : State) where
       → ((one : Operand) (by : Comb) (making : Making) → IsRead s.nodes one
       → of one by ≡ Ok making → Makes making)
       → (source : List ℕ) (combiner : Combiner) (making : Making)
-      → (spec.collection line source s >>= (λ one. spec.comb_of line combiner >>= of one))
+      → (spec.operand_named line source s >>= (λ one. spec.comb_for line combiner >>= of one))
       ≡ Ok making
       → Makes making
   combined-fits of fits source combiner =
-      of-two Makes (spec.collection line source s) (spec.comb_of line combiner) of
+      of-two Makes (spec.operand_named line source s) (spec.comb_for line combiner) of
       (λ one by making first second. fits one by making (is-read line s source one first))
 
-  counted-fits : (source : List ℕ) (making : Making) → spec.counted line source s ≡ Ok making
+  counted-fits : (source : List ℕ) (making : Making) → spec.count_rule line source s ≡ Ok making
       → Makes making
   counted-fits source making e =
-      let one = both (spec.collection line source s) _ making e in
+      let one = both (spec.operand_named line source s) _ making e in
       let plain = both (spec.plain line one.part) _ making one.then in
       let reads = is-read line s source one.part one.first in
       subst Makes (ok-same _ making plain.then)
       (count-fits line s.functions s.nodes one.part reads
       (plain-read s.nodes line one.part plain.part reads plain.first))
 
-  joined-fits : (left right : List ℕ) (making : Making) → spec.joined line left right s ≡ Ok making
+  joined-fits : (left right : List ℕ) (making : Making)
+      → spec.join_rule line left right s ≡ Ok making
       → Makes making
   joined-fits left right =
-      of-two Makes (spec.collection line left s) (spec.collection line right s)
+      of-two Makes (spec.operand_named line left s) (spec.operand_named line right s)
       (spec.join_of line)
       (λ one other making first second.
       join-fits line s.functions s.nodes one other making (is-read line s left one first)
       (is-read line s right other second))
 
   greatest-fits : (digits source : List ℕ) (making : Making)
-      → spec.greatest line digits source s ≡ Ok making → Makes making
+      → spec.top_rule line digits source s ≡ Ok making → Makes making
   greatest-fits digits source making e =
-      let one = both (spec.collection line source s) _ making e in
+      let one = both (spec.operand_named line source s) _ making e in
       let number = both (spec.top_number line digits) _ making one.then in
       let plain = both (spec.plain line one.part) _ making number.then in
       let reads = is-read line s source one.part one.first in
@@ -146,7 +147,7 @@ module _ (line : ℕ) (s : State) where
       (plain-read s.nodes line one.part plain.part reads plain.first) number.first)
 
   operated-fits : (names : List (List ℕ)) (function : List ℕ) (making : Making)
-      → spec.operated line names function s ≡ Ok making → Makes making
+      → spec.operate_rule line names function s ≡ Ok making → Makes making
   operated-fits names function making e =
       let all = both (spec.collections_behind line [] names s) _ making e in
       let by = both (spec.callee line function s) _ making all.then in
@@ -156,11 +157,11 @@ module _ (line : ℕ) (s : State) where
       (is-callee line s function by.part by.first) by.then
 
   beside-fits : (source function object : List ℕ) (making : Making)
-      → spec.done_beside line source function object s ≡ Ok making → Makes making
+      → spec.do_with_rule line source function object s ≡ Ok making → Makes making
   beside-fits source function object making e =
-      let one = both (spec.collection line source s) _ making e in
+      let one = both (spec.operand_named line source s) _ making e in
       let by = both (spec.callee line function s) _ making one.then in
-      let other = both (spec.collection line object s) _ making by.then in
+      let other = both (spec.operand_named line object s) _ making by.then in
       do-with-fits line s.functions s.nodes one.part by.part other.part making
       (is-read line s source one.part one.first) (is-callee line s function by.part by.first)
       (is-read line s object other.part other.first) other.then
@@ -172,7 +173,7 @@ module _ (line : ℕ) (s : State) where
       IsAlone s.functions s.nodes makings ⊎ AreOutputs s.functions s.nodes makings
 
   alone-made : (r : Checked Making) (makings : List Making)
-      → ((making : Making) → r ≡ Ok making → Makes making) → spec.alone r ≡ Ok makings
+      → ((making : Making) → r ≡ Ok making → Makes making) → spec.one_making r ≡ Ok makings
       → IsMade makings
   alone-made r makings makes e =
       let one = both r _ makings e in
@@ -186,7 +187,7 @@ module _ (line : ℕ) (s : State) where
       → spec.done line source function s ≡ Ok makings
       → AreOutputs s.functions s.nodes makings
   done-makes source function =
-      of-two (AreOutputs s.functions s.nodes) (spec.collection line source s)
+      of-two (AreOutputs s.functions s.nodes) (spec.operand_named line source s)
       (spec.callee line function s) (spec.do_of line)
       (λ one by makings first second.
       do-makes line s.functions s.nodes one by makings (is-read line s source one first)

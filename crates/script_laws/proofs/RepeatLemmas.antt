@@ -18,9 +18,9 @@ use Rattle.script_rules.specs.of_expression_check.Numbers.{number_within}
 use Rattle.script_rules.specs.of_script_program.Kinds.{gives_object}
 use Rattle.script_rules.specs.of_script_program.Limits.{most_collections}
 use Rattle.script_rules.specs.of_script_program.declared.made.Standing.TheVariants.{Hidden}
-use Rattle.script_rules.specs.of_script_program.Script.{Node, Operand, State, with_front, with_hidden, with_name}
-use Rattle.script_rules.specs.Operations.{collection, collections_behind, numbers}
-use Rattle.script_rules.specs.Repeats.{Repeat, copied, nodes_left, turn_gives, turn_nodes, turn_to}
+use Rattle.script_rules.specs.of_script_program.Script.{Node, Operand, State, with_front, with_hidden, with_standing}
+use Rattle.script_rules.specs.Operations.{operand_named, collections_behind, operand_numbers}
+use Rattle.script_rules.specs.Repeats.{Repeat, copied_let, nodes_left, turn_gives, turn_nodes, turn_to}
 use Rattle.script_rules.specs.Repeats.{unrolled}
 use Rattle.script_rules.specs.Rules as spec
 use Rattle.script_rules.proofs.CheckedLemmas.{both, holds, ok-same, there}
@@ -40,11 +40,11 @@ use Rattle.script_laws.proofs.TypeLemmas.{same-types}
 pub functions-hidden : (names : List (List ℕ)) (s : State)
     → (with_hidden names s).functions ≡ s.functions
 functions-hidden [] s = refl
-functions-hidden (name ∷ names) s = functions-hidden names (with_name name Hidden s)
+functions-hidden (name ∷ names) s = functions-hidden names (with_standing name Hidden s)
 
 outputs-hidden : (names : List (List ℕ)) (s : State) → (with_hidden names s).outputs ≡ s.outputs
 outputs-hidden [] s = refl
-outputs-hidden (name ∷ names) s = outputs-hidden names (with_name name Hidden s)
+outputs-hidden (name ∷ names) s = outputs-hidden names (with_standing name Hidden s)
 
 -- ---- what enters, and what is given
 
@@ -67,7 +67,8 @@ module _ (nodes : Named Node) (statement : ℕ) where
   entries names from = named statement names (map spec.entered from)
 
   enter-of : (names : List (List ℕ)) (from : List Operand) → length names ≡ length from
-      → Each (IsRead nodes) from → AllZip (IsOfType nodes) (numbers from) (entries names from)
+      → Each (IsRead nodes) from
+      → AllZip (IsOfType nodes) (operand_numbers from) (entries names from)
   enter-of [] [] same read = tt
   enter-of [] (one ∷ from) same read = absurd (omega arith)
   enter-of (name ∷ names) [] same read = absurd (omega arith)
@@ -81,7 +82,7 @@ module _ (nodes : Named Node) (statement : ℕ) where
 
   given-of : (names : List (List ℕ)) (from given : List Operand) → length names ≡ length from
       → spec.alike from given ≡ true → Each (IsRead nodes) given
-      → AllZip (IsOfType nodes) (numbers given) (entries names from)
+      → AllZip (IsOfType nodes) (operand_numbers given) (entries names from)
   given-of [] [] [] same is read = tt
   given-of [] [] (other ∷ given) same is read = cc
   given-of [] (one ∷ from) given same is read = absurd (omega arith)
@@ -109,7 +110,7 @@ found-many line s found [] all e =
     let same = ap length (ok-same found all e) in
     omega (arith, same)
 found-many line s found (name ∷ names) all e =
-    let one = both (collection line name s) _ all e in
+    let one = both (operand_named line name s) _ all e in
     let rest = found-many line s (found ++ one.part ∷ []) names all one.then in
     omega (arith, rest, length-append found (one.part ∷ []))
 
@@ -135,7 +136,7 @@ turns-long repeat (suc left) turn entering start =
     omega (
       arith,
       turns-long repeat left (suc turn) given next,
-      length-map repeat.body (copied turn (turn_to repeat entering start)),
+      length-map repeat.body (copied_let turn (turn_to repeat entering start)),
       length-append nodes later,
       suc-mul left (length repeat.body),
     )
@@ -157,7 +158,7 @@ pub record HasEntry (line : ℕ) (names : List (List ℕ)) (written : WrittenRep
   pub gives : length written.gives ≡ length names
 
 pub has-entry : (line : ℕ) (names : List (List ℕ)) (written : WrittenRepeat) (s : State)
-    (entry : spec.Entry) → spec.entry_of line names written s ≡ Ok entry
+    (entry : spec.Entry) → spec.repeat_entry line names written s ≡ Ok entry
     → HasEntry line names written s entry
 has-entry line names written s entry e =
     let hidden = with_hidden names s in
@@ -196,7 +197,7 @@ record IsEntry (nodes : Named Node) (written : WrittenRepeat) (entry : spec.Entr
   pub many : length written.entering ≡ length entry.from
 
 is-entry : (line : ℕ) (names : List (List ℕ)) (written : WrittenRepeat) (s : State)
-    (entry : spec.Entry) → spec.entry_of line names written s ≡ Ok entry
+    (entry : spec.Entry) → spec.repeat_entry line names written s ≡ Ok entry
     → IsEntry s.nodes written entry
 is-entry line names written s entry e =
     let it = has-entry line names written s entry e in
@@ -222,7 +223,7 @@ module _ (names : List (List ℕ)) (written : WrittenRepeat) (s : State)
   hidden = with_hidden names s
 
   abbrev front : State
-  front = spec.with_entry names written.entering entry.from s
+  front = spec.entering_state names written.entering entry.from s
 
   abbrev entering : Named Node
   entering = entries s.nodes hidden.statements written.entering entry.from
@@ -262,7 +263,7 @@ module _ (names : List (List ℕ)) (written : WrittenRepeat) (s : State)
         ≤ most_collections) where
       abbrev repeat : Repeat
       repeat =
-          spec.repeat_from entry (numbers given) (length s.nodes) (length front.nodes) body
+          spec.repeat_from entry (operand_numbers given) (length s.nodes) (length front.nodes) body
 
       repeat-fits : RepeatFits s.functions s.nodes repeat
       repeat-fits = record {
@@ -281,10 +282,12 @@ module _ (names : List (List ℕ)) (written : WrittenRepeat) (s : State)
             (subst (λ nodes. AllReadKinds nodes has.lets) entering-are has.kinds);
         given =
             subst
-            (λ (l : Named Node). AllZip (IsOfType (s.nodes ++ entering ++ l)) (numbers given)
+            (λ (l : Named Node). AllZip (IsOfType (s.nodes ++ entering ++ l))
+            (operand_numbers given)
             entering)
             (sym lets-are)
-            (subst (λ (l : Named Node). AllZip (IsOfType l) (numbers given) entering) body-are
+            (subst (λ (l : Named Node). AllZip (IsOfType l) (operand_numbers given) entering)
+            body-are
             (given-of body.nodes hidden.statements written.entering entry.from given is.many alike
             read));
       }
@@ -326,9 +329,9 @@ has-turns line names written s it first e =
     (holds line Mistyped _ same.part same.first)
     (leb-true many most_collections (holds line TooMany _ has.few has.room)) first in
     let whole :
-    own line names written s has.entry has.body (numbers given.part) ≡ it.repeat =
+    own line names written s has.entry has.body (operand_numbers given.part) ≡ it.repeat =
     ap (own line names written s has.entry has.body)
-    (ok-same (numbers given.part) has.gives same.then)
+    (ok-same (operand_numbers given.part) has.gives same.then)
     ∙ has.repeat in
     subst (λ (behind : State). HasTurns s (spec.with_repeat it.repeat first behind) it.repeat)
     has.behind

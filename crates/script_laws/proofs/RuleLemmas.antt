@@ -28,10 +28,10 @@ use Rattle.script_rules.specs.of_script_program.declared.made.Emitted.{Emitted}
 use Rattle.script_rules.specs.of_script_program.declared.made.Made.{Made}
 use Rattle.script_rules.specs.of_script_program.declared.made.Made.TheVariants as made
 use Rattle.script_rules.specs.of_script_program.declared.made.Output.{Output}
-use Rattle.script_rules.specs.of_script_program.Script.{Function, Making, Node, Script, Signature, State, nothing}
+use Rattle.script_rules.specs.of_script_program.Script.{Function, Making, Node, Script, Signature, State, empty_state}
 use Rattle.script_rules.specs.of_script_program.Script.{node_from, script_from, with_node}
 use Rattle.script_rules.specs.of_script_program.Script.{with_statement}
-use Rattle.script_rules.specs.Operations.{collection}
+use Rattle.script_rules.specs.Operations.{operand_named}
 use Rattle.script_rules.specs.Repeats.{unrolled}
 use Rattle.script_rules.specs.Rules as spec
 use Rattle.script_rules.proofs.CheckedLemmas.{both, holds, there, ok-same}
@@ -161,7 +161,7 @@ module _ (line : ℕ) (s after : State) (good : IsGood s) where
       let new = both (fresh line function.name s.functions) _ signature few.then in
       let takes = both (whole_type line function.takes s.types) _ signature new.then in
       let gives = both (spec.types_given line function s.types) _ signature takes.then in
-      let scale = both (spec.scale_of line function.scale) _ signature gives.then in
+      let scale = both (spec.scale_written line function.scale) _ signature gives.then in
       subst
       (λ (it : Signature). (1 ≤ length it.gives) × (length it.gives ≤ most_outputs))
       (ok-same _ signature scale.then) (given-good function gives.part gives.first)
@@ -224,7 +224,7 @@ module _ (line : ℕ) (s after : State) (good : IsGood s) where
   output-good : (name file : List ℕ) → spec.rule_output line name file s ≡ Ok after → IsGood after
   output-good name file e =
       let few = both (spec.room line 1 most_files s.outputs) _ after e in
-      let one = both (collection line name s) _ after few.then in
+      let one = both (operand_named line name s) _ after few.then in
       let columns = both (or_fault line NotFlat (columns_of one.part.type)) _ after one.then in
       let new = both (fresh line file s.outputs) _ after columns.then in
       subst IsGood (ok-same _ after new.then) (record {
@@ -255,7 +255,7 @@ defined-good (statement ∷ rest) s after good e =
     defined-good rest (with_statement next.part) after
     (rule-good statement.line s next.part good statement.form next.first) next.then
 
-nothing-good : IsGood nothing
+nothing-good : IsGood empty_state
 nothing-good = record {
   made_well = record {
     functions = All-nil (λ (entry : List ℕ × Function). IsWellTyped entry.1);
@@ -327,12 +327,12 @@ record Comes (script : Script) : Type 0 where
 comes : (statements : List Statement) (script : Script) → spec.script_of statements ≡ Ok script
     → Comes script
 comes statements script e =
-    let s = both (spec.defined statements nothing) _ script e in
+    let s = both (spec.defined statements empty_state) _ script e in
     let some = both (unless 0 NoOutput (nat_lt 0 (length s.part.outputs))) _ script s.then in
     record {
       state = s.part;
       is = ok-same _ script some.then;
-      good = defined-good statements nothing s.part nothing-good s.first;
+      good = defined-good statements empty_state s.part nothing-good s.first;
       some =
           (Decides-ltb 0 (length s.part.outputs)).0 (holds 0 NoOutput _ some.part some.first);
     }

@@ -13,8 +13,8 @@ use Rattle.script_rules.specs.of_script_program.declared.made.Made.{Made}
 use Rattle.script_rules.specs.of_script_program.declared.made.Made.TheVariants as made
 use Rattle.script_rules.specs.of_script_program.declared.made.Output.{Output}
 use Rattle.script_rules.specs.of_script_program.Kinds.{emitted_as, gives_object, members_read, values_read}
-use Rattle.script_rules.specs.of_script_program.Needed.{has, made_of}
-use Rattle.script_rules.specs.of_script_program.Saved.{saved_as, saved_from, saved_node, with_saved}
+use Rattle.script_rules.specs.of_script_program.Needed.{holds_number, made_of}
+use Rattle.script_rules.specs.of_script_program.Saved.{saved_as, saved_among, saved_node, with_saved}
 use Rattle.script_rules.specs.of_script_program.Script.{Function, Node, Script}
 use Rattle.script_laws.specs.WellFormed.{AllFit, AllReadKinds, Fits, HasColumns, IsCallOf, ComesOfEarlierRun}
 use Rattle.script_laws.specs.WellFormed.{IsNameOf, IsWellFormed, ReadsKinds, object_at}
@@ -52,13 +52,13 @@ kind-saved false entry = refl
 
 all-read : {X : Type 0} (f : List ℕ × Node → X)
     → ((b : Bool) (entry : List ℕ × Node) → f entry ≡ f (saved_if b entry)) → (found : List ℕ)
-    (n : ℕ) (nodes : Named Node) → map f nodes ≡ map f (saved_from found n nodes)
+    (n : ℕ) (nodes : Named Node) → map f nodes ≡ map f (saved_among found n nodes)
 all-read f same found n [] = refl
 all-read f same found n (entry ∷ nodes) =
-    λ i. same (has found n) entry i ∷ all-read f same found (suc n) nodes i
+    λ i. same (holds_number found n) entry i ∷ all-read f same found (suc n) nodes i
 
 length-saved : (found : List ℕ) (n : ℕ) (nodes : Named Node)
-    → length (saved_from found n nodes) ≡ length nodes
+    → length (saved_among found n nodes) ≡ length nodes
 length-saved found n [] = refl
 length-saved found n (entry ∷ nodes) = ap suc (length-saved found (suc n) nodes)
 
@@ -83,10 +83,10 @@ module _ (functions : Named Function) (found : List ℕ) where
       (λ n type is. sym (read-same typed before after same n) ∙ is) entry.1.made entry.1.type f
 
   all-fit : (n : ℕ) (before after nodes : Named Node) → map typed before ≡ map typed after
-      → AllFit functions before nodes → AllFit functions after (saved_from found n nodes)
+      → AllFit functions before nodes → AllFit functions after (saved_among found n nodes)
   all-fit n before after [] same fit = tt
   all-fit n before after (entry ∷ nodes) same fit =
-      let b = has found n in (
+      let b = holds_number found n in (
         fit-if b before after entry same fit.0,
         all-fit (suc n) (before ++ entry ∷ []) (after ++ saved_if b entry ∷ []) nodes
             (longer typed before after entry (saved_if b entry) same (typed-saved b entry))
@@ -115,10 +115,10 @@ kinds-if false before after entry same reads = record {
 
 all-kinds : (found : List ℕ) (n : ℕ) (before after nodes : Named Node)
     → map kind before ≡ map kind after → AllReadKinds before nodes
-    → AllReadKinds after (saved_from found n nodes)
+    → AllReadKinds after (saved_among found n nodes)
 all-kinds found n before after [] same reads = tt
 all-kinds found n before after (entry ∷ nodes) same reads =
-    let b = has found n in (
+    let b = holds_number found n in (
       kinds-if b before after entry same reads.0,
       all-kinds found (suc n) (before ++ entry ∷ []) (after ++ saved_if b entry ∷ []) nodes
           (longer kind before after entry (saved_if b entry) same (kind-saved b entry)) reads.1,
@@ -135,25 +135,27 @@ made-if true entry = refl
 made-if false entry = refl
 
 made-from : (found : List ℕ) (n k : ℕ) (nodes : Named Node)
-    → slice_get (map (λ entry. entry.1.made) (saved_from found n nodes)) k
-    ≡ option_map (made_if (has found (n + k))) (slice_get (map (λ entry. entry.1.made) nodes) k)
+    → slice_get (map (λ entry. entry.1.made) (saved_among found n nodes)) k
+    ≡ option_map (made_if (holds_number found (n + k))) (slice_get
+    (map (λ entry. entry.1.made) nodes) k)
 made-from found n k [] = refl
 made-from found n zero (entry ∷ nodes) =
-    ap Some (made-if (has found n) entry)
-    ∙ ap (λ m. Some (made_if (has found m) entry.1.made)) (sym (add-zero n))
+    ap Some (made-if (holds_number found n) entry)
+    ∙ ap (λ m. Some (made_if (holds_number found m) entry.1.made)) (sym (add-zero n))
 made-from found n (suc k) (entry ∷ nodes) =
     let e : suc n + k ≡ n + suc k = omega arith in
     made-from found (suc n) k nodes
-    ∙ ap (λ m. option_map (made_if (has found m))
+    ∙ ap (λ m. option_map (made_if (holds_number found m))
     (slice_get (map (λ (it : List ℕ × Node). it.1.made) nodes) k)) e
 
 pub made-saved : (script : Script) (found : List ℕ) (k : ℕ)
     → slice_get (made_of (with_saved found script)) k
-    ≡ option_map (λ how. if has found k then saved_as how else how)
+    ≡ option_map (λ how. if holds_number found k then saved_as how else how)
     (slice_get (made_of script) k)
 made-saved script found k =
     made-from found 0 k script.nodes
-    ∙ ap (λ m. option_map (made_if (has found m)) (slice_get (made_of script) k)) (zero-add k)
+    ∙ ap (λ m. option_map (made_if (holds_number found m)) (slice_get (made_of script) k))
+    (zero-add k)
 
 -- ---- calls
 
@@ -191,7 +193,7 @@ module _ (script : Script) (well : IsWellFormed script) (found : List ℕ) where
       → slice_get (made_of (with_saved found script)) number ≡ Some how
       → emitted_as how ≡ Some it → IsCallOf (with_saved found script) number it
   call-saved number how it is emitted =
-      let b = has found number in
+      let b = holds_number found number in
       let w = was b (slice_get (made_of script) number) how
       (sym (made-saved script found number) ∙ is) in
       let call = well.calls number w.before it w.there
@@ -205,7 +207,7 @@ module _ (script : Script) (well : IsWellFormed script) (found : List ℕ) where
         names = λ k below.
             subst (λ o. IsSomeAnd o (IsNameOf call.source it.function k))
             (sym (made-saved script found (call.first + k)))
-            (name-if (has found (call.first + k)) call.source it.function k
+            (name-if (holds_number found (call.first + k)) call.source it.function k
             (slice_get (made_of script) (call.first + k)) (call.names k below));
       }
 
@@ -214,7 +216,7 @@ module _ (script : Script) (well : IsWellFormed script) (found : List ℕ) where
   columns-saved output h = record {
     type = h.type;
     reads =
-        sym (read-same typed script.nodes (saved_from found 0 script.nodes)
+        sym (read-same typed script.nodes (saved_among found 0 script.nodes)
         (all-read typed typed-saved found 0 script.nodes) output.reads)
         ∙ h.reads;
     columns = h.columns;

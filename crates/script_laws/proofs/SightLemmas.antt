@@ -9,7 +9,7 @@ use Rattle.script_rules.specs.of_script_program.Kinds.{gives_object, members_rea
 use Rattle.script_rules.specs.of_script_program.declared.made.Made.{Made}
 use Rattle.script_rules.specs.of_script_program.declared.made.Made.TheVariants as made
 use Rattle.script_rules.specs.of_script_program.Script.{Function, Node}
-use Rattle.script_rules.specs.Repeats.{renumbered}
+use Rattle.script_rules.specs.Repeats.{made_from_others}
 use Rattle.script_laws.specs.WellFormed.{Fits, ReadsKinds, members_at, object_at}
 use Rattle.script_laws.proofs.FitLemmas.{fits-kept}
 
@@ -60,17 +60,18 @@ with-part part (Some entry) p y keeps is =
 -- ---- under other numbers
 
 -- a collection stays an object
-pub kind-kept : (to : ℕ → ℕ) (how : Made) → gives_object (renumbered to how) ≡ gives_object how
+pub kind-kept : (to : ℕ → ℕ) (how : Made)
+    → gives_object (made_from_others to how) ≡ gives_object how
 kind-kept to (made.Input file columns) = refl
 kind-kept to _ = refl
 
 members-kept : (to : ℕ → ℕ) (how : Made)
-    → members_read (renumbered to how) ≡ map to (members_read how)
+    → members_read (made_from_others to how) ≡ map to (members_read how)
 members-kept to (made.Input file columns) = refl
 members-kept to _ = refl
 
 values-kept : (to : ℕ → ℕ) (how : Made)
-    → values_read (renumbered to how) ≡ map to (values_read how)
+    → values_read (made_from_others to how) ≡ map to (values_read how)
 values-kept to (made.Input file columns) = refl
 values-kept to _ = refl
 
@@ -91,7 +92,8 @@ module _ (to : ℕ → ℕ) (front real : Named Node) (keeps : KeepsSight to fro
   keeps-kinds b (number ∷ numbers) all =
       (keeps-kind number b all.0, keeps-kinds b numbers all.1)
 
-  pub kinds-renumbered : (how : Made) → ReadsKinds front how → ReadsKinds real (renumbered to how)
+  pub kinds-renumbered : (how : Made) → ReadsKinds front how
+      → ReadsKinds real (made_from_others to how)
   kinds-renumbered how reads = record {
     members =
         subst (Each (λ n. object_at real n ≡ Some false)) (sym (members-kept to how))
@@ -102,6 +104,6 @@ module _ (to : ℕ → ℕ) (front real : Named Node) (keeps : KeepsSight to fro
   }
 
   pub fits-renumbered : (functions : Named Function) (how : Made) (type : Ty)
-      → Fits functions front how type → Fits functions real (renumbered to how) type
+      → Fits functions front how type → Fits functions real (made_from_others to how) type
   fits-renumbered functions =
       fits-kept functions functions front real to (λ called function is. is) keeps-type

@@ -9,7 +9,7 @@ use Rattle.flume_types.specs.declared.types.Field.{Field}
 use Rattle.flume_types.specs.Equality.{type_eq}
 use Rattle.flume_types.specs.Tables.{table_of}
 use Rattle.flume_types.proofs.SameLemmas.{ty_eq-Decides}
-use Rattle.script_rules.specs.Operations.{Pair, key_and_value, pair_in, member_in}
+use Rattle.script_rules.specs.Operations.{Pair, key_and_value, pair_in, member_type_in}
 
 pub same-types : (t u : Ty) → type_eq t u ≡ true → t ≡ u
 same-types t u e = (ty_eq-Decides t u).0 e
@@ -70,7 +70,7 @@ is-table t pair e = layer-pair (out-Ty t) t pair refl e
 
 -- ---- lists
 
-layer-member : (x : Ty-F Ty) (t member : Ty) → out-Ty t ≡ x → member_in x ≡ Some member
+layer-member : (x : Ty-F Ty) (t member : Ty) → out-Ty t ≡ x → member_type_in x ≡ Some member
     → t ≡ ty.List member
 layer-member (Ty-F.List part) t member is e =
     let same : part ≡ member = cc in
@@ -81,5 +81,5 @@ layer-member Ty-F.Text t member is e = cc
 layer-member (Ty-F.Rec fields) t member is e = cc
 layer-member (Ty-F.Either left right) t member is e = cc
 
-pub is-list : (t member : Ty) → member_in (out-Ty t) ≡ Some member → t ≡ ty.List member
+pub is-list : (t member : Ty) → member_type_in (out-Ty t) ≡ Some member → t ≡ ty.List member
 is-list t member e = layer-member (out-Ty t) t member refl e

@@ -7,7 +7,7 @@ use Rattle.script_rules.specs.of_script_program.declared.made.Made.{Made}
 use Rattle.script_rules.specs.of_script_program.declared.made.Made.TheVariants as made
 use Rattle.script_rules.specs.of_script_program.Saved.{IsUnsaved}
 use Rattle.script_rules.specs.of_script_program.Script.{Node}
-use Rattle.script_rules.specs.Repeats.{Repeat, copied, nodes_left, renumbered, turn_gives}
+use Rattle.script_rules.specs.Repeats.{Repeat, copied_let, nodes_left, made_from_others, turn_gives}
 use Rattle.script_rules.specs.Repeats.{turn_nodes, turn_to}
 use Rattle.script_laws.specs.Fitting.{AreInPlace, IsInPlace}
 use Rattle.script_laws.proofs.NewLemmas.{how_made}
@@ -37,12 +37,12 @@ places-unsaved place (entry ∷ nodes) here = (
 
 -- ---- copies of them
 
-copy-unsaved : (to : ℕ → ℕ) (how : Made) → IsUnsaved how → IsUnsaved (renumbered to how)
+copy-unsaved : (to : ℕ → ℕ) (how : Made) → IsUnsaved how → IsUnsaved (made_from_others to how)
 copy-unsaved to (made.Saved is_object call) own = own
 copy-unsaved to _ own = tt
 
 copies-unsaved : (turn : ℕ) (to : ℕ → ℕ) (nodes : Named Node) → AreUnsaved nodes
-    → AreUnsaved (map (copied turn to) nodes)
+    → AreUnsaved (map (copied_let turn to) nodes)
 copies-unsaved turn to [] own = tt
 copies-unsaved turn to (entry ∷ nodes) own =
     (copy-unsaved to entry.1.made own.0, copies-unsaved turn to nodes own.1)

@@ -28,11 +28,11 @@ use Rattle.script_program.specs.declared.made.Made.{Made}
 use Rattle.script_program.specs.declared.made.Made.TheVariants as made
 use Rattle.script_program.specs.declared.made.Output.{Output}
 use Rattle.script_program.specs.declared.made.Standing.TheVariants.{Hidden}
-use Rattle.script_program.specs.Script.{Function, Making, Node, Operand, Script, State, nothing}
-use Rattle.script_program.specs.Script.{script_from, with_hidden, with_name, with_node}
+use Rattle.script_program.specs.Script.{Function, Making, Node, Operand, Script, State, empty_state}
+use Rattle.script_program.specs.Script.{script_from, with_hidden, with_standing, with_node}
 use Rattle.script_program.specs.Script.{with_nodes, with_statement}
 use Rattle.build_law.specs.of_script_rules.Operations as op
-use Rattle.build_law.specs.of_script_rules.Repeats.{Repeat, copied, nodes_left, renumbered, turn_gives}
+use Rattle.build_law.specs.of_script_rules.Repeats.{Repeat, copied_let, nodes_left, made_from_others, turn_gives}
 use Rattle.build_law.specs.of_script_rules.Repeats.{turn_nodes, turn_to, unrolled}
 use Rattle.build_law.specs.of_script_rules.Rules as spec
 use Rattle.build_law.proofs.of_script_rules.CheckedLemmas.{both, ok-same}
@@ -113,10 +113,11 @@ entered-named (one ∷ from) = (again-named one.is_object one.number, entered-na
 hidden-named : (names : List (List ℕ)) (s : State) → AreNamed s → AreNamed (with_hidden names s)
 hidden-named [] s named = named
 hidden-named (name ∷ names) s named =
-    hidden-named names (with_name name Hidden s)
+    hidden-named names (with_standing name Hidden s)
     (record { reads = named.reads; writes = named.writes })
 
-renumbered-named : (to : ℕ → ℕ) (how : Made) → IsNamedMade how → IsNamedMade (renumbered to how)
+renumbered-named : (to : ℕ → ℕ) (how : Made) → IsNamedMade how
+    → IsNamedMade (made_from_others to how)
 renumbered-named to (made.Input file columns) named = named
 renumbered-named to (made.Do source function output) named = tt
 renumbered-named to (made.Group source) named = tt
@@ -136,7 +137,7 @@ turns-named repeat zero turn entering start named = All-nil IsNamedNode
 turns-named repeat (suc left) turn entering start named =
     let to = turn_to repeat entering start in
     All-append IsNamedNode (turn_nodes repeat entering start turn) _
-    (All-map IsNamedNode (copied turn to) repeat.body
+    (All-map IsNamedNode (copied_let turn to) repeat.body
     (λ k entry in_. renumbered-named to (get_or repeat.body k entry).1.made (named k entry in_)))
     (turns-named repeat left (suc turn) (turn_gives repeat entering start)
     (start + length repeat.body) named)
@@ -168,7 +169,7 @@ module _ (line : ℕ) (s after : State) (named : AreNamed s) where
       (record { reads = named.reads; writes = named.writes })
 
   let-named : (names : List (List ℕ)) (by : Operation)
-      → spec.named line names by s ≡ Ok after → AreNamed after
+      → spec.let_rule line names by s ≡ Ok after → AreNamed after
   let-named names by e =
       let new = both (spec.all_fresh line (keys_of s.names) names) _ after e in
       let makings = both (op.made_by line by s) _ after new.then in
@@ -181,7 +182,7 @@ module _ (line : ℕ) (s after : State) (named : AreNamed s) where
       → spec.rule_output line name file s ≡ Ok after → AreNamed after
   output-named name file utf8 e =
       let few = both (spec.room line 1 most_files s.outputs) _ after e in
-      let one = both (op.collection line name s) _ after few.then in
+      let one = both (op.operand_named line name s) _ after few.then in
       let columns = both (or_fault line NotFlat (columns_of one.part.type)) _ after one.then in
       let new = both (fresh line file s.outputs) _ after columns.then in
       subst AreNamed (ok-same _ after new.then) (record {
@@ -201,7 +202,7 @@ lets-named : (lets : List TurnLet) (s after : State) → AreNamed s
     → spec.all_named lets s ≡ Ok after → AreNamed after
 lets-named [] s after named e = subst AreNamed (ok-same s after e) named
 lets-named (it ∷ lets) s after named e =
-    let next = both (spec.named it.line it.names it.by s) _ after e in
+    let next = both (spec.let_rule it.line it.names it.by s) _ after e in
     lets-named lets next.part after
     (let-named it.line s next.part named it.names it.by next.first) next.then
 
@@ -253,7 +254,7 @@ defined-named (statement ∷ rest) s after named utf8 e =
     defined-named rest (with_statement next.part) after
     (record { reads = kept.reads; writes = kept.writes }) utf8.1 next.then
 
-nothing-named : AreNamed nothing
+nothing-named : AreNamed empty_state
 nothing-named = record { reads = All-nil IsNamedNode; writes = All-nil IsNamedOutput }
 
 -- the files of the script are named so
@@ -268,8 +269,8 @@ pub script_named : (statements : List Statement) (script : Script)
     → All (λ (s : Statement). IsUtf8Named s.form) statements
     → spec.script_of statements ≡ Ok script → HasNames script
 script_named statements script utf8 e =
-    let s = both (spec.defined statements nothing) _ script e in
+    let s = both (spec.defined statements empty_state) _ script e in
     let some = both (unless 0 NoOutput (nat_lt 0 (length s.part.outputs))) _ script s.then in
     subst HasNames (ok-same _ script some.then)
-    (from-state s.part (defined-named statements nothing s.part nothing-named
+    (from-state s.part (defined-named statements empty_state s.part nothing-named
     (recursion_from_All (λ (s : Statement). IsUtf8Named s.form) statements utf8) s.first))

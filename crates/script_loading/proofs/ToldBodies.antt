@@ -15,7 +15,7 @@ use Rattle.written_types.specs.Answer.{Checked}
 use Rattle.written_types.specs.Named.{Named, find, fresh}
 use Rattle.written_types.specs.Written.{whole_type}
 use Rattle.expression_types.specs.Sight.{Sight, with_name}
-use Rattle.expression_types.specs.Fields.{are_different, named_field, fields_of, member_type}
+use Rattle.expression_types.specs.Fields.{are_different, named_field, typed_fields, member_type}
 use Rattle.expression_types.specs.Fields.{record_fields, side_types}
 use Rattle.expression_types.specs.Operators.{operator, concat}
 use Rattle.expression_types.specs.Types.{is_bool, is_same, either_of, place_under, record_type}
@@ -23,7 +23,7 @@ use Rattle.expression_types.specs.Types.{list_type, unary_type, binary_type, ind
 use Rattle.expression_types.specs.Types.{pick_type}
 use Rattle.expression_check.specs.Types.{all_types, layer_type, type_of}
 use Rattle.script_program.specs.of_body_check.Bodies.{after_all, layer_after, sight_after, at_start, body_of}
-use Rattle.script_program.specs.of_body_check.Outputs.{output_of}
+use Rattle.script_program.specs.of_body_check.Outputs.{output_written}
 use Rattle.script_loading.proofs.ToldLemmas.{IsTold, told-then, told-test, told-option}
 use Rattle.script_loading.proofs.ToldLemmas.{told-found, told-kept}
 use Rattle.script_loading.proofs.ToldLemmas.{told-shallow, told-whole}
@@ -40,7 +40,7 @@ module _ (line : ℕ) where
   told-record names types =
       told-kept line Twice (are_different names) _
       (λ new. told-kept line Mistyped (nat_eq (length names) (length types)) _
-      (λ as_many. told-shallow line (ty.Rec (fields_of names types))))
+      (λ as_many. told-shallow line (ty.Rec (typed_fields names types))))
 
   told-list : (types : List Ty) → IsTold (list_type line types)
   told-list [] = tt
@@ -158,7 +158,7 @@ module _ (gives : List Ty) where
       told-then (fresh line name s.names) _ (told-fresh line name s.names)
       (λ new. told-then (type_of line e s) _ (told-expr line e s) (λ t. tt))
   by_body (Body-F.Emit line to e) s =
-      told-found line BadNumber (output_of (length gives) to) _
+      told-found line BadNumber (output_written (length gives) to) _
       (λ output. told-found line BadNumber (slice_get gives output) _
       (λ wanted. told-then (type_of line e s) _ (told-expr line e s)
       (λ t. told-kept line Mistyped (is_same t wanted) _ (λ same. tt))))

@@ -29,7 +29,7 @@ use Rattle.build_law.specs.of_script_rules.Arguments.{takes_objects}
 use Rattle.build_law.specs.of_script_rules.Operations as spec
 use Rattle.build_law.specs.of_script_rules.Rules as rules
 use Rattle.script_program.specs.Limits.{most_collections, most_files, most_functions, most_outputs}
-use Rattle.script_program.specs.Script.{Callee, Making, Operand, State, nothing}
+use Rattle.script_program.specs.Script.{Callee, Making, Operand, State, empty_state}
 use Rattle.script_program.specs.Script.{find_function, find_node, with_hidden, with_statement}
 use Rattle.written_types.specs.Answer.{Checked}
 use Rattle.written_types.specs.Named.{Named, fresh}
@@ -42,17 +42,17 @@ use Rattle.script_loading.proofs.ToldLemmas.{told-shallow, told-whole}
 module _ (line : ℕ) where
   -- ---- operations
 
-  told-collection : (name : List ℕ) (s : State) → IsTold (spec.collection line name s)
+  told-collection : (name : List ℕ) (s : State) → IsTold (spec.operand_named line name s)
   told-collection name s = told-option line Unknown (find_node name s)
 
   told-behind : (found : List Operand) (names : List (List ℕ)) (s : State)
       → IsTold (spec.collections_behind line found names s)
   told-behind found [] s = tt
   told-behind found (name ∷ names) s =
-      told-then (spec.collection line name s) _ (told-collection name s)
+      told-then (spec.operand_named line name s) _ (told-collection name s)
       (λ one. told-behind (found ++ one ∷ []) names s)
 
-  told-comb : (by : Combiner) → IsTold (spec.comb_of line by)
+  told-comb : (by : Combiner) → IsTold (spec.comb_for line by)
   told-comb combiner.Sum = tt
   told-comb combiner.Count = tt
   told-comb combiner.Min = tt
@@ -67,7 +67,7 @@ module _ (line : ℕ) where
   told-pair : (t : Ty) → IsTold (spec.pair_of line t)
   told-pair t = told-option line NotTable (spec.pair_in (out-Ty t))
 
-  told-group : (source : Operand) → IsTold (spec.group_of line source)
+  told-group : (source : Operand) → IsTold (spec.group_making line source)
   told-group source =
       told-then (spec.pair_of line source.type) _ (told-pair source.type)
       (λ pair. told-kept line Mistyped (not source.is_object) _ (λ plain. tt))
@@ -75,7 +75,7 @@ module _ (line : ℕ) where
   told-combine : (source : Operand) (by : Comb) → IsTold (spec.combine_of line source by)
   told-combine source by =
       told-then (spec.pair_of line source.type) _ (told-pair source.type)
-      (λ pair. told-found line NotTable (spec.member_in (out-Ty pair.value)) _
+      (λ pair. told-found line NotTable (spec.member_type_in (out-Ty pair.value)) _
       (λ member. told-kept line Mistyped (not source.is_object) _
       (λ plain. told-found line Mistyped (spec.combined_type by member) _ (λ value. tt))))
 
@@ -116,56 +116,56 @@ module _ (line : ℕ) where
       told-kept line Mistyped (takes_both source object function.takes) _
       (λ fit. told-found line Mistyped (sole function.gives) _ (λ member. tt))
 
-  told-alone : (r : Checked Making) → IsTold r → IsTold (spec.alone r)
+  told-alone : (r : Checked Making) → IsTold r → IsTold (spec.one_making r)
   told-alone r told = told-then r _ told (λ one. tt)
 
   told-made : (by : Operation) (s : State) → IsTold (spec.made_by line by s)
   told-made (operation.Do source function) s =
-      told-then (spec.collection line source s) _ (told-collection source s)
+      told-then (spec.operand_named line source s) _ (told-collection source s)
       (λ one. told-found line Unknown (find_function function s.functions) _
       (λ by. told-do one by))
   told-made (operation.Group source) s =
-      told-alone (spec.grouped line source s)
-      (told-then (spec.collection line source s) _ (told-collection source s)
+      told-alone (spec.group_rule line source s)
+      (told-then (spec.operand_named line source s) _ (told-collection source s)
       (λ one. told-group one))
   told-made (operation.Combine source by) s =
-      told-alone (spec.combined line source by s)
-      (told-then (spec.collection line source s) _ (told-collection source s)
-      (λ one. told-then (spec.comb_of line by) _ (told-comb by)
+      told-alone (spec.combine_rule line source by s)
+      (told-then (spec.operand_named line source s) _ (told-collection source s)
+      (λ one. told-then (spec.comb_for line by) _ (told-comb by)
       (λ comb. told-combine one comb)))
   told-made (operation.Flatten sources) s =
       told-alone (spec.flattened line sources s)
       (told-then (spec.collections_behind line [] sources s) _ (told-behind [] sources s)
       (λ all. told-flatten all))
   told-made (operation.Count source) s =
-      told-alone (spec.counted line source s)
-      (told-then (spec.collection line source s) _ (told-collection source s)
+      told-alone (spec.count_rule line source s)
+      (told-then (spec.operand_named line source s) _ (told-collection source s)
       (λ one. told-kept line Mistyped (not one.is_object) _ (λ plain. tt)))
   told-made (operation.Join left right_) s =
-      told-alone (spec.joined line left right_ s)
-      (told-then (spec.collection line left s) _ (told-collection left s)
-      (λ one. told-then (spec.collection line right_ s) _ (told-collection right_ s)
+      told-alone (spec.join_rule line left right_ s)
+      (told-then (spec.operand_named line left s) _ (told-collection left s)
+      (λ one. told-then (spec.operand_named line right_ s) _ (told-collection right_ s)
       (λ other. told-join one other)))
   told-made (operation.Top digits source) s =
-      told-alone (spec.greatest line digits source s)
-      (told-then (spec.collection line source s) _ (told-collection source s)
+      told-alone (spec.top_rule line digits source s)
+      (told-then (spec.operand_named line source s) _ (told-collection source s)
       (λ one. told-found line BadNumber (number_within 1 1000 digits) _
       (λ number. told-kept line Mistyped (not one.is_object) _ (λ plain. tt))))
   told-made (operation.CombineAll source by) s =
-      told-alone (spec.combined_whole line source by s)
-      (told-then (spec.collection line source s) _ (told-collection source s)
-      (λ one. told-then (spec.comb_of line by) _ (told-comb by)
+      told-alone (spec.combine_all_rule line source by s)
+      (told-then (spec.operand_named line source s) _ (told-collection source s)
+      (λ one. told-then (spec.comb_for line by) _ (told-comb by)
       (λ comb. told-whole-of one comb)))
   told-made (operation.Operate objects function) s =
-      told-alone (spec.operated line objects function s)
+      told-alone (spec.operate_rule line objects function s)
       (told-then (spec.collections_behind line [] objects s) _ (told-behind [] objects s)
       (λ all. told-found line Unknown (find_function function s.functions) _
       (λ by. told-operate all by)))
   told-made (operation.DoWith source function object) s =
-      told-alone (spec.done_beside line source function object s)
-      (told-then (spec.collection line source s) _ (told-collection source s)
+      told-alone (spec.do_with_rule line source function object s)
+      (told-then (spec.operand_named line source s) _ (told-collection source s)
       (λ one. told-found line Unknown (find_function function s.functions) _
-      (λ by. told-then (spec.collection line object s) _ (told-collection object s)
+      (λ by. told-then (spec.operand_named line object s) _ (told-collection object s)
       (λ other. told-do-with one by other))))
 
   -- ---- statements
@@ -185,7 +185,7 @@ module _ (line : ℕ) where
       (told-types [] (function.gives ∷ function.more) known)
       (λ types. told-kept line TooMany (nat_le (length types) most_outputs) _ (λ few. tt))
 
-  told-scale : (digits : Option (List ℕ)) → IsTold (rules.scale_of line digits)
+  told-scale : (digits : Option (List ℕ)) → IsTold (rules.scale_written line digits)
   told-scale None = tt
   told-scale (Some digits) = told-option line BadNumber (number_within 0 10000 digits)
 
@@ -202,7 +202,7 @@ module _ (line : ℕ) where
       (λ new. told-then (whole_type line function.takes s.types) _
       (told-whole line function.takes s.types)
       (λ takes. told-then (rules.types_given line function s.types) _ (told-given function s.types)
-      (λ gives. told-then (rules.scale_of line function.scale) _ (told-scale function.scale)
+      (λ gives. told-then (rules.scale_written line function.scale) _ (told-scale function.scale)
       (λ scale. tt)))))
 
   told-names : (taken names : List (List ℕ)) → IsTold (rules.all_fresh line taken names)
@@ -244,7 +244,7 @@ module _ (line : ℕ) where
       (told-body s.types function.argument it.takes it.gives function.body) (λ body. tt))
 
   told-named : (names : List (List ℕ)) (by : Operation) (s : State)
-      → IsTold (rules.named line names by s)
+      → IsTold (rules.let_rule line names by s)
   told-named names by s =
       told-then (rules.all_fresh line (keys_of s.names) names) _
       (told-names (keys_of s.names) names)
@@ -262,7 +262,7 @@ module _ (line : ℕ) where
   told-output : (name file : List ℕ) (s : State) → IsTold (rules.rule_output line name file s)
   told-output name file s =
       told-then (rules.room line 1 most_files s.outputs) _ (told-room 1 most_files s.outputs)
-      (λ few. told-then (spec.collection line name s) _ (told-collection name s)
+      (λ few. told-then (spec.operand_named line name s) _ (told-collection name s)
       (λ one. told-found line NotFlat (columns_of one.type) _
       (λ columns. told-then (fresh line file s.outputs) _ (told-fresh line file s.outputs)
       (λ new. tt))))
@@ -272,12 +272,12 @@ module _ (line : ℕ) where
 told-lets : (lets : List TurnLet) (s : State) → IsTold (rules.all_named lets s)
 told-lets [] s = tt
 told-lets (it ∷ lets) s =
-    told-then (rules.named it.line it.names it.by s) _ (told-named it.line it.names it.by s)
+    told-then (rules.let_rule it.line it.names it.by s) _ (told-named it.line it.names it.by s)
     (λ next. told-lets lets next)
 
 module _ (line : ℕ) where
   told-entry : (names : List (List ℕ)) (written : WrittenRepeat) (s : State)
-      → IsTold (rules.entry_of line names written s)
+      → IsTold (rules.repeat_entry line names written s)
   told-entry names written s =
       let hidden = with_hidden names s in
       told-then (rules.all_fresh line (keys_of s.names) names) _
@@ -291,7 +291,7 @@ module _ (line : ℕ) where
       (λ many. tt)))))
 
   told-gives : (names : List (List ℕ)) (from : List Operand) (body : State)
-      → IsTold (rules.gives_of line names from body)
+      → IsTold (rules.repeat_gives line names from body)
   told-gives names from body =
       told-then (spec.collections_behind line [] names body) _ (told-behind line [] names body)
       (λ given. told-kept line Mistyped (rules.alike from given) _ (λ same. tt))
@@ -299,7 +299,7 @@ module _ (line : ℕ) where
   told-repeat-of : (names : List (List ℕ)) (entry : rules.Entry) (outside front : ℕ) (body : State)
       → IsTold (rules.repeat_of line names entry outside front body)
   told-repeat-of names entry outside front body =
-      told-then (rules.gives_of line names entry.from body) _ (told-gives names entry.from body)
+      told-then (rules.repeat_gives line names entry.from body) _ (told-gives names entry.from body)
       (λ gives. told-then
       (rules.room_for line outside entry.turns (length (drop front body.nodes))) _
       (told-test line TooMany
@@ -310,8 +310,8 @@ module _ (line : ℕ) where
       → IsTold (rules.rule_repeat line names written s)
   told-repeat names written s =
       told-then (rules.repeated line names written s) _
-      (told-then (rules.entry_of line names written s) _ (told-entry names written s)
-      (λ entry. let before = rules.with_entry names written.entering entry.from s in
+      (told-then (rules.repeat_entry line names written s) _ (told-entry names written s)
+      (λ entry. let before = rules.entering_state names written.entering entry.from s in
       told-then (rules.all_named written.lets before) _ (told-lets written.lets before)
       (λ body. told-then
       (rules.repeat_of line written.gives entry (length s.nodes) (length before.nodes) body) _
@@ -336,5 +336,5 @@ told-defined (statement ∷ rest) s =
 
 pub told-script : (statements : List Statement) → IsTold (rules.script_of statements)
 told-script statements =
-    told-then (rules.defined statements nothing) _ (told-defined statements nothing)
+    told-then (rules.defined statements empty_state) _ (told-defined statements empty_state)
     (λ s. told-kept 0 NoOutput (nat_lt 0 (length s.outputs)) _ (λ some. tt))

@@ -8,7 +8,7 @@ use Rattle.build_law.proofs.of_direct_meaning.PlainLemmas.{flat-if, more_if}
 use Rattle.exec_graph.specs.declared.graph.Entry.{Entry}
 use Rattle.exec_graph.specs.declared.graph.Place.{Place}
 use Rattle.build_law.specs.of_graph_build.Built.{Built, built}
-use Rattle.build_law.specs.of_graph_build.Graphs.{behind, graph_of, next_source, nodes_at, nodes_from, place_in, places}
+use Rattle.build_law.specs.of_graph_build.Graphs.{number_past, graph_of, next_source, nodes_at, nodes_from, place_at_number, places}
 use Rattle.build_law.specs.of_graph_build.Nodes.{sources_made, made_nodes, source_number}
 use Rattle.build_law.specs.of_graph_build.Wanted.{wanted, wanted_from}
 use Rattle.build_law.proofs.of_graph_build.BuiltLemmas.{built_length}
@@ -23,7 +23,7 @@ use Rattle.optimise.specs.of_plan_rules.Fitting.{HasSourcesBelow, IsSourceBelow}
 use Rattle.build_law.specs.of_script_laws.WellFormed.{IsWellFormed}
 use Rattle.build_law.specs.of_script_program.declared.made.Made.{Made}
 use Rattle.build_law.specs.of_script_program.declared.made.Made.TheVariants as made
-use Rattle.build_law.specs.of_script_program.Needed.{is_needed, made_of, numbered}
+use Rattle.build_law.specs.of_script_program.Needed.{is_needed, made_of, collections_numbered}
 use Rattle.build_law.specs.of_script_program.Script.{Node as ScriptNode, Script}
 use Rattle.build_law.specs.of_script_program.Sources.{source_kind, source_kinds}
 use Rattle.written_types.specs.Named.{Named}
@@ -64,10 +64,10 @@ module _ (script : Script) (gives : ℕ → Place) where
   all_count source n [] = omega arith
   all_count source n (w ∷ ws) =
       let block : List Entry = nodes_at script gives source n w in
-      let rest : List Entry = nodes_from script gives (next_source source w) (behind n w) ws in
+      let rest : List Entry = nodes_from script gives (next_source source w) (number_past n w) ws in
       let both = count_append block rest in
       let own = part_count source n w in
-      let others = all_count (next_source source w) (behind n w) ws in
+      let others = all_count (next_source source w) (number_past n w) ws in
       omega (arith, both, own, others)
 
 -- ---- those of the script
@@ -90,7 +90,7 @@ module _ (script : Script) where
   abbrev kinds_from : ℕ → Named ScriptNode → List Bool
   kinds_from origin nodes =
       flat_map (λ it. source_kind it.1.1.made)
-      (filter (λ it. is_needed script it.0) (numbered origin nodes))
+      (filter (λ it. is_needed script it.0) (collections_numbered origin nodes))
 
   next_kinds : (b : Bool) (how : Made) (k : ℕ) (rest : List Bool)
       → next_wanted k (if b then Some how else None) + length rest
@@ -112,14 +112,14 @@ module _ (script : Script) where
       ∙ ap (λ l. k + length l)
       (sym (flat-if (λ (it : ℕ × (List ℕ × ScriptNode)). source_kind it.1.1.made)
       (is_needed script origin) (origin, entry)
-      (filter (λ it. is_needed script it.0) (numbered (suc origin) nodes))))
+      (filter (λ it. is_needed script it.0) (collections_numbered (suc origin) nodes))))
 
 pub sources_counted : (script : Script) → IsWellFormed script
     → source_count (graph_of script).nodes ≡ length (source_kinds script)
 sources_counted script well =
     let size : length (made_of script) ≡ length script.nodes =
     length-map script.nodes (λ (entry : List ℕ × ScriptNode). entry.1.made) in
-    let of_graph = all_count script (place_in (places script)) 0 0 (built script) in
+    let of_graph = all_count script (place_at_number (places script)) 0 0 (built script) in
     let same : source_at 0 (built script) (length (built script))
     ≡ wanted_source 0 (wanted script) (length script.nodes) =
     ap (source_at 0 (built script)) (built_length script ∙ sym size)

@@ -17,7 +17,7 @@ use Rattle.script_program.specs.declared.made.Function.{Function as HeldFunction
 use Rattle.script_program.specs.declared.made.Node.{Node as HeldNode}
 use Rattle.script_program.specs.declared.made.Output.{Output}
 use Rattle.script_program.specs.Script.{Node}
-use Rattle.script_program.specs.Needed.{has, with_reads, read_from, is_needed}
+use Rattle.script_program.specs.Needed.{holds_number, with_reads, read_from, is_needed}
 use Rattle.script_program.specs.Rested.{rests}
 use Rattle.script_program.specs.inner.Tables.{node_of, numbered_of}
 use Rattle.script_program.specs.inner.Flags.{AreFlags, held_made, held_reads, TellNeeded}
@@ -31,13 +31,13 @@ moves false true b = refl
 moves false false b = refl
 
 front-behind : (x : ℕ) (xs ys : List ℕ) (n : ℕ)
-    → has (x ∷ (xs ++ ys)) n ≡ has ((xs ++ x ∷ []) ++ ys) n
+    → holds_number (x ∷ (xs ++ ys)) n ≡ holds_number ((xs ++ x ∷ []) ++ ys) n
 front-behind x xs ys n =
     ap (λ b. eqb x n || b) (list_any-append (λ it. eqb it n) xs ys)
-    ∙ moves (eqb x n) (has xs n) (has ys n)
+    ∙ moves (eqb x n) (holds_number xs n) (holds_number ys n)
     ∙ sym
     (list_any-append (λ it. eqb it n) (xs ++ x ∷ []) ys
-    ∙ ap (λ b. b || has ys n) (list_any-append (λ it. eqb it n) xs (x ∷ [])))
+    ∙ ap (λ b. b || holds_number ys n) (list_any-append (λ it. eqb it n) xs (x ∷ [])))
 
 turns : (t a : Bool) → (t || a) ≡ (a || (t || false))
 turns true true = refl
@@ -45,15 +45,15 @@ turns true false = refl
 turns false true = refl
 turns false false = refl
 
-first-last : (x : ℕ) (xs : List ℕ) (n : ℕ) → has (x ∷ xs) n ≡ has (xs ++ x ∷ []) n
+first-last : (x : ℕ) (xs : List ℕ) (n : ℕ) → holds_number (x ∷ xs) n ≡ holds_number (xs ++ x ∷ []) n
 first-last x xs n =
-    turns (eqb x n) (has xs n) ∙ sym (list_any-append (λ it. eqb it n) xs (x ∷ []))
+    turns (eqb x n) (holds_number xs n) ∙ sym (list_any-append (λ it. eqb it n) xs (x ∷ []))
 
 -- ---- one number more
 
 set-at : (flags : List Bool) (number n : ℕ) (numbers : List ℕ) → AreFlags numbers flags
     → n < length flags → (b : Bool) → eqb number n ≡ b
-    → get_or (set flags number true) n false ≡ (b || has numbers n)
+    → get_or (set flags number true) n false ≡ (b || holds_number numbers n)
 set-at flags number n numbers are in_ true e =
     let same : number ≡ n = eqb-true number n e in
     subst (λ k. get_or (set flags k true) n false ≡ true) (sym same)
@@ -70,7 +70,7 @@ marked flags after number numbers is are =
     (subst (λ k. n < k) (length-set flags number true) in_) (eqb number n) refl)
 
 past-at : (number n : ℕ) (numbers : List ℕ) → n < number → (b : Bool) → eqb number n ≡ b
-    → has numbers n ≡ (b || has numbers n)
+    → holds_number numbers n ≡ (b || holds_number numbers n)
 past-at number n numbers less true e =
     let same = eqb-true number n e in absurd (omega (arith, same))
 past-at number n numbers less false e = refl
@@ -159,7 +159,8 @@ tells known functions nodes outputs flags n flag tell in_ is =
     let same = length-map nodes (node_of known.types) in
     let within : n < length flags = omega (arith, in_, tell.many, same) in
     is ∙ get_or_default flags n flag false within ∙ tell.told n within
-    ∙ ap (λ all. has (read_from (held_reads outputs) 0 all) n) (sym (same-made known.types nodes))
+    ∙ ap (λ all. holds_number (read_from (held_reads outputs) 0 all) n)
+    (sym (same-made known.types nodes))
 
 -- flags that tell what a collection of a program rests on
 pub rests-told : (known : Known) (functions : Named HeldFunction) (nodes : Named HeldNode)
@@ -168,7 +169,7 @@ pub rests-told : (known : Known) (functions : Named HeldFunction) (nodes : Named
     → get_or flags n false ≡ rests (numbered_of known functions nodes outputs).script asked n
 rests-told known functions nodes outputs asked flags told n within =
     told n within
-    ∙ ap (λ all. has (read_from (asked ∷ []) 0 all) n) (sym (same-made known.types nodes))
+    ∙ ap (λ all. holds_number (read_from (asked ∷ []) 0 all) n) (sym (same-made known.types nodes))
 
 pub as-many-flags : (known : Known) (functions : Named HeldFunction) (nodes : Named HeldNode)
     (outputs : Named Output) (flags : List Bool) → length flags ≡ length nodes

@@ -9,8 +9,8 @@ use Rattle.body_check.specs.of_written_types.Known.{Known}
 use Rattle.script_program.specs.declared.made.Function.{Function as HeldFunction}
 use Rattle.script_program.specs.declared.made.Node.{Node as HeldNode}
 use Rattle.script_program.proofs.SourceSteps.{told_many}
-use Rattle.script_program.specs.Needed.{has}
-use Rattle.script_program.specs.Saved.{kept_at, saved_from, saved_node}
+use Rattle.script_program.specs.Needed.{holds_number}
+use Rattle.script_program.specs.Saved.{kept_at, saved_among, saved_node}
 use Rattle.script_program.specs.inner.Tables.{AreHeld, held_saved, held_saved_from}
 use Rattle.script_program.specs.inner.Tables.{node_of}
 
@@ -60,7 +60,7 @@ type-kept-if false entry = refl
 type-kept : (found : List ℕ) (n : ℕ) (nodes : Named HeldNode) (k : ℕ) (d : List ℕ × HeldNode)
     → (get_or (held_saved_from found n nodes) k d).1.ty ≡ (get_or nodes k d).1.ty
 type-kept found n [] k d = refl
-type-kept found n (entry ∷ nodes) zero d = type-kept-if (has found n) entry
+type-kept found n (entry ∷ nodes) zero d = type-kept-if (holds_number found n) entry
 type-kept found n (entry ∷ nodes) (suc k) d = type-kept found (suc n) nodes k d
 
 pub as-many-saved : (found : List ℕ) (n : ℕ) (nodes : Named HeldNode)
@@ -87,13 +87,14 @@ node-saved-if types false entry = refl
 
 nodes-saved-from : (types : List Ty) (found : List ℕ) (n : ℕ) (nodes : Named HeldNode)
     → map (node_of types) (held_saved_from found n nodes)
-    ≡ saved_from found n (map (node_of types) nodes)
+    ≡ saved_among found n (map (node_of types) nodes)
 nodes-saved-from types found n [] = refl
 nodes-saved-from types found n (entry ∷ nodes) =
-    λ i. node-saved-if types (has found n) entry i ∷ nodes-saved-from types found (suc n) nodes i
+    λ i. node-saved-if types (holds_number found n) entry i ∷ nodes-saved-from types found (suc n)
+    nodes i
 
 pub nodes-saved : (types : List Ty) (found : List ℕ) (nodes after : Named HeldNode)
     → after ≡ held_saved_from found 0 nodes
-    → map (node_of types) after ≡ saved_from found 0 (map (node_of types) nodes)
+    → map (node_of types) after ≡ saved_among found 0 (map (node_of types) nodes)
 nodes-saved types found nodes after is =
     ap (map (node_of types)) is ∙ nodes-saved-from types found 0 nodes

@@ -6,7 +6,7 @@ use Rattle.std.proofs.Math.Seq.{drop-cons}
 use Rattle.std.proofs.lemmas.List.{take-append-drop}
 use Rattle.std.proofs.lemmas.Option.{get_or_from_slice_get, slice_get-get_or, slice_get_within}
 use Rattle.script_program.specs.Script.{Script}
-use Rattle.script_program.specs.Sources.{in_order, in_turn, input_count, numbers_from, source_kinds, source_numbers}
+use Rattle.script_program.specs.Sources.{in_order, lists_in_turn, input_count, numbers_by_kind, source_kinds, source_numbers}
 
 -- how many are kept ones
 abbrev pub kept_count : List Bool → ℕ
@@ -22,23 +22,27 @@ counts (true ∷ kinds) = let rest = counts kinds in omega (arith, rest)
 module _ {X : Type 0} (lists : List X) (d : X) where
   turn-at : (kinds : List Bool) (i s k : ℕ) → i + input_count kinds ≤ length lists
       → s + kept_count kinds ≤ length lists → k < length kinds
-      → get_or (in_turn kinds (take (input_count kinds) (drop i lists)) (drop s lists)) k d
-      ≡ get_or lists (get_or (numbers_from i s kinds) k 0) d
+      → get_or (lists_in_turn kinds (take (input_count kinds) (drop i lists)) (drop s lists)) k d
+      ≡ get_or lists (get_or (numbers_by_kind i s kinds) k 0) d
   turn-at [] i s k few more below = absurd (omega arith)
   turn-at (false ∷ kinds) i s zero few more below =
-      ap (λ l. get_or (in_turn (false ∷ kinds) (take (suc (input_count kinds)) l) (drop s lists)) 0
+      ap (λ l. get_or (lists_in_turn (false ∷ kinds) (take (suc (input_count kinds)) l)
+      (drop s lists)) 0
       d)
       (drop-cons lists i d (omega (arith, few)))
   turn-at (false ∷ kinds) i s (suc k) few more below =
-      ap (λ l. get_or (in_turn (false ∷ kinds) (take (suc (input_count kinds)) l) (drop s lists))
+      ap (λ l. get_or (lists_in_turn (false ∷ kinds) (take (suc (input_count kinds)) l)
+      (drop s lists))
       (suc k) d)
       (drop-cons lists i d (omega (arith, few)))
       ∙ turn-at kinds (suc i) s k (omega (arith, few)) (omega (arith, more)) (omega (arith, below))
   turn-at (true ∷ kinds) i s zero few more below =
-      ap (λ l. get_or (in_turn (true ∷ kinds) (take (input_count kinds) (drop i lists)) l) 0 d)
+      ap (λ l. get_or (lists_in_turn (true ∷ kinds) (take (input_count kinds) (drop i lists)) l) 0
+      d)
       (drop-cons lists s d (omega (arith, more)))
   turn-at (true ∷ kinds) i s (suc k) few more below =
-      ap (λ l. get_or (in_turn (true ∷ kinds) (take (input_count kinds) (drop i lists)) l) (suc k)
+      ap (λ l. get_or (lists_in_turn (true ∷ kinds) (take (input_count kinds) (drop i lists)) l)
+      (suc k)
       d)
       (drop-cons lists s d (omega (arith, more)))
       ∙ turn-at kinds i (suc s) k (omega (arith, few)) (omega (arith, more)) (omega (arith, below))
@@ -56,7 +60,7 @@ module _ {X : Type 0} (lists : List X) (d : X) where
 -- ---- the numbers are those below their count
 
 number-from : (kinds : List Bool) (i s k : ℕ) → i + input_count kinds ≤ s → k < length kinds
-    → get_or (numbers_from i s kinds) k 0 < s + kept_count kinds
+    → get_or (numbers_by_kind i s kinds) k 0 < s + kept_count kinds
 number-from [] i s k few below = absurd (omega arith)
 number-from (false ∷ kinds) i s zero few below = omega (arith, few)
 number-from (false ∷ kinds) i s (suc k) few below =
@@ -77,7 +81,7 @@ number-below script k below =
 -- ---- as many lists as sources
 
 turn-long : {X : Type 0} (kinds : List Bool) (rows kept : List X)
-    → length (in_turn kinds rows kept) ≡ length rows + length kept
+    → length (lists_in_turn kinds rows kept) ≡ length rows + length kept
 turn-long [] rows kept = length-append rows kept
 turn-long (false ∷ kinds) [] kept = omega arith
 turn-long (false ∷ kinds) (list ∷ rows) kept =

@@ -4,7 +4,7 @@ use Rattle.std.proofs.Common.{◌∷◌, ◌++◌, length, drop, refl, arith, ap
 use Rattle.std.specs.Prelude.{Some, if◌then◌else◌, slice_get}
 use Rattle.std.specs.List.{filter, flat_map}
 use Rattle.body_check.specs.of_written_types.Named.{Named}
-use Rattle.script_program.specs.Needed.{is_needed, numbered}
+use Rattle.script_program.specs.Needed.{is_needed, collections_numbered}
 use Rattle.script_program.specs.Script.{Node, Script}
 use Rattle.script_program.specs.Sources.{source_kind, source_kinds}
 
@@ -33,7 +33,7 @@ told_many told none more k (x ∷ xs) =
 abbrev kinds_of : Script → ℕ → Named Node → List Bool
 kinds_of script number nodes =
     flat_map (λ it. source_kind it.1.1.made)
-    (filter (λ it. is_needed script it.0) (numbered number nodes))
+    (filter (λ it. is_needed script it.0) (collections_numbered number nodes))
 
 flat_if : {A B : Type 0} (g : A → List B) (b : Bool) (x : A) (xs : List A)
     → flat_map g (cond b (x ∷ xs) xs) ≡ (if b then g x else []) ++ flat_map g xs
@@ -55,7 +55,8 @@ kinds_next script old new number below pushed h =
     = ap (kinds_of script number) (head_of script.nodes number entry found)
     ∙ flat_if (λ (it : ℕ × (List ℕ × Node)). source_kind it.1.1.made) (is_needed script number)
     (number, entry)
-    (filter (λ it. is_needed script it.0) (numbered (suc number) (drop (suc number) script.nodes)))
+    (filter (λ it. is_needed script it.0) (collections_numbered (suc number)
+    (drop (suc number) script.nodes)))
     ∙ ap (λ n. own ++ kinds_of script n (drop n script.nodes)) next in
     ap (λ l. l ++ kinds_of script (number + 1) (drop (number + 1) script.nodes))
     (pushed entry found)

@@ -33,12 +33,12 @@ IsNeeded script number = (path : List ℕ) × LeadsToOutput script number path
 
 -- ---- the same, as it is computed from the last collection to the first
 
-abbrev pub has : List ℕ → ℕ → Bool
-has numbers number = list_any (λ it. it == number) numbers
+abbrev pub holds_number : List ℕ → ℕ → Bool
+holds_number numbers number = list_any (λ it. it == number) numbers
 
 -- what a collection is made from, where it is read itself, before what is read behind it
 abbrev pub with_reads : List ℕ → ℕ → Made → List ℕ
-with_reads later number how = if has later number then operands how ++ later else later
+with_reads later number how = if holds_number later number then operands how ++ later else later
 
 -- the numbers that outputs read, and the needed ones of the collections from a number on
 abbrev pub read_from : List ℕ → ℕ → List Made → List ℕ
@@ -47,13 +47,14 @@ read_from outputs number (how ∷ rest) = with_reads (read_from outputs (suc num
 
 -- whether the collection of that number is needed; for well-formed scripts this is `IsNeeded`
 abbrev pub is_needed : Script → ℕ → Bool
-is_needed script number = has (read_from (outputs_read script) 0 (made_of script)) number
+is_needed script number = holds_number (read_from (outputs_read script) 0 (made_of script)) number
 
 -- collections with their numbers, from one on
-abbrev pub numbered : ℕ → Named Node → List (ℕ × (List ℕ × Node))
-numbered number [] = []
-numbered number (entry ∷ entries) = (number, entry) ∷ numbered (suc number) entries
+abbrev pub collections_numbered : ℕ → Named Node → List (ℕ × (List ℕ × Node))
+collections_numbered number [] = []
+collections_numbered number (entry ∷ entries) =
+    (number, entry) ∷ collections_numbered (suc number) entries
 
 -- the needed collections of a script under their names, with their numbers, in order
 abbrev pub needed_nodes : Script → List (ℕ × (List ℕ × Node))
-needed_nodes script = filter (λ it. is_needed script it.0) (numbered 0 script.nodes)
+needed_nodes script = filter (λ it. is_needed script it.0) (collections_numbered 0 script.nodes)

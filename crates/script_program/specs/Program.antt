@@ -3,7 +3,7 @@ use Rattle.std.specs.Prelude.{◌≡◌, ◌<◌, List, length, map, take}
 use Rattle.flume_value.specs.declared.value.Value.{Value}
 use Rattle.flume_types.specs.declared.types.Ty.{Ty}
 use Rattle.dofn_eval.specs.Run.{slots_mean}
-use Rattle.dofn_eval.specs.Function.{Function as Fun, FunTyped}
+use Rattle.dofn_eval.specs.Function.{SlotFunction as Fun, FunTyped}
 use Rattle.body_check.specs.Call.{means}
 use Rattle.type_table.specs.Table.{type_at}
 use Rattle.body_check.specs.of_expression_types.Held.{AreTypes}

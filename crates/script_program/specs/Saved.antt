@@ -6,7 +6,7 @@ use Rattle.body_check.specs.of_written_types.Named.{Named}
 use Rattle.script_program.specs.declared.made.Made.{Made}
 use Rattle.script_program.specs.declared.made.Made.TheVariants as made
 use Rattle.script_program.specs.Kinds.{emitted_as, gives_object}
-use Rattle.script_program.specs.Needed.{has}
+use Rattle.script_program.specs.Needed.{holds_number}
 use Rattle.script_program.specs.Script.{Node, Script}
 
 -- how a collection is made that is kept: it is an object, or an output of a call, where it was
@@ -19,7 +19,7 @@ saved_node node = record node { made = saved_as node.made }
 -- the collection of that number, which is a kept one where the number is among those found
 abbrev pub kept_at : {N : Type 0} → (N → N) → List ℕ → ℕ → List ℕ × N → List ℕ × N
 kept_at kept found number entry =
-    if has found number then (entry.0, kept entry.1) else entry
+    if holds_number found number then (entry.0, kept entry.1) else entry
 
 -- the collections from a number on
 abbrev pub kept_from : {N : Type 0} → (N → N) → List ℕ → ℕ → Named N → Named N
@@ -27,13 +27,13 @@ kept_from kept found number [] = []
 kept_from kept found number (entry ∷ nodes) =
     kept_at kept found number entry ∷ kept_from kept found (suc number) nodes
 
-abbrev pub saved_from : List ℕ → ℕ → Named Node → Named Node
-saved_from found number nodes = kept_from saved_node found number nodes
+abbrev pub saved_among : List ℕ → ℕ → Named Node → Named Node
+saved_among found number nodes = kept_from saved_node found number nodes
 
 -- the script in which the collections of these numbers are kept ones; what alone they read is not
 -- needed any more
 abbrev pub with_saved : List ℕ → Script → Script
-with_saved found script = record script { nodes = saved_from found 0 script.nodes }
+with_saved found script = record script { nodes = saved_among found 0 script.nodes }
 
 -- ---- scripts as they are written
 

@@ -76,8 +76,8 @@ node_from statement making = record {
   statement = statement;
 }
 
-abbrev pub nothing : State
-nothing = record {
+abbrev pub empty_state : State
+empty_state = record {
   types = [];
   functions = [];
   nodes = [];
@@ -91,8 +91,8 @@ script_from s = record { functions = s.functions; nodes = s.nodes; outputs = s.o
 
 -- ---- one more
 
-abbrev pub with_type : List ℕ → Ty → State → State
-with_type name t s = record s { types = s.types ++ (name, t) ∷ [] }
+abbrev pub with_named_type : List ℕ → Ty → State → State
+with_named_type name t s = record s { types = s.types ++ (name, t) ∷ [] }
 
 abbrev pub with_function : List ℕ → Function → State → State
 with_function name function s = record s { functions = s.functions ++ (name, function) ∷ [] }
@@ -121,13 +121,13 @@ with_statement s = record s { statements = suc s.statements }
 -- ---- the body of a repeat
 
 -- a name more, which stands for that
-abbrev pub with_name : List ℕ → Standing → State → State
-with_name name standing s = record s { names = s.names ++ (name, standing) ∷ [] }
+abbrev pub with_standing : List ℕ → Standing → State → State
+with_standing name standing s = record s { names = s.names ++ (name, standing) ∷ [] }
 
 -- names more, which are taken and stand for no collection
 abbrev pub with_hidden : List (List ℕ) → State → State
 with_hidden [] s = s
-with_hidden (name ∷ names) s = with_hidden names (with_name name Hidden s)
+with_hidden (name ∷ names) s = with_hidden names (with_standing name Hidden s)
 
 -- the first so many collections alone
 abbrev pub with_front : ℕ → State → State

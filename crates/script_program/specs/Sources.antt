@@ -27,30 +27,30 @@ input_count (true ∷ kinds) = input_count kinds
 
 -- by the order of the script, where the next input has one number and the next kept collection
 -- another
-abbrev pub numbers_from : ℕ → ℕ → List Bool → List ℕ
-numbers_from input kept [] = []
-numbers_from input kept (false ∷ kinds) = input ∷ numbers_from (suc input) kept kinds
-numbers_from input kept (true ∷ kinds) = kept ∷ numbers_from input (suc kept) kinds
+abbrev pub numbers_by_kind : ℕ → ℕ → List Bool → List ℕ
+numbers_by_kind input kept [] = []
+numbers_by_kind input kept (false ∷ kinds) = input ∷ numbers_by_kind (suc input) kept kinds
+numbers_by_kind input kept (true ∷ kinds) = kept ∷ numbers_by_kind input (suc kept) kinds
 
 -- the numbers of the sources, in order of the script
 abbrev pub source_numbers : Script → List ℕ
 source_numbers script =
-    numbers_from 0 (input_count (source_kinds script)) (source_kinds script)
+    numbers_by_kind 0 (input_count (source_kinds script)) (source_kinds script)
 
 -- ---- their lists
 
 -- two rows of lists as one, in the order of these kinds; what is too many stands behind
-abbrev pub in_turn : {X : Type 0} → List Bool → List X → List X → List X
-in_turn [] rows kept = rows ++ kept
-in_turn (false ∷ kinds) [] kept = kept
-in_turn (false ∷ kinds) (list ∷ rows) kept = list ∷ in_turn kinds rows kept
-in_turn (true ∷ kinds) rows [] = rows
-in_turn (true ∷ kinds) rows (list ∷ kept) = list ∷ in_turn kinds rows kept
+abbrev pub lists_in_turn : {X : Type 0} → List Bool → List X → List X → List X
+lists_in_turn [] rows kept = rows ++ kept
+lists_in_turn (false ∷ kinds) [] kept = kept
+lists_in_turn (false ∷ kinds) (list ∷ rows) kept = list ∷ lists_in_turn kinds rows kept
+lists_in_turn (true ∷ kinds) rows [] = rows
+lists_in_turn (true ∷ kinds) rows (list ∷ kept) = list ∷ lists_in_turn kinds rows kept
 
-abbrev pub ordered : {X : Type 0} → List Bool → List X → List X
-ordered kinds lists =
-    in_turn kinds (take (input_count kinds) lists) (drop (input_count kinds) lists)
+abbrev pub by_kinds : {X : Type 0} → List Bool → List X → List X
+by_kinds kinds lists =
+    lists_in_turn kinds (take (input_count kinds) lists) (drop (input_count kinds) lists)
 
 -- the lists of sources, in order of the script
 abbrev pub in_order : {X : Type 0} → Script → List X → List X
-in_order script lists = ordered (source_kinds script) lists
+in_order script lists = by_kinds (source_kinds script) lists

@@ -1,6 +1,6 @@
 // Collections that an earlier run has kept, in place of how the script makes them.
 ghost use Rattle.std.specs.Prelude.{◌≡◌};
-ghost use Rattle.script_program.specs.Needed.{has};
+ghost use Rattle.script_program.specs.Needed.{holds_number};
 ghost use Rattle.script_program.specs.Saved.{kept_at};
 ghost use Rattle.script_program.specs.inner.Tables.{held_saved, held_saved_from};
 
@@ -33,7 +33,7 @@ fn save(node: &mut Node)
 
 /// Whether a number is among those found.
 fn is_found(found: &[u32], number: usize) -> bool
-    ensures { result ≡ has found.now number }
+    ensures { result ≡ holds_number found.now number }
 {
     found.iter().any(|it| *it as usize == number)
 }

@@ -72,7 +72,7 @@ fn input_count(kinds: &[bool]) -> Result<u32, AllocError>
 
 /// The numbers of sources of these kinds, of which so many are inputs.
 fn numbers_of(alloc: Global, inputs: u32, kinds: &[bool]) -> Result<Vec<u32>, AllocError>
-    ensures { IfOk result (λ numbers. numbers.items ≡ spec.numbers_from 0 inputs kinds.now) }
+    ensures { IfOk result (λ numbers. numbers.items ≡ spec.numbers_by_kind 0 inputs kinds.now) }
 {
     let mut numbers = Vec::new(alloc);
     let mut input = 0;

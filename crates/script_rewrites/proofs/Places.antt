@@ -10,7 +10,7 @@ use Rattle.exec_graph.specs.declared.graph.Graph.{Graph}
 use Rattle.exec_graph.specs.declared.graph.Place.{Place}
 use Rattle.exec_plan.specs.declared.plan.Plan.{Plan}
 use Rattle.form_laws.specs.Formed.{IsFormed}
-use Rattle.graph_build.specs.Graphs.{graph_of, place_in, places}
+use Rattle.graph_build.specs.Graphs.{graph_of, place_at_number, places}
 use Rattle.graph_rewrites.specs.declared.rewrite.Rewrite.{Rewrite}
 use Rattle.pass_rewrites.specs.of_optimise.Optimised.{source_count}
 use Rattle.plan_laws.specs.Operations.{at_source, places_of}
@@ -37,7 +37,7 @@ formed_outputs sources b p f =
 
 pub built_outputs : (script : Script) → length (graph_of script).outputs ≡ length script.outputs
 built_outputs script =
-    length-map script.outputs (λ output. place_in (places script) output.1.reads)
+    length-map script.outputs (λ output. place_at_number (places script) output.1.reads)
 
 pub made_outputs : (script : Script) (rs : List Rewrite) (plan : Plan)
     → (it : IsMadeBy script rs plan) → SameMeaning (graph_of script) it.refined.graph

@@ -37,7 +37,7 @@ ruled line function s after e =
 module _ (line : ℕ) (names : List (List ℕ)) (written : WrittenRepeat) (s : State) where
   -- the state in front of the body, for what enters
   abbrev pub before : spec.Entry → State
-  before entry = spec.with_entry names written.entering entry.from s
+  before entry = spec.entering_state names written.entering entry.from s
 
   -- the repeat of what enters, of the state behind the body, and of what is given
   abbrev pub own : spec.Entry → State → List ℕ → Repeat
@@ -47,7 +47,7 @@ module _ (line : ℕ) (names : List (List ℕ)) (written : WrittenRepeat) (s : S
   -- what the rules behind the body find
   pub record HasRepeat (entry : spec.Entry) (body : State) (it : Repeat) : Type 0 where
     pub gives : List ℕ
-    pub given : spec.gives_of line written.gives entry.from body ≡ Ok gives
+    pub given : spec.repeat_gives line written.gives entry.from body ≡ Ok gives
     pub few : Unit {0}
     pub room : spec.room_for line (length s.nodes) entry.turns
         (length (drop (length (before entry).nodes) body.nodes)) ≡ Ok few
@@ -55,7 +55,7 @@ module _ (line : ℕ) (names : List (List ℕ)) (written : WrittenRepeat) (s : S
 
   pub record HasFound (it : spec.Repeated) : Type 0 where
     pub entry : spec.Entry
-    pub enters : spec.entry_of line names written s ≡ Ok entry
+    pub enters : spec.repeat_entry line names written s ≡ Ok entry
     pub body : State
     pub lets : spec.all_named written.lets (before entry) ≡ Ok body
     pub found_behind : HasRepeat entry body it.repeat
@@ -64,7 +64,7 @@ module _ (line : ℕ) (names : List (List ℕ)) (written : WrittenRepeat) (s : S
 
   pub found : (it : spec.Repeated) → spec.repeated line names written s ≡ Ok it → HasFound it
   found it e =
-      let entry = both (spec.entry_of line names written s) _ it e in
+      let entry = both (spec.repeat_entry line names written s) _ it e in
       let body = both (spec.all_named written.lets (before entry.part)) _ it entry.then in
       let front = length (before entry.part).nodes in
       let outside = length s.nodes in
@@ -72,7 +72,7 @@ module _ (line : ℕ) (names : List (List ℕ)) (written : WrittenRepeat) (s : S
       both (spec.repeat_of line written.gives entry.part outside front body.part) _ it
       body.then in
       let gives =
-      both (spec.gives_of line written.gives entry.part.from body.part) _ repeat.part
+      both (spec.repeat_gives line written.gives entry.part.from body.part) _ repeat.part
       repeat.first in
       let room =
       both

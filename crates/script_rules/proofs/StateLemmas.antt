@@ -6,11 +6,11 @@ use Rattle.std.specs.Map.{keys_of}
 use Rattle.std.specs.Str.{bytes_eq}
 use Rattle.script_program.specs.of_written_types.Named.{Named, find}
 use Rattle.script_program.specs.declared.made.Standing.TheVariants.{Hidden}
-use Rattle.script_program.specs.Script.{State, with_hidden, with_name}
+use Rattle.script_program.specs.Script.{State, with_hidden, with_standing}
 
 pub nodes-hidden : (names : List (List ℕ)) (s : State) → (with_hidden names s).nodes ≡ s.nodes
 nodes-hidden [] s = refl
-nodes-hidden (name ∷ names) s = nodes-hidden names (with_name name Hidden s)
+nodes-hidden (name ∷ names) s = nodes-hidden names (with_standing name Hidden s)
 
 at-key : {A : Type 0} (b : Bool) (x : A) (o : Option A) (r : Bool) → is_some o ≡ r
     → is_some (cond b (Some x) o) ≡ (b || r)

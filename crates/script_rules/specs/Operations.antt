@@ -44,29 +44,29 @@ pair_in (Ty-F.Rec fields) = key_and_value fields
 pair_in _ = None
 
 -- the type of a list's members
-abbrev pub member_in : Ty-F Ty → Option Ty
-member_in (Ty-F.List member) = Some member
-member_in _ = None
+abbrev pub member_type_in : Ty-F Ty → Option Ty
+member_type_in (Ty-F.List member) = Some member
+member_type_in _ = None
 
 -- the type of the members, where it is this one
-abbrev pub only : Ty → Ty → Option Ty
-only wanted member = if type_eq member wanted then Some wanted else None
+abbrev pub type_where_same : Ty → Ty → Option Ty
+type_where_same wanted member = if type_eq member wanted then Some wanted else None
 
 -- the type of what a combiner makes of a list of members of a type; none where they don't suit it
 abbrev pub combined_type : Comb → Ty → Option Ty
-combined_type comb.Sum member = only ty.Int member
+combined_type comb.Sum member = type_where_same ty.Int member
 combined_type comb.Count member = Some ty.Int
 combined_type comb.Min member = Some member
 combined_type comb.Max member = Some member
-combined_type comb.All member = only ty.Bool member
-combined_type comb.Any member = only ty.Bool member
+combined_type comb.All member = type_where_same ty.Bool member
+combined_type comb.Any member = type_where_same ty.Bool member
 combined_type (comb.Top n) member = Some (ty.List member)
-combined_type comb.Mean member = only ty.Int member
+combined_type comb.Mean member = type_where_same ty.Int member
 combined_type comb.Distinct member = Some (ty.List member)
 
 -- the numbers of operands
-abbrev pub numbers : List Operand → List ℕ
-numbers sources = map (λ source. source.number) sources
+abbrev pub operand_numbers : List Operand → List ℕ
+operand_numbers sources = map (λ source. source.number) sources
 
 -- whether all have this type and none is an object
 abbrev pub all_same : Ty → List Operand → Bool
@@ -74,8 +74,8 @@ all_same t sources = list_all (λ source. not source.is_object && type_eq t sour
 
 -- ---- operations that have no rules of their own
 
-abbrev pub count_of : Operand → Making
-count_of source = record {
+abbrev pub count_making : Operand → Making
+count_making source = record {
   made = made.Count source.number;
   type = table_of source.type ty.Int;
 }
@@ -91,8 +91,8 @@ outputs_from source function output (t ∷ types) =
     ∷ outputs_from source function (suc output) types
 
 -- the one collection of an operation, as the list of those that it makes
-abbrev pub alone : Checked Making → Checked (List Making)
-alone making = do
+abbrev pub one_making : Checked Making → Checked (List Making)
+one_making making = do
   one ← making
   Ok (one ∷ [])
 
@@ -100,8 +100,8 @@ alone making = do
 module _ (line : ℕ) where
   -- ---- operands
 
-  abbrev pub collection : List ℕ → State → Checked Operand
-  collection name s = or_fault line Unknown (find_node name s)
+  abbrev pub operand_named : List ℕ → State → Checked Operand
+  operand_named name s = or_fault line Unknown (find_node name s)
 
   abbrev pub callee : List ℕ → State → Checked Callee
   callee name s = or_fault line Unknown (find_function name s.functions)
@@ -110,25 +110,25 @@ module _ (line : ℕ) where
   abbrev pub collections_behind : List Operand → List (List ℕ) → State → Checked (List Operand)
   collections_behind found [] s = Ok found
   collections_behind found (name ∷ names) s = do
-    one ← collection name s
+    one ← operand_named name s
     collections_behind (found ++ one ∷ []) names s
 
   -- how many of the greatest are asked for
   abbrev pub top_number : List ℕ → Checked ℕ
   top_number digits = or_fault line BadNumber (number_within 1 1000 digits)
 
-  abbrev pub comb_of : Combiner → Checked Comb
-  comb_of combiner.Sum = Ok comb.Sum
-  comb_of combiner.Count = Ok comb.Count
-  comb_of combiner.Min = Ok comb.Min
-  comb_of combiner.Max = Ok comb.Max
-  comb_of combiner.All = Ok comb.All
-  comb_of combiner.Any = Ok comb.Any
-  comb_of (combiner.Top digits) = do
+  abbrev pub comb_for : Combiner → Checked Comb
+  comb_for combiner.Sum = Ok comb.Sum
+  comb_for combiner.Count = Ok comb.Count
+  comb_for combiner.Min = Ok comb.Min
+  comb_for combiner.Max = Ok comb.Max
+  comb_for combiner.All = Ok comb.All
+  comb_for combiner.Any = Ok comb.Any
+  comb_for (combiner.Top digits) = do
     number ← top_number digits
     Ok (comb.Top number)
-  comb_of combiner.Mean = Ok comb.Mean
-  comb_of combiner.Distinct = Ok comb.Distinct
+  comb_for combiner.Mean = Ok comb.Mean
+  comb_for combiner.Distinct = Ok comb.Distinct
 
   -- ---- what operands are
 
@@ -136,7 +136,7 @@ module _ (line : ℕ) where
   pair_of t = or_fault line NotTable (pair_in (out-Ty t))
 
   abbrev pub member_of : Ty → Checked Ty
-  member_of t = or_fault line NotTable (member_in (out-Ty t))
+  member_of t = or_fault line NotTable (member_type_in (out-Ty t))
 
   -- a collection that is no object
   abbrev pub plain : Operand → Checked (Unit {0})
@@ -157,8 +157,8 @@ module _ (line : ℕ) where
     same ← unless line Mistyped (takes_members source function.takes)
     Ok (outputs_from source.number function.number 0 function.gives)
 
-  abbrev pub group_of : Operand → Checked Making
-  group_of source = do
+  abbrev pub group_making : Operand → Checked Making
+  group_making source = do
     pair ← pair_of source.type
     members ← plain source
     Ok (record { made = made.Group source.number; type = table_of pair.key (ty.List pair.value) })
@@ -174,7 +174,7 @@ module _ (line : ℕ) where
   abbrev pub flatten_of : List Operand → Checked Making
   flatten_of sources = do
     t ← one_type sources
-    Ok (record { made = made.Flatten (numbers sources); type = t })
+    Ok (record { made = made.Flatten (operand_numbers sources); type = t })
 
   abbrev pub join_of : Operand → Operand → Checked Making
   join_of left right = do
@@ -200,7 +200,7 @@ module _ (line : ℕ) where
   operate_of objects function = do
     fit ← unless line Mistyped (takes_objects objects function.takes)
     value ← or_fault line Mistyped (sole function.gives)
-    Ok (record { made = made.Operate (numbers objects) function.number; type = value })
+    Ok (record { made = made.Operate (operand_numbers objects) function.number; type = value })
 
   -- what a function emits from each member beside the value of an object
   abbrev pub do_with_of : Operand → Callee → Operand → Checked Making
@@ -217,19 +217,19 @@ module _ (line : ℕ) where
   -- what this function emits from each member of this collection
   abbrev pub done : List ℕ → List ℕ → State → Checked (List Making)
   done source function s = do
-    one ← collection source s
+    one ← operand_named source s
     by ← callee function s
     do_of one by
 
-  abbrev pub grouped : List ℕ → State → Checked Making
-  grouped source s = do
-    one ← collection source s
-    group_of one
+  abbrev pub group_rule : List ℕ → State → Checked Making
+  group_rule source s = do
+    one ← operand_named source s
+    group_making one
 
-  abbrev pub combined : List ℕ → Combiner → State → Checked Making
-  combined source combiner s = do
-    one ← collection source s
-    by ← comb_of combiner
+  abbrev pub combine_rule : List ℕ → Combiner → State → Checked Making
+  combine_rule source combiner s = do
+    one ← operand_named source s
+    by ← comb_for combiner
     combine_of one by
 
   -- the members of these collections
@@ -238,58 +238,58 @@ module _ (line : ℕ) where
     all ← collections_behind [] names s
     flatten_of all
 
-  abbrev pub counted : List ℕ → State → Checked Making
-  counted source s = do
-    one ← collection source s
+  abbrev pub count_rule : List ℕ → State → Checked Making
+  count_rule source s = do
+    one ← operand_named source s
     members ← plain one
-    Ok (count_of one)
+    Ok (count_making one)
 
-  abbrev pub joined : List ℕ → List ℕ → State → Checked Making
-  joined left right s = do
-    one ← collection left s
-    other ← collection right s
+  abbrev pub join_rule : List ℕ → List ℕ → State → Checked Making
+  join_rule left right s = do
+    one ← operand_named left s
+    other ← operand_named right s
     join_of one other
 
   -- so many of the greatest members
-  abbrev pub greatest : List ℕ → List ℕ → State → Checked Making
-  greatest digits source s = do
-    one ← collection source s
+  abbrev pub top_rule : List ℕ → List ℕ → State → Checked Making
+  top_rule digits source s = do
+    one ← operand_named source s
     number ← top_number digits
     members ← plain one
     Ok (top_of number one)
 
   -- what this combiner makes of all members of this collection
-  abbrev pub combined_whole : List ℕ → Combiner → State → Checked Making
-  combined_whole source combiner s = do
-    one ← collection source s
-    by ← comb_of combiner
+  abbrev pub combine_all_rule : List ℕ → Combiner → State → Checked Making
+  combine_all_rule source combiner s = do
+    one ← operand_named source s
+    by ← comb_for combiner
     combine_all_of one by
 
   -- what this function emits, called on the values of these objects
-  abbrev pub operated : List (List ℕ) → List ℕ → State → Checked Making
-  operated names function s = do
+  abbrev pub operate_rule : List (List ℕ) → List ℕ → State → Checked Making
+  operate_rule names function s = do
     all ← collections_behind [] names s
     by ← callee function s
     operate_of all by
 
   -- what this function emits from each member of this collection beside the value of this object
-  abbrev pub done_beside : List ℕ → List ℕ → List ℕ → State → Checked Making
-  done_beside source function object s = do
-    one ← collection source s
+  abbrev pub do_with_rule : List ℕ → List ℕ → List ℕ → State → Checked Making
+  do_with_rule source function object s = do
+    one ← operand_named source s
     by ← callee function s
-    other ← collection object s
+    other ← operand_named object s
     do_with_of one by other
 
   -- the collections that an operation makes, one for each name
   abbrev pub made_by : Operation → State → Checked (List Making)
   made_by (operation.Do source function) s = done source function s
-  made_by (operation.Group source) s = alone (grouped source s)
-  made_by (operation.Combine source combiner) s = alone (combined source combiner s)
-  made_by (operation.Flatten sources) s = alone (flattened sources s)
-  made_by (operation.Count source) s = alone (counted source s)
-  made_by (operation.Join left right) s = alone (joined left right s)
-  made_by (operation.Top digits source) s = alone (greatest digits source s)
-  made_by (operation.CombineAll source combiner) s = alone (combined_whole source combiner s)
-  made_by (operation.Operate objects function) s = alone (operated objects function s)
+  made_by (operation.Group source) s = one_making (group_rule source s)
+  made_by (operation.Combine source combiner) s = one_making (combine_rule source combiner s)
+  made_by (operation.Flatten sources) s = one_making (flattened sources s)
+  made_by (operation.Count source) s = one_making (count_rule source s)
+  made_by (operation.Join left right) s = one_making (join_rule left right s)
+  made_by (operation.Top digits source) s = one_making (top_rule digits source s)
+  made_by (operation.CombineAll source combiner) s = one_making (combine_all_rule source combiner s)
+  made_by (operation.Operate objects function) s = one_making (operate_rule objects function s)
   made_by (operation.DoWith source function object) s =
-      alone (done_beside source function object s)
+      one_making (do_with_rule source function object s)

@@ -33,30 +33,30 @@ stands_for outside seen number =
     if nat_lt number outside then number else slice_index_or seen (number - outside) 0
 
 -- the same way to make a collection, from other numbers
-abbrev pub renumbered : (ℕ → ℕ) → Made → Made
-renumbered to (made.Input file columns) = made.Input file columns
-renumbered to (made.Do source called output) = made.Do (to source) called output
-renumbered to (made.Group source) = made.Group (to source)
-renumbered to (made.Combine source by) = made.Combine (to source) by
-renumbered to (made.Flatten sources) = made.Flatten (map to sources)
-renumbered to (made.Count source) = made.Count (to source)
-renumbered to (made.Join left right) = made.Join (to left) (to right)
-renumbered to (made.Top many source) = made.Top many (to source)
-renumbered to (made.CombineAll source by) = made.CombineAll (to source) by
-renumbered to (made.Operate objects called) = made.Operate (map to objects) called
-renumbered to (made.DoWith source called object) =
+abbrev pub made_from_others : (ℕ → ℕ) → Made → Made
+made_from_others to (made.Input file columns) = made.Input file columns
+made_from_others to (made.Do source called output) = made.Do (to source) called output
+made_from_others to (made.Group source) = made.Group (to source)
+made_from_others to (made.Combine source by) = made.Combine (to source) by
+made_from_others to (made.Flatten sources) = made.Flatten (map to sources)
+made_from_others to (made.Count source) = made.Count (to source)
+made_from_others to (made.Join left right) = made.Join (to left) (to right)
+made_from_others to (made.Top many source) = made.Top many (to source)
+made_from_others to (made.CombineAll source by) = made.CombineAll (to source) by
+made_from_others to (made.Operate objects called) = made.Operate (map to objects) called
+made_from_others to (made.DoWith source called object) =
     made.DoWith (to source) called (to object)
-renumbered to (made.Saved is_object call) = made.Saved is_object call
+made_from_others to (made.Saved is_object call) = made.Saved is_object call
 
 -- the name of a let in a turn: `y@i`
-abbrev pub in_turn : ℕ → List ℕ → List ℕ
-in_turn turn name = name ++ 64 ∷ decimal turn
+abbrev pub name_in_turn : ℕ → List ℕ → List ℕ
+name_in_turn turn name = name ++ 64 ∷ decimal turn
 
-abbrev pub copied : ℕ → (ℕ → ℕ) → List ℕ × Node → List ℕ × Node
-copied turn to entry = (
-  in_turn turn entry.0,
+abbrev pub copied_let : ℕ → (ℕ → ℕ) → List ℕ × Node → List ℕ × Node
+copied_let turn to entry = (
+  name_in_turn turn entry.0,
   record {
-    made = renumbered to entry.1.made;
+    made = made_from_others to entry.1.made;
     type = entry.1.type;
     statement = entry.1.statement;
   },
@@ -70,7 +70,7 @@ turn_to repeat entering start = stands_for repeat.outside (seen repeat entering 
 -- the collections of that turn
 abbrev pub turn_nodes : Repeat → List ℕ → ℕ → ℕ → Named Node
 turn_nodes repeat entering start turn =
-    map (copied turn (turn_to repeat entering start)) repeat.body
+    map (copied_let turn (turn_to repeat entering start)) repeat.body
 
 -- those that it gives
 abbrev pub turn_gives : Repeat → List ℕ → ℕ → List ℕ

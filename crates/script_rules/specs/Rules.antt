@@ -29,11 +29,11 @@ use Rattle.script_program.specs.declared.made.Made.{Made}
 use Rattle.script_program.specs.declared.made.Made.TheVariants as made
 use Rattle.script_program.specs.of_expression_check.Numbers.{number_within}
 use Rattle.script_program.specs.Script.{Making, Operand, Script, Signature, State, function_from}
-use Rattle.script_program.specs.Script.{nothing, script_from, with_copies, with_front}
+use Rattle.script_program.specs.Script.{empty_state, script_from, with_copies, with_front}
 use Rattle.script_program.specs.Script.{with_function, with_given, with_hidden, with_node}
-use Rattle.script_program.specs.Script.{with_nodes, with_output, with_statement, with_type}
+use Rattle.script_program.specs.Script.{with_nodes, with_output, with_statement, with_named_type}
 use Rattle.script_rules.specs.Arguments.{pairwise}
-use Rattle.script_rules.specs.Operations.{collection, collections_behind, made_by, numbers}
+use Rattle.script_rules.specs.Operations.{operand_named, collections_behind, made_by, operand_numbers}
 use Rattle.script_rules.specs.Repeats.{Repeat, last_gives, unrolled}
 
 -- each fault is told on this line
@@ -50,15 +50,15 @@ module _ (line : ℕ) where
     all_fresh (taken ++ name ∷ []) names
 
   -- how many emissions are expected of a hundred calls: as many, where nothing is said
-  abbrev pub scale_of : Option (List ℕ) → Checked ℕ
-  scale_of None = Ok 100
-  scale_of (Some digits) = or_fault line BadNumber (number_within 0 10000 digits)
+  abbrev pub scale_written : Option (List ℕ) → Checked ℕ
+  scale_written None = Ok 100
+  scale_written (Some digits) = or_fault line BadNumber (number_within 0 10000 digits)
 
   abbrev pub rule_type : List ℕ → tree.Type → State → Checked State
   rule_type name type s = do
     new ← fresh line name s.types
     t ← whole_type line type s.types
-    Ok (with_type name t s)
+    Ok (with_named_type name t s)
 
   abbrev pub rule_input : List ℕ → tree.Type → List ℕ → State → Checked State
   rule_input name type file s = do
@@ -95,7 +95,7 @@ module _ (line : ℕ) where
     new ← fresh line function.name s.functions
     takes ← whole_type line function.takes s.types
     gives ← types_given function s.types
-    scale ← scale_of function.scale
+    scale ← scale_written function.scale
     Ok (record { takes = takes; gives = gives; scale = scale })
 
   abbrev pub rule_function : Written → State → Checked State
@@ -118,8 +118,8 @@ module _ (line : ℕ) where
     all_shallow makings
 
   -- a let, where there is room for what it names
-  abbrev pub named : List (List ℕ) → Operation → State → Checked State
-  named names by s = do
+  abbrev pub let_rule : List (List ℕ) → Operation → State → Checked State
+  let_rule names by s = do
     new ← all_fresh (keys_of s.names) names
     makings ← made_by line by s
     fit ← all_fit (length names) makings
@@ -128,7 +128,7 @@ module _ (line : ℕ) where
   abbrev pub rule_let : List (List ℕ) → Operation → State → Checked State
   rule_let names by s = do
     few ← room (length names) most_collections s.nodes
-    named names by s
+    let_rule names by s
 
 -- ---- a let with repeat
 
@@ -136,7 +136,7 @@ module _ (line : ℕ) where
 abbrev pub all_named : List TurnLet → State → Checked State
 all_named [] s = Ok s
 all_named (it ∷ lets) s = do
-  next ← named it.line it.names it.by s
+  next ← let_rule it.line it.names it.by s
   all_named lets next
 
 -- what enters a repeat's first turn, and how many turns it has
@@ -154,8 +154,8 @@ abbrev pub entered : Operand → Making
 entered one = record { made = again one.is_object one.number; type = one.type }
 
 -- before the body: the let's names are taken, and what enters has its names
-abbrev pub with_entry : List (List ℕ) → List (List ℕ) → List Operand → State → State
-with_entry names entering from s =
+abbrev pub entering_state : List (List ℕ) → List (List ℕ) → List Operand → State → State
+entering_state names entering from s =
     with_nodes entering (map entered from) (with_hidden names s)
 
 -- as many names in each place as in front of the `=`
@@ -183,7 +183,7 @@ abbrev pub repeat_from : Entry → List ℕ → ℕ → ℕ → State → Repeat
 repeat_from entry gives outside front body = record {
   outside = outside;
   turns = entry.turns;
-  from = numbers entry.from;
+  from = operand_numbers entry.from;
   body = drop front body.nodes;
   gives = gives;
 }
@@ -201,8 +201,8 @@ with_repeat repeat first s =
 
 -- each fault is told on this line, but for those of a body's lets
 module _ (line : ℕ) where
-  abbrev pub entry_of : List (List ℕ) → WrittenRepeat → State → Checked Entry
-  entry_of names written s = do
+  abbrev pub repeat_entry : List (List ℕ) → WrittenRepeat → State → Checked Entry
+  repeat_entry names written s = do
     new ← all_fresh line (keys_of s.names) names
     free ← all_fresh line (keys_of (with_hidden names s).names) written.entering
     from ← collections_behind line [] written.from (with_hidden names s)
@@ -211,11 +211,11 @@ module _ (line : ℕ) where
     Ok (record { from = from; turns = turns })
 
   -- the collections of these names, each of the type and the kind of the one that enters
-  abbrev pub gives_of : List (List ℕ) → List Operand → State → Checked (List ℕ)
-  gives_of names from body = do
+  abbrev pub repeat_gives : List (List ℕ) → List Operand → State → Checked (List ℕ)
+  repeat_gives names from body = do
     given ← collections_behind line [] names body
     same ← unless line Mistyped (alike from given)
-    Ok (numbers given)
+    Ok (operand_numbers given)
 
   -- room for so many turns of so many lets
   abbrev pub room_for : ℕ → ℕ → ℕ → Checked (Unit {0})
@@ -224,7 +224,7 @@ module _ (line : ℕ) where
 
   abbrev pub repeat_of : List (List ℕ) → Entry → ℕ → ℕ → State → Checked Repeat
   repeat_of names entry outside front body = do
-    gives ← gives_of names entry.from body
+    gives ← repeat_gives names entry.from body
     few ← room_for outside entry.turns (length (drop front body.nodes))
     Ok (repeat_from entry gives outside front body)
 
@@ -239,11 +239,11 @@ module _ (line : ℕ) where
   abbrev pub after_head : List (List ℕ) → WrittenRepeat → Entry → State → Checked Repeated
   after_head names written entry s =
       after_entry written.lets written.gives entry (length s.nodes)
-      (with_entry names written.entering entry.from s)
+      (entering_state names written.entering entry.from s)
 
   abbrev pub repeated : List (List ℕ) → WrittenRepeat → State → Checked Repeated
   repeated names written s = do
-    entry ← entry_of names written s
+    entry ← repeat_entry names written s
     after_head names written entry s
 
   abbrev pub rule_repeat : List (List ℕ) → WrittenRepeat → State → Checked State
@@ -257,7 +257,7 @@ module _ (line : ℕ) where
   abbrev pub rule_output : List ℕ → List ℕ → State → Checked State
   rule_output name file s = do
     few ← room line 1 most_files s.outputs
-    one ← collection line name s
+    one ← operand_named line name s
     columns ← or_fault line NotFlat (columns_of one.type)
     new ← fresh line file s.outputs
     Ok (with_output file (record { name = name; reads = one.number; columns = columns }) s)
@@ -280,6 +280,6 @@ defined (statement ∷ rest) s = do
 -- the script that statements are, or their first fault
 abbrev pub script_of : List Statement → Checked Script
 script_of statements = do
-  s ← defined statements nothing
+  s ← defined statements empty_state
   some ← unless 0 NoOutput (nat_lt 0 (length s.outputs))
   Ok (script_from s)

@@ -71,7 +71,7 @@ impl State {
     /// Nothing is defined.
     pub fn new(alloc: Global) -> State
         ensures types { result.types ≡ [] }
-        ensures state { result.state ≡ spec.nothing }
+        ensures state { result.state ≡ spec.empty_state }
     {
         State {
             known: TypeNames::new(alloc),
@@ -287,7 +287,7 @@ impl State {
         requires new { is_some (find name self.old.state.types) ≡ false }
         requires within { id < length self.old.types }
         ensures state { OnOk result (self.new.state
-            ≡ spec.with_type name (type_at self.old.types id) self.old.state) }
+            ≡ spec.with_named_type name (type_at self.old.types id) self.old.state) }
         ensures types { self.new.types ≡ self.old.types }
     {
         self.known.add(name, id)?;

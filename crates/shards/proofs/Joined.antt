@@ -6,79 +6,83 @@ use Rattle.std.proofs.Math.Nat.{zero-div, div-mul-le_self, mul-div_cancel_left}
 use Rattle.std.proofs.lemmas.Nat.{le-div}
 use Rattle.std.proofs.lemmas.Grind.{flat_map-append}
 use Rattle.std.proofs.lemmas.List.{take_all}
-use Rattle.shards.specs.Shards.{joined, begins, shard}
+use Rattle.shards.specs.Shards.{concatenated, begins, shard}
 use Rattle.shards.proofs.Alike.{Alike, alike_is, alike_back, alike_then, alike_append, alike_each, alike_both, flat_map-nothing}
 
 pub joined_same : {A : Type 0} (f g : ℕ → List A) → ((i : ℕ) → f i ≡ g i) → (n : ℕ)
-    → joined f n ≡ joined g n
-joined_same f g h n = λ i. joined (λ k. h k i) n
+    → concatenated f n ≡ concatenated g n
+joined_same f g h n = λ i. concatenated (λ k. h k i) n
 
 pub joined_alike : {A : Type 0} (f g : ℕ → List A) → ((i : ℕ) → Alike (f i) (g i)) → (n : ℕ)
-    → Alike (joined f n) (joined g n)
+    → Alike (concatenated f n) (concatenated g n)
 joined_alike f g h zero = λ w. refl
 joined_alike f g h (suc n) =
-    alike_append (joined f n) (joined g n) (f n) (g n) (joined_alike f g h n) (h n)
+    alike_append (concatenated f n) (concatenated g n) (f n) (g n) (joined_alike f g h n) (h n)
 
 pub flat_map-joined : {A B : Type 0} (h : A → List B) (f : ℕ → List A) (n : ℕ)
-    → flat_map h (joined f n) ≡ joined (λ i. flat_map h (f i)) n
+    → flat_map h (concatenated f n) ≡ concatenated (λ i. flat_map h (f i)) n
 flat_map-joined h f zero = refl
 flat_map-joined h f (suc n) =
-    flat_map-append h (joined f n) (f n) ∙ ap (λ l. l ++ flat_map h (f n)) (flat_map-joined h f n)
+    flat_map-append h (concatenated f n) (f n)
+    ∙ ap (λ l. l ++ flat_map h (f n)) (flat_map-joined h f n)
 
 -- by number and then by member, or by member and then by number
 pub joined_each : {X Y : Type 0} (f : ℕ → X → List Y) (xs : List X) (n : ℕ)
-    → Alike (joined (λ i. flat_map (f i) xs) n) (flat_map (λ x. joined (λ i. f i x) n) xs)
+    → Alike (concatenated (λ i. flat_map (f i) xs) n) (flat_map (λ x. concatenated (λ i. f i x) n)
+    xs)
 joined_each f xs zero = alike_is [] (flat_map (λ x. []) xs) (sym (flat_map-nothing xs))
 joined_each f xs (suc n) =
-    alike_then (joined (λ i. flat_map (f i) xs) n ++ flat_map (f n) xs)
-    (flat_map (λ x. joined (λ i. f i x) n) xs ++ flat_map (f n) xs)
-    (flat_map (λ x. joined (λ i. f i x) n ++ f n x) xs)
-    (alike_append (joined (λ i. flat_map (f i) xs) n) (flat_map (λ x. joined (λ i. f i x) n) xs)
+    alike_then (concatenated (λ i. flat_map (f i) xs) n ++ flat_map (f n) xs)
+    (flat_map (λ x. concatenated (λ i. f i x) n) xs ++ flat_map (f n) xs)
+    (flat_map (λ x. concatenated (λ i. f i x) n ++ f n x) xs)
+    (alike_append (concatenated (λ i. flat_map (f i) xs) n)
+    (flat_map (λ x. concatenated (λ i. f i x) n) xs)
     (flat_map (f n) xs) (flat_map (f n) xs) (joined_each f xs n) (λ w. refl))
-    (alike_back (flat_map (λ x. joined (λ i. f i x) n ++ f n x) xs)
-    (flat_map (λ x. joined (λ i. f i x) n) xs ++ flat_map (f n) xs)
-    (alike_both (λ x. joined (λ i. f i x) n) (f n) xs))
+    (alike_back (flat_map (λ x. concatenated (λ i. f i x) n ++ f n x) xs)
+    (flat_map (λ x. concatenated (λ i. f i x) n) xs ++ flat_map (f n) xs)
+    (alike_both (λ x. concatenated (λ i. f i x) n) (f n) xs))
 
-pub joined_nothing : {A : Type 0} (n : ℕ) → joined {A = A} (λ i. []) n ≡ []
+pub joined_nothing : {A : Type 0} (n : ℕ) → concatenated {A = A} (λ i. []) n ≡ []
 joined_nothing zero = refl
-joined_nothing (suc n) = append-nil (joined (λ i. []) n) ∙ joined_nothing n
+joined_nothing (suc n) = append-nil (concatenated (λ i. []) n) ∙ joined_nothing n
 
 -- one number alone gives something
 pub joined_if : {A : Type 0} (b : Bool) (f : ℕ → List A) (n : ℕ)
-    → joined (λ i. cond b (f i) []) n ≡ cond b (joined f n) []
+    → concatenated (λ i. cond b (f i) []) n ≡ cond b (concatenated f n) []
 joined_if true f n = refl
 joined_if false f n = joined_nothing n
 
 pub joined_before : {A : Type 0} (c : ℕ) (l : List A) (n : ℕ) → n ≤ c
-    → joined (λ m. cond (c == m) l []) n ≡ []
+    → concatenated (λ m. cond (c == m) l []) n ≡ []
 joined_before c l zero h = refl
 joined_before c l (suc n) h =
     let other : (c == n) ≡ false = grind arith in
-    let rest : joined (λ m. cond (c == m) l []) n ≡ [] = joined_before c l n (omega arith) in
+    let rest : concatenated (λ m. cond (c == m) l []) n ≡ [] = joined_before c l n (omega arith) in
     (λ i. rest i ++ cond (other i) l [])
 
 pub joined_at : {A : Type 0} (c : ℕ) (l : List A) (n : ℕ) → c < n
-    → joined (λ m. cond (c == m) l []) n ≡ l
+    → concatenated (λ m. cond (c == m) l []) n ≡ l
 joined_at c l zero h = absurd (omega arith)
 joined_at c l (suc n) h =
-    elim (c == n) as (λ b. (c == n) ≡ b → joined (λ m. cond (c == m) l []) n ++ cond b l [] ≡ l) [
+    elim (c == n) as (λ b. (c == n) ≡ b → concatenated (λ m. cond (c == m) l []) n ++ cond b l [] ≡
+    l) [
       | true ↦ λ e.
           let is : n ≤ c = grind (arith, e) in ap (λ xs. xs ++ l) (joined_before c l n is)
       | false ↦ λ e.
           let is : c < n = grind (arith, e) in
-          append-nil (joined (λ m. cond (c == m) l []) n) ∙ joined_at c l n is
+          append-nil (concatenated (λ m. cond (c == m) l []) n) ∙ joined_at c l n is
     ] refl
 
 -- ---- the parts of a list by a number
 pub joined_parts : {X Y : Type 0} (h : X → List Y) (t : X → ℕ) (n : ℕ) → ((x : X) → t x < n)
     → (xs : List X)
-    → Alike (joined (λ p. flat_map (λ x. cond (t x == p) (h x) []) xs) n) (flat_map h xs)
+    → Alike (concatenated (λ p. flat_map (λ x. cond (t x == p) (h x) []) xs) n) (flat_map h xs)
 joined_parts h t n small xs =
-    alike_then (joined (λ p. flat_map (λ x. cond (t x == p) (h x) []) xs) n)
-    (flat_map (λ x. joined (λ p. cond (t x == p) (h x) []) n) xs) (flat_map h xs)
+    alike_then (concatenated (λ p. flat_map (λ x. cond (t x == p) (h x) []) xs) n)
+    (flat_map (λ x. concatenated (λ p. cond (t x == p) (h x) []) n) xs) (flat_map h xs)
     (joined_each (λ p x. cond (t x == p) (h x) []) xs n)
-    (alike_each (λ x. joined (λ p. cond (t x == p) (h x) []) n) h
-    (λ x. alike_is (joined (λ p. cond (t x == p) (h x) []) n) (h x)
+    (alike_each (λ x. concatenated (λ p. cond (t x == p) (h x) []) n) h
+    (λ x. alike_is (concatenated (λ p. cond (t x == p) (h x) []) n) (h x)
     (joined_at (t x) (h x) n (small x))) xs)
 
 -- ---- the ranges of a list
@@ -106,7 +110,7 @@ take_further (suc a) (suc b) (x ∷ xs) h =
     ∙ ap (λ l. x ∷ l) (take_further a b xs (omega arith))
 
 shards_up_to : {A : Type 0} (s : ℕ) (xs : List A) (k : ℕ) → 0 < s
-    → joined (λ i. shard s i xs) k ≡ take (begins s k (length xs)) xs
+    → concatenated (λ i. shard s i xs) k ≡ take (begins s k (length xs)) xs
 unfolding shard
 shards_up_to s xs zero h = ap (λ n. take n xs) (sym (begins_none s (length xs)))
 shards_up_to s xs (suc k) h =
@@ -116,7 +120,8 @@ shards_up_to s xs (suc k) h =
     ∙ take_further (begins s k n) (begins s (k + 1) n) xs (begins_rises s k n h)
     ∙ ap (λ i. take (begins s i n) xs) (add-one k)
 
-pub shards_join : {A : Type 0} (s : ℕ) (xs : List A) → 0 < s → joined (λ i. shard s i xs) s ≡ xs
+pub shards_join : {A : Type 0} (s : ℕ) (xs : List A) → 0 < s
+    → concatenated (λ i. shard s i xs) s ≡ xs
 shards_join s xs h =
     shards_up_to s xs s h ∙ ap (λ n. take n xs) (mul-div_cancel_left (length xs) h)
     ∙ take_all (length xs) xs (omega arith)

@@ -3,9 +3,9 @@ use Rattle.std.specs.Prelude.{ℕ, ◌+◌, ◌-◌, ◌*◌, ◌/◌, List, [],
 use Rattle.std.proofs.Common.{zero, suc}
 
 -- the lists of 0, 1, .., n - 1, one after the other
-abbrev pub joined : {A : Type 0} → (ℕ → List A) → ℕ → List A
-joined f zero = []
-joined f (suc n) = joined f n ++ f n
+abbrev pub concatenated : {A : Type 0} → (ℕ → List A) → ℕ → List A
+concatenated f zero = []
+concatenated f (suc n) = concatenated f n ++ f n
 
 -- where shard i of s begins in a list of n: at the floor of i * n / s
 abbrev pub begins : ℕ → ℕ → ℕ → ℕ

@@ -12,7 +12,7 @@ use Rattle.partial_tables.specs.Runs.{AreTabled}
 use Rattle.partial_tables.specs.Tables.{Pairs}
 use Rattle.partial_tables.specs.declared.lift.Lifting.{Lifting}
 use Rattle.partial_tables.proofs.Tabling.{tables_stand}
-use Rattle.shuffle_parts.specs.Partitions.{part_of, parted}
+use Rattle.shuffle_parts.specs.Partitions.{pairs_in_part, in_parts}
 use Rattle.shuffle_parts.proofs.Parting.{Stands, parted_more}
 
 module _ {A B : Type 0} (R : A → B → Type 0) where
@@ -46,43 +46,43 @@ module _ {A B : Type 0} (R : A → B → Type 0) where
 
 -- ---- no pairs
 pub none_more : (c : Comb) (n : ℕ) (parts grown : List Lifting) (part : Lifting)
-    → AllZip (IsLifted c) parts (parted n []) → grown ≡ parts ++ part ∷ [] → IsLifted c part []
-    → AllZip (IsLifted c) grown (parted (n + 1) [])
+    → AllZip (IsLifted c) parts (in_parts n []) → grown ≡ parts ++ part ∷ [] → IsLifted c part []
+    → AllZip (IsLifted c) grown (in_parts (n + 1) [])
 none_more c n parts grown part z push is =
     let nothing : ℕ → List Value = λ p. [] in
-    subst (λ l. AllZip (IsLifted c) l (parted (n + 1) [])) (sym push)
+    subst (λ l. AllZip (IsLifted c) l (in_parts (n + 1) [])) (sym push)
     (subst (AllZip (IsLifted c) (parts ++ part ∷ []))
     (sym (map-range_with_len_more nothing 0 n n (omega arith)))
-    (zip_push (IsLifted c) parts (parted n []) part [] z is))
+    (zip_push (IsLifted c) parts (in_parts n []) part [] z is))
 
 -- ---- the partition of a pair
 module _ (c : Comb) (n at : ℕ) (pairs : List Value) (parts : List Lifting)
-    (z : AllZip (IsLifted c) parts (parted n pairs)) (within : at < n) where
+    (z : AllZip (IsLifted c) parts (in_parts n pairs)) (within : at < n) where
   length_is : length parts ≡ n
   length_is =
-      zip_length (IsLifted c) parts (parted n pairs) z
-      ∙ length-map-range_with_len (λ p. part_of n p pairs) 0 n
+      zip_length (IsLifted c) parts (in_parts n pairs) z
+      ∙ length-map-range_with_len (λ p. pairs_in_part n p pairs) 0 n
 
   pub here : at < length parts
   here = omega (arith, length_is, within)
 
   pub lifted_at : (part : Lifting) → part ≡ get_or parts at part
-      → IsLifted c part (get_or (parted n pairs) at [])
-  lifted_at part is = zip_get (IsLifted c) parts (parted n pairs) at part [] z here is
+      → IsLifted c part (get_or (in_parts n pairs) at [])
+  lifted_at part is = zip_get (IsLifted c) parts (in_parts n pairs) at part [] z here is
 
   pub put_at : (new : Lifting) (pair key : Value) → key_of pair ≡ Some key
-      → at ≡ partition_of key n → IsLifted c new (get_or (parted n pairs) at [] ++ pair ∷ [])
-      → AllZip (IsLifted c) (slice_set parts at new) (parted n (pairs ++ pair ∷ []))
+      → at ≡ partition_of key n → IsLifted c new (get_or (in_parts n pairs) at [] ++ pair ∷ [])
+      → AllZip (IsLifted c) (slice_set parts at new) (in_parts n (pairs ++ pair ∷ []))
   put_at new pair key k is put =
-      let old = get_or (parted n pairs) at [] in
-      let f : ℕ → List Value = λ p. part_of n p pairs in
-      let same : old ≡ get_or (parted n pairs) at old =
+      let old = get_or (in_parts n pairs) at [] in
+      let f : ℕ → List Value = λ p. pairs_in_part n p pairs in
+      let same : old ≡ get_or (in_parts n pairs) at old =
       get_or-map-range_with_len f 0 n at at [] within (omega arith)
       ∙ sym (get_or-map-range_with_len f 0 n at at old within (omega arith)) in
       subst (AllZip (IsLifted c) (slice_set parts at new))
-      (parted_more n at pairs (parted n pairs) key pair old (old ++ pair ∷ []) refl k is within
+      (parted_more n at pairs (in_parts n pairs) key pair old (old ++ pair ∷ []) refl k is within
       same refl)
-      (zip_set (IsLifted c) parts (parted n pairs) at new (old ++ pair ∷ []) z put)
+      (zip_set (IsLifted c) parts (in_parts n pairs) at new (old ++ pair ∷ []) z put)
 
 -- ---- all of them
 module _ (c : Comb) (Q : Pairs → List Value → Type 0)

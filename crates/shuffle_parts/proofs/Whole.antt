@@ -11,15 +11,15 @@ use Rattle.flume_value.specs.Canonical.{canonical}
 use Rattle.flume_value.specs.Partitions.{fnv_1a, partition_of}
 use Rattle.flume_value.proofs.EachLemmas.{each_from, Each-filter_passes}
 use Rattle.bag_groups.specs.Pairs.{IsPair, key_of, parts_of}
-use Rattle.shards.specs.Shards.{joined}
+use Rattle.shards.specs.Shards.{concatenated}
 use Rattle.shards.proofs.Alike.{bag_alike, flat_map-itself}
 use Rattle.shards.proofs.Joined.{joined_same, joined_parts}
-use Rattle.shuffle_parts.specs.Partitions.{is_in, falls_in, part_of}
+use Rattle.shuffle_parts.specs.Partitions.{is_in_part, falls_in, pairs_in_part}
 
 pub part_own : (n p : ℕ) (pairs : List Value)
-    → All (λ pair. IsTrue (falls_in n p pair)) (part_of n p pairs)
+    → All (λ pair. IsTrue (falls_in n p pair)) (pairs_in_part n p pairs)
 part_own n p pairs =
-    All-from_recursion (λ pair. IsTrue (falls_in n p pair)) (part_of n p pairs)
+    All-from_recursion (λ pair. IsTrue (falls_in n p pair)) (pairs_in_part n p pairs)
     (Each-filter_passes (falls_in n p) pairs)
 
 -- the partition of a pair's key, of n
@@ -36,30 +36,31 @@ number_below n some x =
 falls_by_number : (n p : ℕ) (x : Value) → IsPair x → falls_in n p x ≡ (number n x == p)
 falls_by_number n p x is =
     elim (parts_of x) as
-    (λ o. IsSome o → option_map_or (is_in n p) (option_map (λ parts. parts.0) o) false
+    (λ o. IsSome o → option_map_or (is_in_part n p) (option_map (λ parts. parts.0) o) false
     ≡ (option_map_or (λ k. partition_of k n) (option_map (λ parts. parts.0) o) 0 == p)) [
       | None ↦ λ some. cc some
       | Some q ↦ λ some. refl
     ] is
 
 part_flat : (n p : ℕ) (xs : List Value) → Each IsPair xs
-    → part_of n p xs ≡ flat_map (λ x. cond (number n x == p) (x ∷ []) []) xs
+    → pairs_in_part n p xs ≡ flat_map (λ x. cond (number n x == p) (x ∷ []) []) xs
 part_flat n p [] e = refl
 part_flat n p (x ∷ xs) e =
-    ap (λ b. cond b (x ∷ part_of n p xs) (part_of n p xs)) (falls_by_number n p x e.0)
+    ap (λ b. cond b (x ∷ pairs_in_part n p xs) (pairs_in_part n p xs)) (falls_by_number n p x e.0)
     ∙ elim (number n x == p) as
-    (λ b. cond b (x ∷ part_of n p xs) (part_of n p xs)
+    (λ b. cond b (x ∷ pairs_in_part n p xs) (pairs_in_part n p xs)
     ≡ cond b (x ∷ []) [] ++ flat_map (λ y. cond (number n y == p) (y ∷ []) []) xs) [
       | true ↦ ap (λ l. x ∷ l) (part_flat n p xs e.1)
       | false ↦ part_flat n p xs e.1
     ]
 
 pub parts_whole : (n : ℕ) (pairs : List Value) → 0 < n → All IsPair pairs
-    → bag_of (joined (λ p. part_of n p pairs) n) ≡ bag_of pairs
+    → bag_of (concatenated (λ p. pairs_in_part n p pairs) n) ≡ bag_of pairs
 parts_whole n pairs some are =
     let each = each_from IsPair pairs are in
     let by_number = λ (p : ℕ). flat_map (λ x. cond (number n x == p) (x ∷ []) []) pairs in
-    ap bag_of (joined_same (λ p. part_of n p pairs) by_number (λ p. part_flat n p pairs each) n)
-    ∙ bag_alike (joined by_number n) (flat_map (λ x. x ∷ []) pairs)
+    ap bag_of (joined_same (λ p. pairs_in_part n p pairs) by_number (λ p. part_flat n p pairs each)
+    n)
+    ∙ bag_alike (concatenated by_number n) (flat_map (λ x. x ∷ []) pairs)
     (joined_parts (λ x. x ∷ []) (number n) n (number_below n some) pairs)
     ∙ ap bag_of (flat_map-itself pairs)

@@ -9,7 +9,7 @@ use Rattle.partial_tables.specs.Merges.{StandFor}
 use Rattle.shuffle_parts.specs.declared.out.Sent.{Sent}
 use Rattle.shuffle_parts.specs.declared.out.Sent.TheVariants.{Passed, Grouped, Combined}
 use Rattle.shuffle_parts.specs.declared.out.MapOut.{MapOut}
-use Rattle.shuffle_parts.specs.Partitions.{parted}
+use Rattle.shuffle_parts.specs.Partitions.{in_parts}
 
 -- what the out has for the channel r
 abbrev pub sent_at : ℕ → MapOut → Option Sent
@@ -61,11 +61,11 @@ all_partials outs r p = all_found (partials_at r p) outs
 
 -- the pairs, by the partition of their keys
 abbrev pub ArePairsOf : ℕ → Option Sent → List Value → Type 0
-ArePairsOf n (Some (Grouped parts)) pairs = parts ≡ parted n pairs
+ArePairsOf n (Some (Grouped parts)) pairs = parts ≡ in_parts n pairs
 ArePairsOf n _ pairs = ⊥
 
 -- for each partition accumulators that stand for its pairs
 abbrev pub ArePartialsOf : Comb → ℕ → Option Sent → List Value → Type 0
 ArePartialsOf c n (Some (Combined parts)) pairs =
-    AllZip (λ partials part. StandFor c partials (pairs_of part)) parts (parted n pairs)
+    AllZip (λ partials part. StandFor c partials (pairs_of part)) parts (in_parts n pairs)
 ArePartialsOf c n _ pairs = ⊥

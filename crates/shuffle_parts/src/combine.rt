@@ -6,7 +6,7 @@ ghost use Rattle.bag_groups.specs.Pairs.{IsPair, pairs_of};
 ghost use Rattle.partial_tables.specs.Lifted.{IsLifted, accumulators_of};
 ghost use Rattle.partial_tables.specs.Merges.{StandFor, IsCombinable};
 ghost use Rattle.partial_tables.specs.Runs.{AreTabled};
-ghost use Rattle.shuffle_parts.specs.Partitions.{parted};
+ghost use Rattle.shuffle_parts.specs.Partitions.{in_parts};
 
 use bag_groups::key;
 use combine_table::Comb;
@@ -37,12 +37,12 @@ pub trait Paired: Drop {
     ) -> Result<(), AllocError>
         requires some { 0 < partitions }
         requires stands { (done : List GhostValue)
-            × AllZip (IsLifted comb) parts.old.items (parted partitions done) }
+            × AllZip (IsLifted comb) parts.old.items (in_parts partitions done) }
         requires pair { IsCombinable comb (as_pair self) }
         ensures { (done : List GhostValue) →
-            AllZip (IsLifted comb) parts.old.items (parted partitions done) →
+            AllZip (IsLifted comb) parts.old.items (in_parts partitions done) →
             OnOk result (AllZip (IsLifted comb) parts.new.items
-            (parted partitions (done ++ as_pair self ∷ []))) };
+            (in_parts partitions (done ++ as_pair self ∷ []))) };
 }
 
 impl Paired for Value {
@@ -98,10 +98,10 @@ pub fn combine_pairs(
     requires pairs { All (λ pair. IsCombinable comb pair.now) pairs.items }
     ensures stands { IfOk result (λ combined.
         AllZip (λ partials part. StandFor comb partials (pairs_of part)) combined
-        (parted partitions (map (λ pair. pair.now) pairs.entry.items))) }
+        (in_parts partitions (map (λ pair. pair.now) pairs.entry.items))) }
     ensures tables { IfOk result (λ combined.
         AllZip (λ partials part. AreTabled comb (pairs_of part) partials) combined
-        (parted partitions (map (λ pair. pair.now) pairs.entry.items))) }
+        (in_parts partitions (map (λ pair. pair.now) pairs.entry.items))) }
 {
     let parts = lift_referred(alloc, comb, pairs, partitions)?;
     finish_each(alloc, parts)
@@ -109,7 +109,7 @@ pub fn combine_pairs(
 
 /// For so many partitions accumulators of no pairs, into which pairs are put.
 pub fn none_lifted(alloc: Global, comb: Comb, partitions: u32) -> Result<Vec<Lifting>, AllocError>
-    ensures { IfOk result (λ parts. AllZip (IsLifted comb) parts.items (parted partitions [])) }
+    ensures { IfOk result (λ parts. AllZip (IsLifted comb) parts.items (in_parts partitions [])) }
 {
     let mut parts = Vec::new(alloc);
     for _i in 0..partitions {
@@ -128,12 +128,12 @@ pub fn lift_more<P: Paired>(
 ) -> Result<Vec<Lifting>, AllocError>
     requires some { 0 < partitions }
     requires stands { (done : List GhostValue)
-        × AllZip (IsLifted comb) parts.items (parted partitions done) }
+        × AllZip (IsLifted comb) parts.items (in_parts partitions done) }
     requires pairs { All (λ pair. IsCombinable comb (P.as_pair pair)) pairs.items }
     ensures { (done : List GhostValue) →
-        AllZip (IsLifted comb) parts.items (parted partitions done) →
+        AllZip (IsLifted comb) parts.items (in_parts partitions done) →
         IfOk result (λ all. AllZip (IsLifted comb) all.items
-        (parted partitions (done ++ map P.as_pair pairs.items))) }
+        (in_parts partitions (done ++ map P.as_pair pairs.items))) }
 {
     for pair in pairs {
         pair.lift(alloc, comb, &mut parts, partitions)?;
@@ -162,7 +162,7 @@ fn lift_referred(
     requires some { 0 < partitions }
     requires pairs { All (λ pair. IsCombinable comb pair.now) pairs.items }
     ensures { IfOk result (λ parts. AllZip (IsLifted comb) parts.items
-        (parted partitions (map (λ pair. pair.now) pairs.entry.items))) }
+        (in_parts partitions (map (λ pair. pair.now) pairs.entry.items))) }
 {
     let mut parts = none_lifted(alloc, comb, partitions)?;
     for pair in pairs {
@@ -181,12 +181,12 @@ fn lift_one(
 ) -> Result<(), AllocError>
     requires some { 0 < partitions }
     requires stands { (done : List GhostValue)
-        × AllZip (IsLifted comb) parts.old.items (parted partitions done) }
+        × AllZip (IsLifted comb) parts.old.items (in_parts partitions done) }
     requires pair { IsCombinable comb pair.now }
     ensures { (done : List GhostValue) →
-        AllZip (IsLifted comb) parts.old.items (parted partitions done) →
+        AllZip (IsLifted comb) parts.old.items (in_parts partitions done) →
         OnOk result (AllZip (IsLifted comb) parts.new.items
-        (parted partitions (done ++ pair.now ∷ []))) }
+        (in_parts partitions (done ++ pair.now ∷ []))) }
 {
     let at = partition(key(pair), partitions);
     parts[at as usize].put(alloc, comb, pair)?;

@@ -18,9 +18,9 @@ use Rattle.graph_laws.proofs.ReadPlaces.{all_among}
 use Rattle.graph_laws.proofs.Wellness.{gives_of}
 use Rattle.sink_laws.specs.declared.pair.Pair.{Pair}
 use Rattle.sink_laws.specs.Kept.{KeepsTypesAndSteps, IsOfPdo}
-use Rattle.sink_laws.specs.Merging.{spliced, merged, CanMerge}
+use Rattle.sink_laws.specs.Merging.{spliced, merged_flattens, CanMerge}
 use Rattle.sink_laws.specs.Sinking.{sunk_once}
-use Rattle.sink_laws.specs.Chain.{is_before, lesser, least, ins_of, forest_of, nest_of, nest_at, next_nest, after_nest, call_of, call_at, next_call, after_call, CanSinkPdo, CanNest, has_room, sink_next, next_by, next_graph, SinksTo, stay, go, ReadsNoFlatten, NoPdoReadsFlatten, IsFull}
+use Rattle.sink_laws.specs.Chain.{is_before, lesser_pair, least_pair, ins_of, forest_of, nest_of, nest_at, next_nest, after_nest, call_of, call_at, next_call, after_call, CanSinkPdo, CanNest, has_room, sink_next, next_by, next_graph, SinksTo, stay, go, ReadsNoFlatten, NoPdoReadsFlatten, IsFull}
 use Rattle.sink_laws.proofs.Steps.{IsGood-trans, IsGood-merge_step, IsGood-sink_step}
 use Rattle.sink_laws.proofs.TypesKept.{IsTyped-sunk, IsTyped-merged, IsTyped-tidied, AllSteps-sink_step, AllSteps-merge_step, AllSteps-kept, KeepsSteps-self}
 
@@ -33,16 +33,17 @@ pick : (P : Pair → Type 0) (a b : Pair) (t : Bool) → P a → P b → (x : Pa
 pick P a b true p q x h = let e : b ≡ x = cc in subst P e q
 pick P a b false p q x h = let e : a ≡ x = cc in subst P e p
 
-lesser_only : (P : Pair → Type 0) (a b : Option Pair) → Only P a → Only P b → Only P (lesser a b)
+lesser_only : (P : Pair → Type 0) (a b : Option Pair) → Only P a → Only P b
+    → Only P (lesser_pair a b)
 lesser_only P None b p q = q
 lesser_only P (Some a) None p q = p
 lesser_only P (Some a) (Some b) p q = pick P a b (is_before b a) (p a refl) (q b refl)
 
 least_only : {Y : Type 0} (P : Pair → Type 0) (f : Y → Option Pair) (b : Option Pair) (ys : List Y)
-    → Only P b → AllByRecursion (λ y. Only P (f y)) ys → Only P (least f b ys)
+    → Only P b → AllByRecursion (λ y. Only P (f y)) ys → Only P (least_pair f b ys)
 least_only P f b [] p a = p
 least_only P f b (y ∷ ys) p a =
-    least_only P f (lesser b (f y)) ys (lesser_only P b (f y) p a.0) a.1
+    least_only P f (lesser_pair b (f y)) ys (lesser_only P b (f y) p a.0) a.1
 
 none_only : (P : Pair → Type 0) → Only P None
 none_only P x h = let bad : ⊥ = cc in absurd bad
@@ -83,7 +84,7 @@ call_can_at g p (Barrier ins o l a) h t = none_only (CanSinkPdo g)
 least_node : (P : Pair → Type 0) (g : Graph) (f : ℕ → Node → Option Pair) → IsGraphOk g
     → ((n : ℕ) (x : Node) → node_at g.nodes n ≡ Some x
     → AllByRecursion (IsThere g.nodes) (reads x) → Only P (f n x))
-    → Only P (least (λ (e : Entry). f e.number e.node) None g.nodes)
+    → Only P (least_pair (λ (e : Entry). f e.number e.node) None g.nodes)
 least_node P g f ok one =
     least_only P (λ (e : Entry). f e.number e.node) None g.nodes (none_only P)
     (Each-both (λ (e : Entry). node_at g.nodes e.number ≡ Some e.node)
@@ -166,7 +167,7 @@ IsKept-nest g n ok can =
     let es : List Place = ins_of (node_at g.nodes n.other) in
     record {
       good = IsGood-merge_step g n.flatten ins n.other es ok can;
-      types = λ s t. IsTyped-tidied s (merged g n.flatten ins n.other es) n.other
+      types = λ s t. IsTyped-tidied s (merged_flattens g n.flatten ins n.other es) n.other
           (IsTyped-merged s g n.flatten ins n.other es can t);
       steps = AllSteps-merge_step (IsOfPdo g) g n.flatten ins n.other es (KeepsSteps-self g ok);
     }
@@ -210,7 +211,7 @@ next_has_no_room g p a b c = ap (next_by g) a ∙ ap (sink_next g) b ∙ rw c re
 
 -- ---- the normal form
 
-lesser_none : (a b : Option Pair) → lesser a b ≡ None → (a ≡ None) × (b ≡ None)
+lesser_none : (a b : Option Pair) → lesser_pair a b ≡ None → (a ≡ None) × (b ≡ None)
 lesser_none None b h = (refl, h)
 lesser_none (Some a) None h = let bad : ⊥ = cc in absurd bad
 lesser_none (Some a) (Some b) h = absurd (by (is_before b a) h)
@@ -220,10 +221,10 @@ lesser_none (Some a) (Some b) h = absurd (by (is_before b a) h)
     by false k = cc
 
 least_none : {Y : Type 0} (f : Y → Option Pair) (b : Option Pair) (ys : List Y)
-    → least f b ys ≡ None → (b ≡ None) × AllByRecursion (λ y. f y ≡ None) ys
+    → least_pair f b ys ≡ None → (b ≡ None) × AllByRecursion (λ y. f y ≡ None) ys
 least_none f b [] h = (h, tt)
 least_none f b (y ∷ ys) h =
-    let r = least_none f (lesser b (f y)) ys h in
+    let r = least_none f (lesser_pair b (f y)) ys h in
     let p = lesser_none b (f y) r.0 in
     (p.0, (p.1, r.1))
 

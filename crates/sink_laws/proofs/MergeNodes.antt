@@ -21,7 +21,7 @@ use Rattle.graph_laws.specs.Joining.{set_node}
 use Rattle.graph_laws.proofs.Changes.{all_set_others}
 use Rattle.graph_laws.proofs.Wellness.{node_at-set_other}
 use Rattle.graph_laws.proofs.Reading.{any_set, those_set}
-use Rattle.sink_laws.specs.Merging.{spliced, merged, CanMerge}
+use Rattle.sink_laws.specs.Merging.{spliced, merged_flattens, CanMerge}
 use Rattle.sink_laws.proofs.Readership.{any_set_up}
 use Rattle.sink_laws.proofs.Rerouting.{apart_input}
 use Rattle.sink_laws.proofs.SinkNodes.{NodesOk, two_kinds}
@@ -96,7 +96,7 @@ spliced_long e es (c ∷ ins) h i = by (same_place (place e 0) c)
 
 read_merged : (g : Graph) (f : ℕ) (ins : List Place) (e : ℕ) (es : List Place) (c : Place)
     → CanMerge g f ins e es → (c.node ≡ e → ⊥) → is_read g c ≡ true
-    → is_read (merged g f ins e es) c ≡ true
+    → is_read (merged_flattens g f ins e es) c ≡ true
 read_merged g f ins e es c can apart h =
     by (any_node (uses c) g.nodes) refl h
   where
@@ -111,7 +111,8 @@ read_merged g f ins e es c can apart h =
         (any_node (uses c) (set_node g.nodes f (Flatten (spliced e es ins)))) (among c g.outputs) k
 
 lifted_merged : (g : Graph) (f : ℕ) (ins : List Place) (e : ℕ) (es : List Place) (q : ℕ)
-    (k : Comb) → CanMerge g f ins e es → IsLiftedOk g q k → IsLiftedOk (merged g f ins e es) q k
+    (k : Comb) → CanMerge g f ins e es → IsLiftedOk g q k
+    → IsLiftedOk (merged_flattens g f ins e es) q k
 lifted_merged g f ins e es q k can a =
     let d : Place = place q 0 in
     let x : Node = Flatten (spliced e es ins) in
@@ -143,7 +144,7 @@ lifted_merged g f ins e es q k can a =
 
 node_merged : (g : Graph) (f : ℕ) (ins : List Place) (e : ℕ) (es : List Place) (q : ℕ) (x : Node)
     → CanMerge g f ins e es → node_at g.nodes q ≡ Some x → IsNodeOk g q x
-    → IsNodeOk (merged g f ins e es) q x
+    → IsNodeOk (merged_flattens g f ins e es) q x
 node_merged g f ins e es q (Flatten cs) can at a = a
 node_merged g f ins e es q (Pdo c h) can at a = record {
   order = a.order;
@@ -155,14 +156,14 @@ node_merged g f ins e es q (Gbk c o l (Some k)) can at a = lifted_merged g f ins
 node_merged g f ins e es q _ can at a = tt
 
 pub NodesOk-merged : (g : Graph) (f : ℕ) (ins : List Place) (e : ℕ) (es : List Place)
-    → Ascends g.nodes → CanMerge g f ins e es → NodesOk g → NodesOk (merged g f ins e es)
+    → Ascends g.nodes → CanMerge g f ins e es → NodesOk g → NodesOk (merged_flattens g f ins e es)
 NodesOk-merged g f ins e es ascends can a =
     let at_f : (0 < length ins) × (length ins ≤ most_nodes) =
     all_found (λ e. IsNodeOk g e.number e.node) g.nodes f (Flatten ins) can.outer a in
     let at_e : (0 < length es) × (length es ≤ most_nodes) =
     all_found (λ e. IsNodeOk g e.number e.node) g.nodes e (Flatten es) can.inner a in
     let differ = differ_ascends g.nodes ascends in
-    all_set_others (λ d. IsNodeOk (merged g f ins e es) d.number d.node) g.nodes f
+    all_set_others (λ d. IsNodeOk (merged_flattens g f ins e es) d.number d.node) g.nodes f
     (Flatten (spliced e es ins)) differ
     (others g f ins e es g.nodes can (each_found g.nodes differ) a)
     (spliced_long e es ins at_e.0 at_f.0, can.room)
@@ -172,7 +173,7 @@ NodesOk-merged g f ins e es ascends can a =
         → AllByRecursion (λ e. node_at g.nodes e.number ≡ Some e.node) ds
         → AllByRecursion (λ e. IsNodeOk g e.number e.node) ds
         → AllByRecursion (λ d. (d.number ≡ f → ⊥)
-        → IsNodeOk (merged g f ins e es) d.number d.node) ds
+        → IsNodeOk (merged_flattens g f ins e es) d.number d.node) ds
     others g f ins e es [] can a b = tt
     others g f ins e es (d ∷ ds) can a b = (
       λ _. node_merged g f ins e es d.number d.node can a.0 b.0,

@@ -17,7 +17,7 @@ use Rattle.sink_laws.specs.declared.pair.Pair.{Pair}
 use Rattle.sink_laws.specs.Kept.{KeepsTypesAndSteps}
 use Rattle.sink_laws.specs.Merging.{CanMerge, spliced}
 use Rattle.sink_laws.specs.Sinking.{CanSink}
-use Rattle.sink_laws.specs.Chain.{CanSinkPdo, CanNest, IsLeastPair, IsLink, SinksTo, after_call, after_nest, call_at, call_of, forest_of, go, has_room, ins_of, is_before, least, lesser, nest_at, nest_of, next_by, next_call, next_graph, next_nest, sink_next, stay}
+use Rattle.sink_laws.specs.Chain.{CanSinkPdo, CanNest, IsLeastPair, IsLink, SinksTo, after_call, after_nest, call_at, call_of, forest_of, go, has_room, ins_of, is_before, least_pair, lesser_pair, nest_at, nest_of, next_by, next_call, next_graph, next_nest, sink_next, stay}
 use Rattle.sink_laws.proofs.Choosing.{IsKept-call, IsKept-nest, IsKept-refl, IsKept-trans, next_call_can, next_nest_can}
 use Rattle.sink_laws.proofs.Unread.{same_true}
 
@@ -64,12 +64,12 @@ right_by a b x false e h = record {
   upto = upto_trans a b x (not_less a.flatten a.other b.flatten b.other e) h;
 }
 
-below_left : (a b : Option Pair) (x : Pair) → Below a x → Below (lesser a b) x
+below_left : (a b : Option Pair) (x : Pair) → Below a x → Below (lesser_pair a b) x
 below_left None b x h = absurd (below_none x h)
 below_left (Some a) None x h = h
 below_left (Some a) (Some b) x h = left_by a b x (is_before b a) refl (below_some a x h)
 
-below_right : (a b : Option Pair) (x : Pair) → Below b x → Below (lesser a b) x
+below_right : (a b : Option Pair) (x : Pair) → Below b x → Below (lesser_pair a b) x
 below_right None b x h = h
 below_right (Some a) None x h = absurd (below_none x h)
 below_right (Some a) (Some b) x h = right_by a b x (is_before b a) refl (below_some b x h)
@@ -81,16 +81,16 @@ AnyOf P [] = ⊥
 AnyOf P (y ∷ ys) = P y ⊎ AnyOf P ys
 
 least_keeps : {Y : Type 0} (f : Y → Option Pair) (b : Option Pair) (ys : List Y) (x : Pair)
-    → Below b x → Below (least f b ys) x
+    → Below b x → Below (least_pair f b ys) x
 least_keeps f b [] x h = h
-least_keeps f b (y ∷ ys) x h = least_keeps f (lesser b (f y)) ys x (below_left b (f y) x h)
+least_keeps f b (y ∷ ys) x h = least_keeps f (lesser_pair b (f y)) ys x (below_left b (f y) x h)
 
 least_takes : {Y : Type 0} (f : Y → Option Pair) (b : Option Pair) (ys : List Y) (x : Pair)
-    → AnyOf (λ y. Below (f y) x) ys → Below (least f b ys) x
+    → AnyOf (λ y. Below (f y) x) ys → Below (least_pair f b ys) x
 least_takes f b [] x h = absurd h
 least_takes f b (y ∷ ys) x (inl h) =
-    least_keeps f (lesser b (f y)) ys x (below_right b (f y) x h)
-least_takes f b (y ∷ ys) x (inr h) = least_takes f (lesser b (f y)) ys x h
+    least_keeps f (lesser_pair b (f y)) ys x (below_right b (f y) x h)
+least_takes f b (y ∷ ys) x (inr h) = least_takes f (lesser_pair b (f y)) ys x h
 
 any_by : (P : Entry → Type 0) (e : Entry) (es : List Entry) (n : ℕ) (x : Node) (b : Bool)
     → eqb e.number n ≡ b → cond b (Some e.node) (node_at es n) ≡ Some x → P (entry n x)

@@ -20,7 +20,7 @@ use Rattle.graph_laws.proofs.Changes.{all_set, all_without}
 use Rattle.graph_laws.proofs.NearJoins.{without_lacks}
 use Rattle.graph_laws.proofs.ObjectNodes.{kind_set, node_without, object_mapped, objects_reread_there}
 use Rattle.graph_laws.proofs.Wellness.{gives_of}
-use Rattle.sink_laws.specs.Merging.{dropped, merged, spliced, CanMerge}
+use Rattle.sink_laws.specs.Merging.{dropped, merged_flattens, spliced, CanMerge}
 use Rattle.sink_laws.specs.Sinking.{copies, flatten_number, flattens, outputs_of, rerouted, sunk_once, CanSink}
 use Rattle.sink_laws.proofs.Outs.{has_below}
 use Rattle.sink_laws.proofs.SinkFounded.{all_sunk, flatten_at, node_at-sunk_other}
@@ -41,10 +41,10 @@ all_alike old new h es a =
     (λ e. has_objects new e.node ≡ true) (λ e b. node_alike old new h e.node b) es a
 
 pub HaveObjects-merged : (g : Graph) (f : ℕ) (ins : List Place) (e : ℕ) (es : List Place)
-    → CanMerge g f ins e es → HaveObjects g.nodes → HaveObjects (merged g f ins e es).nodes
+    → CanMerge g f ins e es → HaveObjects g.nodes → HaveObjects (merged_flattens g f ins e es).nodes
 HaveObjects-merged g f ins e es can a =
     let x : Node = Flatten (spliced e es ins) in
-    all_alike g.nodes (merged g f ins e es).nodes
+    all_alike g.nodes (merged_flattens g f ins e es).nodes
     (λ c. kind_set is_object g.nodes f c.node x (Flatten ins) can.outer refl)
     (set_node g.nodes f x)
     (all_set (λ (d : Entry). has_objects g.nodes d.node ≡ true) g.nodes f x a refl)

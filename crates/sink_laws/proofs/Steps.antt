@@ -21,7 +21,7 @@ use Rattle.graph_laws.proofs.Kids.{KeepsMeaning-then}
 use Rattle.graph_laws.proofs.Wellness.{node_at-set_same, node_at-set_other}
 use Rattle.graph_laws.proofs.Reading.{any_here}
 use Rattle.sink_laws.specs.Kept.{IsSoundChange}
-use Rattle.sink_laws.specs.Merging.{spliced, merged, dropped, merge_step, CanMerge}
+use Rattle.sink_laws.specs.Merging.{spliced, merged_flattens, dropped, merge_step, CanMerge}
 use Rattle.sink_laws.specs.Sinking.{copies, rerouted, sunk_once, sink_step, CanSink}
 use Rattle.sink_laws.proofs.Dropping.{CanDrop, KeepsMeaning-dropped, IsFounded-dropped}
 use Rattle.sink_laws.proofs.DropNodes.{IsReplaced, NodesOk-dropped, size_without}
@@ -161,7 +161,7 @@ inner_apart g f ins e es r a can i =
     let j : r e ≡ r f = ap r i in omega arith
 
 replaced_merged : (g : Graph) (f : ℕ) (ins : List Place) (e : ℕ) (es : List Place)
-    → (e ≡ f → ⊥) → CanMerge g f ins e es → IsReplaced (merged g f ins e es) e es
+    → (e ≡ f → ⊥) → CanMerge g f ins e es → IsReplaced (merged_flattens g f ins e es) e es
 replaced_merged g f ins e es apart can c h =
     let x : Node = Flatten (spliced e es ins) in
     let new : List Entry = set_node g.nodes f x in
@@ -171,8 +171,9 @@ replaced_merged g f ins e es apart can c h =
     (among_put c e es ins can.nested h)
 
 merge_by : (g : Graph) (f : ℕ) (ins : List Place) (e : ℕ) (es : List Place) (b : Bool)
-    → is_read (merged g f ins e es) (place e 0) ≡ b → IsGraphOk g → CanMerge g f ins e es
-    → IsSoundChange g (cond b (merged g f ins e es) (dropped (merged g f ins e es) e))
+    → is_read (merged_flattens g f ins e es) (place e 0) ≡ b → IsGraphOk g → CanMerge g f ins e es
+    → IsSoundChange g (cond b (merged_flattens g f ins e es)
+    (dropped (merged_flattens g f ins e es) e))
 merge_by g f ins e es true i ok can = record {
   ok = record {
     founded = IsFounded-merged g f ins e es ok.founded can;
@@ -184,7 +185,7 @@ merge_by g f ins e es true i ok can = record {
   keeps = KeepsMeaning-merged g f ins e es can;
 }
 merge_by g f ins e es false i ok can =
-    let h : Graph = merged g f ins e es in
+    let h : Graph = merged_flattens g f ins e es in
     let apart : e ≡ f → ⊥ =
     inner_apart g f ins e es ok.founded.ranked.0 ok.founded.ranked.1 can in
     let drop : CanDrop h e es = record {
@@ -214,4 +215,4 @@ merge_by g f ins e es false i ok can =
 pub IsGood-merge_step : (g : Graph) (f : ℕ) (ins : List Place) (e : ℕ) (es : List Place)
     → IsGraphOk g → CanMerge g f ins e es → IsSoundChange g (merge_step g f ins e es)
 IsGood-merge_step g f ins e es ok can =
-    merge_by g f ins e es (is_read (merged g f ins e es) (place e 0)) refl ok can
+    merge_by g f ins e es (is_read (merged_flattens g f ins e es) (place e 0)) refl ok can

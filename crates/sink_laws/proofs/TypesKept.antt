@@ -23,7 +23,7 @@ use Rattle.graph_laws.proofs.TypedForests.{typed_moved}
 use Rattle.graph_laws.proofs.TypedGraphs.{typed_at}
 use Rattle.graph_laws.proofs.Changes.{all_set, all_without}
 use Rattle.sink_laws.specs.Kept.{IsOfPdo, KeepsSteps}
-use Rattle.sink_laws.specs.Merging.{spliced, merged, dropped, tidied, merge_step, CanMerge}
+use Rattle.sink_laws.specs.Merging.{spliced, merged_flattens, dropped, tidied, merge_step, CanMerge}
 use Rattle.sink_laws.specs.Sinking.{copies, copied, flattens, outputs_of, flatten_number, rerouted, sunk_once, sink_step, CanSink}
 use Rattle.sink_laws.proofs.MergeMeaning.{all_spliced}
 use Rattle.sink_laws.proofs.SinkFounded.{all_sunk, p_below}
@@ -154,7 +154,8 @@ IsTyped-sunk s g n p f ins below there can typed =
     )
 
 pub IsTyped-merged : (s : Signatures) (g : Graph) (f : ℕ) (ins : List Place) (e : ℕ)
-    (es : List Place) → CanMerge g f ins e es → IsTyped s g → IsTyped s (merged g f ins e es)
+    (es : List Place) → CanMerge g f ins e es → IsTyped s g
+    → IsTyped s (merged_flattens g f ins e es)
 IsTyped-merged s g f ins e es can typed =
     let types : Place → Ty = typed.0 in
     let at_f : AllByRecursion (λ c. types c ≡ types (place f 0)) ins =
@@ -227,7 +228,7 @@ module _ (P : Forest → Type 0) where
   pub AllSteps-merge_step : (g : Graph) (f : ℕ) (ins : List Place) (e : ℕ) (es : List Place)
       → AllSteps P g → AllSteps P (merge_step g f ins e es)
   AllSteps-merge_step g f ins e es u =
-      AllSteps-tidied (merged g f ins e es) e
+      AllSteps-tidied (merged_flattens g f ins e es) e
       (all_set (λ e. HasSteps P e.node) g.nodes f (Flatten (spliced e es ins)) u tt)
 
 -- ---- the steps are those of former Pdos

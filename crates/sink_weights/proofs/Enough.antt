@@ -10,7 +10,7 @@ use Rattle.sink_laws.specs.of_exec_graph.declared.graph.Node.{Node}
 use Rattle.sink_laws.specs.of_exec_graph.declared.graph.Node.TheVariants.{Source, Flatten, Pdo, Gbk, Barrier}
 use Rattle.sink_laws.specs.of_graph_laws.Joining.{reread}
 use Rattle.sink_laws.specs.Sinking.{copies, copied, flattens, flatten_number}
-use Rattle.sink_weights.specs.Weights.{added, node_weight}
+use Rattle.sink_weights.specs.Weights.{weights_at, node_weight}
 use Rattle.sink_weights.proofs.Sums.{weigh}
 use Rattle.sink_weights.proofs.Weighing.{IsEnough}
 
@@ -46,7 +46,7 @@ enough_number m next p ins (suc j) h =
 added_from : (m : ℕ → ℕ) (next p : ℕ) (ins : List Place) (j i q : ℕ) (cs : List Place)
     → q ≡ next + i → i + length cs ≡ length ins
     → ((k : ℕ) → get_or ins (i + k) (place 0 0) ≡ get_or cs k (place 0 0))
-    → added (enough m next p ins) (copied q j cs) ≡ 2 * added m cs
+    → weights_at (enough m next p ins) (copied q j cs) ≡ 2 * weights_at m cs
 added_from m next p ins j i q [] h l a = omega arith
 added_from m next p ins j i q (c ∷ cs) h l a =
     let here : get_or ins i (place 0 0) ≡ c =
@@ -59,7 +59,7 @@ added_from m next p ins j i q (c ∷ cs) h l a =
     omega arith
 
 pub added_copied : (m : ℕ → ℕ) (next p : ℕ) (ins : List Place) (j : ℕ)
-    → added (enough m next p ins) (copied next j ins) ≡ 2 * added m ins
+    → weights_at (enough m next p ins) (copied next j ins) ≡ 2 * weights_at m ins
 added_copied m next p ins j =
     added_from m next p ins j 0 next ins (omega arith) (omega arith)
     (λ k. ap (λ (a : ℕ). get_or ins a (place 0 0)) (omega arith))
@@ -67,7 +67,7 @@ added_copied m next p ins j =
 -- ---- a node over collections of the same weights
 
 added_same : (k m : ℕ → ℕ) (r : Place → Place) (cs : List Place)
-    → AllByRecursion (λ c. k (r c).node ≡ m c.node) cs → added k (map r cs) ≡ added m cs
+    → AllByRecursion (λ c. k (r c).node ≡ m c.node) cs → weights_at k (map r cs) ≡ weights_at m cs
 added_same k m r [] a = refl
 added_same k m r (c ∷ cs) a =
     let i = added_same k m r cs a.1 in let j : k (r c).node ≡ m c.node = a.0 in cc
@@ -100,17 +100,17 @@ copies_enough m next p f ins i q (c ∷ cs) h l a b =
     )
 
 weigh_copies : (k : ℕ → ℕ) (q : ℕ) (f : Forest) (cs : List Place)
-    → weigh k (copies q f cs) ≡ added k (copied q 0 cs)
+    → weigh k (copies q f cs) ≡ weights_at k (copied q 0 cs)
 weigh_copies k q f [] = refl
 weigh_copies k q f (c ∷ cs) = ap (λ (n : ℕ). k q + n) (weigh_copies k (q + 1) f cs)
 
 pub copies_weigh : (m : ℕ → ℕ) (next p : ℕ) (f : Forest) (ins : List Place)
-    → weigh (enough m next p ins) (copies next f ins) ≡ 2 * added m ins
+    → weigh (enough m next p ins) (copies next f ins) ≡ 2 * weights_at m ins
 copies_weigh m next p f ins =
     weigh_copies (enough m next p ins) next f ins ∙ added_copied m next p ins 0
 
 pub flattens_enough : (m : ℕ → ℕ) (next p q : ℕ) (ins : List Place) (j k : ℕ)
-    → next + length ins ≤ q → 1 + 2 * added m ins ≤ m p
+    → next + length ins ≤ q → 1 + 2 * weights_at m ins ≤ m p
     → IsEnough (enough m next p ins) (flattens q next ins j k)
 flattens_enough m next p q ins j zero h l = tt
 flattens_enough m next p q ins j (suc k) h l = (

@@ -1,7 +1,7 @@
 -- The outputs that are numbered are those that have a reader, in order.
 use Rattle.std.proofs.Common.{◌≡◌, ℕ, ◌+◌, ◌-◌, ◌<◌, Bool, true, List, [], ◌∷◌, ◌++◌, Option, Some, None, zero, suc, refl, sym, ap, ◌∙◌, subst, arith}
 use Rattle.std.specs.List.{AllByRecursion, cons_option}
-use Rattle.sink_laws.specs.of_exec_graph.Forests.{Forest, Bare, Grow, after, after_out, new_out, numbered}
+use Rattle.sink_laws.specs.of_exec_graph.Forests.{Forest, Bare, Grow, next_after, after_out, new_out, numbered}
 use Rattle.sink_laws.specs.of_exec_graph.Meaning.{place, node_at}
 use Rattle.sink_laws.specs.of_exec_graph.Readers.{is_read}
 use Rattle.sink_laws.specs.of_exec_graph.Wellformed.{IsForestOk, IsGraphOk, IsNodeOk}
@@ -12,7 +12,7 @@ use Rattle.sink_laws.proofs.of_exec_graph.Entries.{all_found}
 use Rattle.sink_laws.proofs.of_exec_graph.Numbered.{forest_up}
 use Rattle.sink_laws.specs.Sinking.{outputs_of}
 use Rattle.sink_laws.proofs.Outs.{has_from}
-use Rattle.sink_weights.specs.Outputs.{numbers, passing, read_outputs, from}
+use Rattle.sink_weights.specs.Outputs.{numbers_kept, passing, read_outputs, from}
 
 from_append : (n a b : ℕ) → from n (a + b) ≡ from n a ++ from (n + a) b
 from_append n zero b =
@@ -30,18 +30,20 @@ consed n k m None js c e = let s : m ≡ k = omega arith in e ∙ ap (from n) s
 consed n k m (Some j) js c e =
     let s : suc m ≡ k = omega arith in ap (λ (l : List ℕ). n ∷ l) e ∙ ap (from n) s
 
-numbers_new : (n k : ℕ) (f : Forest) → n + k ≡ after n f → numbers (numbered n f) ≡ from n k
+numbers_new : (n k : ℕ) (f : Forest) → n + k ≡ next_after n f
+    → numbers_kept (numbered n f) ≡ from n k
 numbers_new n k Bare c = let z : zero ≡ k = omega arith in ap (from n) z
 numbers_new n k (Grow l kids rest) c =
     let a : ℕ = after_out n l.out in
-    let b : ℕ = after a kids in
+    let b : ℕ = next_after a kids in
     let i : ℕ = b - a in
-    let j : ℕ = after b rest - b in
+    let j : ℕ = next_after b rest - b in
     let up = forest_up a kids in
     let more = forest_up b rest in
     let there : b ≡ a + i = omega arith in
-    consed n k (i + j) l.out (numbers (numbered a kids) ++ numbers (numbered b rest)) (omega arith)
-    (ap (λ (js : List ℕ). js ++ numbers (numbered b rest)) (numbers_new a i kids (omega arith))
+    consed n k (i + j) l.out (numbers_kept (numbered a kids) ++ numbers_kept (numbered b rest))
+    (omega arith)
+    (ap (λ (js : List ℕ). js ++ numbers_kept (numbered b rest)) (numbers_new a i kids (omega arith))
     ∙ ap (λ (js : List ℕ). from a i ++ js)
     (numbers_new b j rest (omega arith) ∙ ap (λ (m : ℕ). from m j) there)
     ∙ sym (from_append a i j))
@@ -52,9 +54,9 @@ forest_at g p c f ok at = all_found (λ e. IsNodeOk g e.number e.node) g.nodes p
     ok.nodes
 
 pub numbers_in_order : (g : Graph) (p : ℕ) (c : Place) (f : Forest) → IsGraphOk g
-    → node_at g.nodes p ≡ Some (Pdo c f) → numbers f ≡ from 0 (outputs_of f)
+    → node_at g.nodes p ≡ Some (Pdo c f) → numbers_kept f ≡ from 0 (outputs_of f)
 numbers_in_order g p c f ok at =
-    ap numbers (sym (forest_at g p c f ok at).order)
+    ap numbers_kept (sym (forest_at g p c f ok at).order)
     ∙ numbers_new 0 (outputs_of f) f (omega arith)
 
 all_from : (P : ℕ → Type 0) (n k : ℕ) → ((j : ℕ) → j < n + k → P j) → AllByRecursion P (from n k)
@@ -69,10 +71,10 @@ passing_all t (j ∷ js) a =
     let e : t j ≡ true = a.0 in rw e (ap (λ l. j ∷ l) (passing_all t js a.1))
 
 pub read_all : (g : Graph) (p : ℕ) (c : Place) (f : Forest) → IsGraphOk g
-    → node_at g.nodes p ≡ Some (Pdo c f) → read_outputs g p f ≡ numbers f
+    → node_at g.nodes p ≡ Some (Pdo c f) → read_outputs g p f ≡ numbers_kept f
 read_all g p c f ok at =
     let fine = forest_at g p c f ok at in
-    passing_all (λ j. is_read g (place p j)) (numbers f)
+    passing_all (λ j. is_read g (place p j)) (numbers_kept f)
     (subst (λ (js : List ℕ). AllByRecursion (λ j. is_read g (place p j) ≡ true) js)
     (sym (numbers_in_order g p c f ok at))
     (all_from (λ j. is_read g (place p j) ≡ true) 0 (outputs_of f)

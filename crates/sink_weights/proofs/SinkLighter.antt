@@ -20,7 +20,7 @@ use Rattle.sink_laws.specs.Sinking.{copies, copied, flattens, first_flatten, ins
 use Rattle.sink_laws.proofs.Outs.{has_below, has_from}
 use Rattle.sink_laws.proofs.Readership.{all_instead_others}
 use Rattle.sink_laws.proofs.SinkFounded.{ascends_sunk, first_nodes, kept_nodes, last_nodes, kept_at}
-use Rattle.sink_weights.specs.Weights.{added, weight, is_of, is_node_read, unread_weight, total_weight}
+use Rattle.sink_weights.specs.Weights.{weights_at, weight, is_of, is_node_read, unread_weight, total_weight}
 use Rattle.sink_weights.proofs.Roots.{node_of_place, reader_of, reads_of}
 use Rattle.sink_weights.proofs.SinkReads.{copy_read, forest_ok, number_read, still_read}
 use Rattle.sink_weights.proofs.Sums.{IsTidied, IsTidied-tidied, left, left_below, left_le, left_read, left_unread, skipping, skipping_below, unread_is, weigh, weigh_append, weigh_at, weigh_every, weigh_le, weigh_lt, weigh_map, weigh_none, weigh_set}
@@ -231,7 +231,7 @@ module _ (g : Graph) (n p : ℕ) (f : Forest) (ins : List Place) (ok : IsGraphOk
       by (suc c) h = falls_some (omega arith)
 
 pub total_is : (g : Graph) → total_weight g
-    ≡ added (weight g.nodes) g.outputs + unread_weight (weight g.nodes) g g.nodes
+    ≡ weights_at (weight g.nodes) g.outputs + unread_weight (weight g.nodes) g g.nodes
 unfolding total_weight
 total_is g = refl
 

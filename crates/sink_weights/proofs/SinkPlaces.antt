@@ -21,7 +21,7 @@ use Rattle.sink_laws.specs.Sinking.{copied, outputs_of, flatten_number, rerouted
 use Rattle.sink_laws.proofs.Outs.{has_below}
 use Rattle.sink_laws.proofs.SinkFounded.{all_sunk, p_below}
 use Rattle.sink_laws.proofs.SinkMeaning.{there_below}
-use Rattle.sink_weights.specs.Weights.{added, node_weight, weight_at, weight, is_of}
+use Rattle.sink_weights.specs.Weights.{weights_at, node_weight, weight_at, weight, is_of}
 use Rattle.sink_weights.proofs.Roots.{IsRoot, root_over}
 use Rattle.sink_weights.proofs.SinkReads.{above_p, apart_above, forest_ok, kept_place, moved_place, number_at, other_at}
 use Rattle.sink_weights.proofs.Sums.{IsTidied}
@@ -45,10 +45,10 @@ module _ (g : Graph) (n p : ℕ) (f : Forest) (ins : List Place) (ok : IsGraphOk
   low : p < g.next
   low = p_below g n p f ins ok.founded.below can
 
-  weight_n : weight g.nodes n ≡ 1 + added (weight g.nodes) ins
+  weight_n : weight g.nodes n ≡ 1 + weights_at (weight g.nodes) ins
   weight_n = weight_fits g n (Flatten ins) ok.founded can.flatten
 
-  pub weight_p : weight g.nodes p ≡ 2 * (1 + added (weight g.nodes) ins)
+  pub weight_p : weight g.nodes p ≡ 2 * (1 + weights_at (weight g.nodes) ins)
   weight_p =
       let a : weight g.nodes p ≡ 2 * weight g.nodes n =
       weight_fits g p (Pdo (place n 0) f) ok.founded can.pdo in
@@ -196,13 +196,14 @@ module _ (g : Graph) (n p : ℕ) (f : Forest) (ins : List Place) (ok : IsGraphOk
   -- ---- the script outputs
 
   abbrev pub new_outputs : ℕ
-  new_outputs = added (weight t.nodes) t.outputs
+  new_outputs = weights_at (weight t.nodes) t.outputs
 
   abbrev pub old_outputs : ℕ
-  old_outputs = added (weight g.nodes) g.outputs
+  old_outputs = weights_at (weight g.nodes) g.outputs
 
   outputs_is : new_outputs ≡ sum_of (λ c. weight t.nodes (rr c).node) g.outputs
-  outputs_is = ap (added (weight t.nodes)) tidy.outputs ∙ added_map (weight t.nodes) rr g.outputs
+  outputs_is =
+      ap (weights_at (weight t.nodes)) tidy.outputs ∙ added_map (weight t.nodes) rr g.outputs
 
   pub outputs_le : new_outputs ≤ old_outputs
   outputs_le =

@@ -13,7 +13,7 @@ use Rattle.sink_laws.specs.of_exec_graph.declared.graph.Graph.{Graph}
 use Rattle.sink_laws.proofs.of_exec_graph.Bools.{or_cases}
 use Rattle.sink_laws.proofs.of_exec_graph.Solving.{lower_most, place_of, ranked_at, short_ranked}
 use Rattle.sink_laws.specs.of_graph_laws.Joining.{reread}
-use Rattle.sink_weights.specs.Weights.{added, node_weight, weight_at, weight_in, weight, is_of}
+use Rattle.sink_weights.specs.Weights.{weights_at, node_weight, weight_at, weight_in, weight, is_of}
 
 pub next_in : (es : List Entry) (k n : ℕ)
     → weight_in es (suc k) n ≡ weight_at (weight_in es k) (node_at es n)
@@ -35,7 +35,7 @@ weight_is es n = next_in es (length es) n
 -- ---- the weights meet their equations
 
 added_alike : (m k : ℕ → ℕ) (cs : List Place) → AllByRecursion (λ c. k c.node ≡ m c.node) cs
-    → added k cs ≡ added m cs
+    → weights_at k cs ≡ weights_at m cs
 added_alike m k [] a = refl
 added_alike m k (c ∷ cs) a =
     let i = added_alike m k cs a.1 in let j : k c.node ≡ m c.node = a.0 in cc
@@ -84,7 +84,7 @@ weight_fits g n x ok at =
 -- ---- lighter inputs
 
 pub added_below : (m k : ℕ → ℕ) → ((n : ℕ) → k n ≤ m n) → (cs : List Place)
-    → added k cs ≤ added m cs
+    → weights_at k cs ≤ weights_at m cs
 added_below m k h [] = omega arith
 added_below m k h (c ∷ cs) =
     let i = added_below m k h cs in let j : k c.node ≤ m c.node = h c.node in omega arith
@@ -160,11 +160,11 @@ sum_of K [] = 0
 sum_of K (c ∷ cs) = K c + sum_of K cs
 
 pub added_map : (k : ℕ → ℕ) (r : Place → Place) (cs : List Place)
-    → added k (map r cs) ≡ sum_of (λ c. k (r c).node) cs
+    → weights_at k (map r cs) ≡ sum_of (λ c. k (r c).node) cs
 added_map k r [] = refl
 added_map k r (c ∷ cs) = let i = added_map k r cs in cc
 
-pub added_self : (k : ℕ → ℕ) (cs : List Place) → added k cs ≡ sum_of (λ c. k c.node) cs
+pub added_self : (k : ℕ → ℕ) (cs : List Place) → weights_at k cs ≡ sum_of (λ c. k c.node) cs
 added_self k [] = refl
 added_self k (c ∷ cs) = let i = added_self k cs in cc
 
@@ -219,7 +219,7 @@ node_lt k m r q (Barrier ins o y d) a b h =
 -- ---- and where all others weigh no more
 
 pub added_less : (k m : ℕ → ℕ) (q : ℕ) (cs : List Place) → ((n : ℕ) → k n ≤ m n) → k q < m q
-    → is_of q cs ≡ true → added k cs < added m cs
+    → is_of q cs ≡ true → weights_at k cs < weights_at m cs
 added_less k m q [] f l h = absurd (false≢true h)
 added_less k m q (c ∷ cs) f l h =
     let j : k c.node ≤ m c.node = f c.node in

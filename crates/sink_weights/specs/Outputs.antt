@@ -12,9 +12,9 @@ use Rattle.sink_laws.specs.of_graph_laws.Joining.{set_node}
 use Rattle.sink_laws.specs.Sinking.{copies, copied}
 
 -- The numbers of a forest's outputs, in preorder: an output that nothing reads has none.
-abbrev pub numbers : Forest → List ℕ
-numbers Bare = []
-numbers (Grow l kids rest) = cons_option l.out (numbers kids ++ numbers rest)
+abbrev pub numbers_kept : Forest → List ℕ
+numbers_kept Bare = []
+numbers_kept (Grow l kids rest) = cons_option l.out (numbers_kept kids ++ numbers_kept rest)
 
 -- The numbers that pass a test.
 abbrev pub passing : (ℕ → Bool) → List ℕ → List ℕ
@@ -23,7 +23,7 @@ passing t (j ∷ js) = cond (t j) (j ∷ passing t js) (passing t js)
 
 -- The outputs of Pdo p with forest f that have a reader, in order.
 abbrev pub read_outputs : Graph → ℕ → Forest → List ℕ
-read_outputs g p f = passing (λ j. is_read g (place p j)) (numbers f)
+read_outputs g p f = passing (λ j. is_read g (place p j)) (numbers_kept f)
 
 -- So many numbers from n on.
 abbrev pub from : ℕ → ℕ → List ℕ

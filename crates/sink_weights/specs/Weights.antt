@@ -13,18 +13,18 @@ use Rattle.sink_laws.specs.of_exec_graph.declared.graph.Graph.{Graph}
 -- ---- nodes
 
 -- The weights of the nodes that give these collections, together.
-abbrev pub added : (ℕ → ℕ) → List Place → ℕ
-added m [] = 0
-added m (c ∷ cs) = m c.node + added m cs
+abbrev pub weights_at : (ℕ → ℕ) → List Place → ℕ
+weights_at m [] = 0
+weights_at m (c ∷ cs) = m c.node + weights_at m cs
 
 -- A source weighs 1, a Gbk what its input does, a Pdo twice what its input does, and a Flatten or a
 -- barrier one more than its inputs together.
 abbrev pub node_weight : (ℕ → ℕ) → Node → ℕ
 node_weight m (Source r) = 1
-node_weight m (Flatten ins) = 1 + added m ins
+node_weight m (Flatten ins) = 1 + weights_at m ins
 node_weight m (Pdo c f) = 2 * m c.node
 node_weight m (Gbk c o l k) = m c.node
-node_weight m (Barrier ins o l a) = 1 + added m ins
+node_weight m (Barrier ins o l a) = 1 + weights_at m ins
 
 abbrev pub weight_at : (ℕ → ℕ) → Option Node → ℕ
 weight_at m None = 0
@@ -58,4 +58,4 @@ unread_weight m g (e ∷ es) =
 -- The weights of the script outputs and of the nodes that nothing reads, together.
 unfoldable pub total_weight : Graph → ℕ
 total_weight g =
-    added (weight g.nodes) g.outputs + unread_weight (weight g.nodes) g g.nodes
+    weights_at (weight g.nodes) g.outputs + unread_weight (weight g.nodes) g g.nodes

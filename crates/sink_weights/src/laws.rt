@@ -12,16 +12,16 @@ ghost use Rattle.sink_laws.specs.of_graph_laws.Single.{HasSingleOutputs};
 ghost use Rattle.sink_laws.specs.Chain.{IsSunk};
 ghost use Rattle.sink_laws.specs.Merging.{CanMerge, merge_step};
 ghost use Rattle.sink_laws.specs.Sinking.{CanSink, outputs_of, sink_step, sunk_once};
-ghost use Rattle.sink_weights.specs.Outputs.{from, numbers, read_outputs, sunk_single};
+ghost use Rattle.sink_weights.specs.Outputs.{from, numbers_kept, read_outputs, sunk_single};
 ghost use Rattle.sink_weights.specs.Weights.{node_weight, total_weight, weight};
 
 /// The outputs of a Pdo that have a reader are all that are numbered, and they are numbered from 0
 /// on in their order. So a step makes a Flatten of each output that has a reader, in order.
 pub fn outputs_law()
     ensures numbered { (g : Graph) (p : ℕ) (c : Place) (f : Forest) → IsGraphOk g →
-        node_at g.nodes p ≡ Some (node.Pdo c f) → numbers f ≡ from 0 (outputs_of f) }
+        node_at g.nodes p ≡ Some (node.Pdo c f) → numbers_kept f ≡ from 0 (outputs_of f) }
     ensures read { (g : Graph) (p : ℕ) (c : Place) (f : Forest) → IsGraphOk g →
-        node_at g.nodes p ≡ Some (node.Pdo c f) → read_outputs g p f ≡ numbers f }
+        node_at g.nodes p ≡ Some (node.Pdo c f) → read_outputs g p f ≡ numbers_kept f }
 {}
 
 /// The step on a Pdo with one output makes it the Flatten of its copies, under its number, and

@@ -17,7 +17,7 @@ use Rattle.graph_laws.proofs.Kids.{IsKept, kid_sound, sibling_sound}
 use Rattle.graph_laws.proofs.Lifting.{KeepsMeaning-remarked, KeepsTypes-remarked}
 use Rattle.graph_laws.proofs.LiftChain.{IsSound-remarked}
 use Rattle.sink_laws.specs.Chain.{ins_of}
-use Rattle.graph_rewrites.specs.Replays.{Leads, group_of}
+use Rattle.graph_rewrites.specs.Replays.{Leads, rewrite_group}
 use Rattle.graph_rewrites.specs.Rewrites.{CanApply, CanBeKid, applied, forest_at, input_at, kid_under, kid_under_other, rewritten, swapped_at}
 use Rattle.graph_rewrites.specs.declared.rewrite.Rewrite.{Rewrite}
 use Rattle.graph_rewrites.specs.declared.rewrite.Rewrite.TheVariants.{Merge, Sink, Lift, Kid, Sibling, Mark}
@@ -118,5 +118,5 @@ pub leads_made : (group : ℕ) (rs : List Rewrite) (a b : Blocked) → IsGraphOk
 leads_made group [] a b ok l = ap (λ (x : Blocked). x.graph) l
 leads_made group (r ∷ rs) a b ok l = (
   can_make a r ok l.0.1,
-  leads_made (group_of r) rs (applied a r) b (apply_good a r ok l.0.1).ok l.1,
+  leads_made (rewrite_group r) rs (applied a r) b (apply_good a r ok l.0.1).ok l.1,
 )

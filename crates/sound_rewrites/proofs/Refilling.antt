@@ -23,7 +23,7 @@ use Rattle.exec_graph.proofs.Solving.{ranked_at}
 use Rattle.graph_laws.specs.Joining.{set_node, without}
 use Rattle.graph_laws.proofs.Changes.{all_set, sum_at, sum_set}
 use Rattle.graph_laws.proofs.Wellness.{differ_set, node_at-set_other}
-use Rattle.sink_laws.specs.Merging.{merge_step, merged, spliced}
+use Rattle.sink_laws.specs.Merging.{merge_step, merged_flattens, spliced}
 use Rattle.sink_laws.proofs.MergeMeaning.{all_spliced, merged_value, there_set}
 use Rattle.sink_laws.proofs.Steps.{lower}
 use Rattle.graph_rewrites.proofs.Keeping.{IsAs, as_then}
@@ -130,7 +130,7 @@ module _ (g : Graph) (f : ℕ) (ins : List Place) (e : ℕ) (es : List Place) (o
   there n cs at =
       all_found (λ e. Each (IsThere g.nodes) (reads e.node)) g.nodes n (Flatten cs) at ok.there
 
-  sound : IsSound (merged g f ins e es)
+  sound : IsSound (merged_flattens g f ins e es)
   sound =
       refilled_sound g f ins (spliced e es ins) ok can.outer
       (each_spliced (IsThere g.nodes) e es ins (there f ins can.outer)
@@ -139,13 +139,13 @@ module _ (g : Graph) (f : ℕ) (ins : List Place) (e : ℕ) (es : List Place) (o
       (λ _. Each-weaker (λ (c : Place). r c.node < r e) (λ (c : Place). r c.node < r f)
       (λ c l. let less : r e < r f = e_lower in omega arith) es es_lower))
 
-  keeps : KeepsMeaning g (merged g f ins e es)
+  keeps : KeepsMeaning g (merged_flattens g f ins e es)
   keeps =
       refilled_keeps g f ins (spliced e es ins) ok can.outer
       (λ w m h. merged_value m e es ins
       (all_found (λ e. Holds w m e.number e.node) g.nodes e (Flatten es) can.inner h))
 
-  types : KeepsTypes g (merged g f ins e es)
+  types : KeepsTypes g (merged_flattens g f ins e es)
   types =
       refilled_types g f ins (spliced e es ins) ok can.outer
       (λ s types h. each_spliced (λ c. types c ≡ types (place f 0)) e es ins
@@ -156,7 +156,7 @@ module _ (g : Graph) (f : ℕ) (ins : List Place) (e : ℕ) (es : List Place) (o
 
   pub merge_as : IsAs IsSound g (merge_step g f ins e es)
   merge_as =
-      as_then IsSound g (merged g f ins e es) (merge_step g f ins e es)
+      as_then IsSound g (merged_flattens g f ins e es) (merge_step g f ins e es)
       (record { ok = sound; keeps = keeps; types = types })
-      (tidied_as (merged g f ins e es) e es sound
+      (tidied_as (merged_flattens g f ins e es) e es sound
       (node_at-set_other g.nodes f e (Flatten (spliced e es ins)) (Flatten es) apart can.inner))

@@ -11,7 +11,7 @@ use Rattle.exec_graph.specs.declared.graph.Graph.{Graph}
 use Rattle.fusion_blocks.specs.Blocks.{CanMark}
 use Rattle.graph_laws.specs.Lifting.{CanLift}
 use Rattle.sink_laws.specs.Chain.{CanSinkPdo, ins_of}
-use Rattle.graph_rewrites.specs.Rewrites.{CanBeKid, CanBeSibling, forest_at, pair, rewritten}
+use Rattle.graph_rewrites.specs.Rewrites.{CanBeKid, CanBeSibling, forest_at, pair_of_nodes, rewritten}
 use Rattle.graph_rewrites.specs.declared.rewrite.Rewrite.{Rewrite}
 use Rattle.graph_rewrites.specs.declared.rewrite.Rewrite.TheVariants.{Merge, Sink, Lift, Kid, Sibling, Mark}
 
@@ -29,7 +29,7 @@ CanBeMerged g f e =
 -- its copies get new ones; and those of its outputs are all from 0 on in preorder, since there will
 -- be a Flatten for each of these.
 pub record CanBeSunk (g : Graph) (n p : ℕ) : Type 0 where
-  pub reads : CanSinkPdo g (pair n p)
+  pub reads : CanSinkPdo g (pair_of_nodes n p)
   pub ascends : Ascends g.nodes
   pub below : AllByRecursion (λ e. e.number < g.next) g.nodes
   pub order : numbered 0 (forest_at g p) ≡ forest_at g p

@@ -26,7 +26,7 @@ use Rattle.plan_phases.specs.declared.winners.PhaseWinners.{PhaseWinners}
 use Rattle.run_settings.specs.Settings.{RunSettings}
 use Rattle.stage_results.specs.of_stage_phases.Runs.{RunHasEnded}
 use Rattle.task_lists.proofs.Objects.{only_bag}
-use Rattle.task_lists.specs.Lists.{calm, object_made}
+use Rattle.task_lists.specs.Lists.{calm_list, object_made}
 use Rattle.task_lists.specs.Tasks.{Lists, Split}
 use Rattle.stage_exec.specs.inner.Objects.{IsActFault, MakingHasEnded, then_values}
 use Rattle.stage_exec.specs.inner.Stages.{IsStageGiven}
@@ -73,39 +73,40 @@ values_next values v None = refl
 values_next values v (Some vs) = ap Some (append_assoc values (v ∷ []) vs)
 
 module _ (t : Lists) where
-  value_there : (c : PlanPlace) (list : List Value) → list ≡ t c → value_in (calm t c) ≡ only list
+  value_there : (c : PlanPlace) (list : List Value) → list ≡ t c
+      → value_in (calm_list t c) ≡ only list
   value_there c list is = only_bag (t c) ∙ ap only (sym is)
 
   -- what is left of the values comes to the same, once the first is there
   values_more : (c : PlanPlace) (cs : List PlanPlace) (list values : List Value) (v : Value)
       → list ≡ t c → only list ≡ Some v
-      → then_values (values ++ v ∷ []) (values_in (map (calm t) cs))
-      ≡ then_values values (values_in (map (calm t) (c ∷ cs)))
+      → then_values (values ++ v ∷ []) (values_in (map (calm_list t) cs))
+      ≡ then_values values (values_in (map (calm_list t) (c ∷ cs)))
   values_more c cs list values v is one =
-      let first : value_in (calm t c) ≡ Some v = value_there c list is ∙ one in
-      values_next values v (values_in (map (calm t) cs))
-      ∙ ap (λ o. then_values values (with_first o (values_in (map (calm t) cs)))) (sym first)
+      let first : value_in (calm_list t c) ≡ Some v = value_there c list is ∙ one in
+      values_next values v (values_in (map (calm_list t) cs))
+      ∙ ap (λ o. then_values values (with_first o (values_in (map (calm_list t) cs)))) (sym first)
 
   -- and where the first has none, there are none
   values_stop : (c : PlanPlace) (cs : List PlanPlace) (list values : List Value)
       → list ≡ t c → only list ≡ None
-      → then_values values (values_in (map (calm t) (c ∷ cs))) ≡ None
+      → then_values values (values_in (map (calm_list t) (c ∷ cs))) ≡ None
   values_stop c cs list values is none =
-      let first : value_in (calm t c) ≡ None = value_there c list is ∙ none in
-      ap (λ o. then_values values (with_first o (values_in (map (calm t) cs)))) first
+      let first : value_in (calm_list t c) ≡ None = value_there c list is ∙ none in
+      ap (λ o. then_values values (with_first o (values_in (map (calm_list t) cs)))) first
 
   module _ (places : List PlanPlace) (i : ℕ) (values : List Value) (whole : Option (List Value))
-      (so_far : then_values values (values_in (map (calm t) (drop i places))) ≡ whole) where
+      (so_far : then_values values (values_in (map (calm_list t) (drop i places))) ≡ whole) where
     -- once the value of the next is there
     pub values_step : (other : PlanPlace) (list next : List Value) (v : Value) → i < length places
         → list ≡ t (get_or places i other) → only list ≡ Some v → next ≡ values ++ v ∷ []
-        → then_values next (values_in (map (calm t) (drop (i + 1) places))) ≡ whole
+        → then_values next (values_in (map (calm_list t) (drop (i + 1) places))) ≡ whole
     values_step other list next v below here one push =
         let c = get_or places i other in
         let left : drop i places ≡ c ∷ drop (suc i) places = drop-cons places i other below in
-        (λ j. then_values (push j) (values_in (map (calm t) (drop (add-one i j) places))))
+        (λ j. then_values (push j) (values_in (map (calm_list t) (drop (add-one i j) places))))
         ∙ (values_more c (drop (suc i) places) list values v here one
-        ∙ (ap (λ ps. then_values values (values_in (map (calm t) ps))) (sym left) ∙ so_far))
+        ∙ (ap (λ ps. then_values values (values_in (map (calm_list t) ps))) (sym left) ∙ so_far))
 
     -- where the next has none
     pub values_stopped : (other : PlanPlace) (list : List Value) → i < length places
@@ -114,23 +115,23 @@ module _ (t : Lists) where
         let c = get_or places i other in
         let left : drop i places ≡ c ∷ drop (suc i) places = drop-cons places i other below in
         sym (values_stop c (drop (suc i) places) list values here none)
-        ∙ (ap (λ ps. then_values values (values_in (map (calm t) ps))) (sym left) ∙ so_far)
+        ∙ (ap (λ ps. then_values values (values_in (map (calm_list t) ps))) (sym left) ∙ so_far)
 
     -- behind all of them
     pub values_end : length places ≤ i → Some values ≡ whole
     values_end end =
         ap Some (sym (append-nil values))
-        ∙ (ap (λ ps. then_values values (values_in (map (calm t) ps)))
+        ∙ (ap (λ ps. then_values values (values_in (map (calm_list t) ps)))
         (sym (all_dropped places i end)) ∙ so_far)
 
   -- ---- nothing, where no trap is behind
 
   calm_traps : (cs : List PlanPlace)
-      → flat_map (λ (c : Collection). c.traps) (map (calm t) cs) ≡ []
+      → flat_map (λ (c : Collection). c.traps) (map (calm_list t) cs) ≡ []
   calm_traps [] = refl
   calm_traps (c ∷ cs) = calm_traps cs
 
-  pub none_calm : (cs : List PlanPlace) → none_of (map (calm t) cs) ≡ untrapped []
+  pub none_calm : (cs : List PlanPlace) → none_of (map (calm_list t) cs) ≡ untrapped []
   none_calm cs = λ i. record { bag = []; traps = trap_set (calm_traps cs i) }
 
   -- a singleton of no collection or of several

@@ -23,7 +23,7 @@ use Rattle.run_settings.specs.Settings.{RunSettings}
 use Rattle.stage_results.specs.of_step_counts.Sizes.{HaveGrown}
 use Rattle.task_lists.proofs.TypedResults.{begin_typed}
 use Rattle.task_lists.specs.Lists.{lists, source_lists}
-use Rattle.task_lists.specs.Plans.{first_trap, size_of}
+use Rattle.task_lists.specs.Plans.{first_trap, counted_size}
 use Rattle.task_lists.specs.Runs.{kept_count}
 use Rattle.task_lists.specs.Tasks.{Lists}
 use Rattle.stage_exec.proofs.Running.{all_dropped}
@@ -126,13 +126,13 @@ module _ (s : RunSettings) (w : World) (p : Plan) where
   bags_are t places same bags = ap (map bag_of) same ∙ bags_same bags places
 
   pub counts_are : (nodes : ℕ) (sizes : List ℕ)
-      → HaveGrown (size_of w (split_of s) p) (zeros nodes) sizes
-      → ((i : ℕ) → size_of w (split_of s) p i ≡ length (emitted_by w p i))
+      → HaveGrown (counted_size w (split_of s) p) (zeros nodes) sizes
+      → ((i : ℕ) → counted_size w (split_of s) p i ≡ length (emitted_by w p i))
       → (i : ℕ) → i < nodes → slice_get sizes i ≡ Some (kept_count (length (emitted_by w p i)))
   counts_are nodes sizes grown whole i below =
       let many = zeros_many nodes in
       let count = grown.count in
       at_index sizes i (omega arith)
       ∙ ap Some (grown.sizes i (omega arith)
-      ∙ ap kept_count (from_none (slice_index (zeros nodes) i) (size_of w (split_of s) p i)
+      ∙ ap kept_count (from_none (slice_index (zeros nodes) i) (counted_size w (split_of s) p i)
       (zeros_at nodes i below) ∙ whole i))

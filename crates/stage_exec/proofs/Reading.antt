@@ -7,12 +7,12 @@ use Rattle.flume_value.specs.Bag.{bag_of}
 use Rattle.flume_collection.specs.Calls.{or_none}
 use Rattle.bag_groups.specs.Groups.{grouped}
 use Rattle.outside.specs.declared.host.Phase.TheVariants.{Map, Reduce}
-use Rattle.shards.specs.Shards.{joined, shard}
-use Rattle.shuffle_parts.specs.Partitions.{part_of}
+use Rattle.shards.specs.Shards.{concatenated, shard}
+use Rattle.shuffle_parts.specs.Partitions.{pairs_in_part}
 use Rattle.exec_graph.specs.Objects.{act_result, only}
 use Rattle.exec_graph.specs.World.{World}
 use Rattle.exec_graph.specs.declared.graph.Act.{Act}
-use Rattle.exec_plan.specs.Channels.{numbers}
+use Rattle.exec_plan.specs.Channels.{output_numbers_of}
 use Rattle.exec_plan.specs.Meaning.{in_reads, stage_reads, object_places}
 use Rattle.exec_plan.specs.declared.plan.PlanPlace.{PlanPlace}
 use Rattle.exec_plan.specs.declared.plan.PlanPlace.TheVariants as at
@@ -24,7 +24,7 @@ use Rattle.exec_plan.specs.declared.plan.OutChannel.TheVariants.{Group, Pass}
 use Rattle.exec_plan.specs.declared.plan.Stage.{Stage}
 use Rattle.exec_plan.specs.declared.plan.Stage.TheVariants.{Mscr, Flatten, Operate}
 use Rattle.plan_phases.specs.Phases.{OfAct, OfTasks, phases_from, reduce_phases, stage_phases, tasks_below}
-use Rattle.task_lists.specs.Lists.{calm, given_lists, object_made, result_lists, run_lists, with_lists}
+use Rattle.task_lists.specs.Lists.{calm_list, given_lists, object_made, result_lists, run_lists, with_lists}
 use Rattle.task_lists.specs.Plans.{SaysOfTasks, stage_tasks, tasks_from}
 use Rattle.task_lists.specs.Tasks.{Lists, Split, Task, elements_beside, gathered, given_to, grouping_at, groupings, if_valued, map_count, map_task, map_task_of, no_task, reduce_count, reduce_task, task_gives, value_beside}
 use Rattle.stage_exec.specs.inner.Reads.{AgreeOn, later_reads}
@@ -92,13 +92,14 @@ module _ (w : World) (n : Split) (t u : Lists) where
   gathered_same : (ins : List InChannel) → AgreeOn (flat_map in_reads ins) t u
       → gathered w n t ins ≡ gathered w n u ins
   gathered_same ins agree = λ j takes.
-      joined (λ m. joined (λ i. given_to w (tasks_same ins agree j m i) m takes) n.shards)
+      concatenated (λ m. concatenated (λ i. given_to w (tasks_same ins agree j m i) m takes)
+      n.shards)
       (length ins)
 
   reduce_same : (ins : List InChannel) → AgreeOn (flat_map in_reads ins) t u
       → reduce_task w n t ins ≡ reduce_task w n u ins
   reduce_same ins agree = λ j g p. record {
-    elements = part_of n.partitions p (grouped (gathered_same ins agree j g.takes));
+    elements = pairs_in_part n.partitions p (grouped (gathered_same ins agree j g.takes));
     beside = None;
     does = g.does;
   }
@@ -106,7 +107,7 @@ module _ (w : World) (n : Split) (t u : Lists) where
   -- ---- the object of an act
 
   calm_same : (places : List PlanPlace) → AgreeOn places t u
-      → map (calm t) places ≡ map (calm u) places
+      → map (calm_list t) places ≡ map (calm_list u) places
   calm_same [] agree = refl
   calm_same (p ∷ places) agree = λ j.
       record { bag = bag_of (ap head_or agree j); traps = [] }
@@ -120,11 +121,11 @@ module _ (w : World) (n : Split) (t u : Lists) where
 
   map_phase_same : {Y : Type 0} (f : Task → List Y) (ins : List InChannel)
       → AgreeOn (flat_map in_reads ins) t u
-      → flat_map (λ c. joined (λ i. f (map_task n t c i)) n.shards) ins
-      ≡ flat_map (λ c. joined (λ i. f (map_task n u c i)) n.shards) ins
+      → flat_map (λ c. concatenated (λ i. f (map_task n t c i)) n.shards) ins
+      ≡ flat_map (λ c. concatenated (λ i. f (map_task n u c i)) n.shards) ins
   map_phase_same f [] agree = refl
   map_phase_same f (c ∷ ins) agree = λ j.
-      joined (λ i. f
+      concatenated (λ i. f
       (shard_same c (agree_front t u (in_reads c) (flat_map in_reads ins) agree) i j)) n.shards
       ++ map_phase_same f ins (agree_back t u (in_reads c) (flat_map in_reads ins) agree) j
 
@@ -132,7 +133,8 @@ module _ (w : World) (n : Split) (t u : Lists) where
       → stage_tasks q w n t s ≡ stage_tasks q w n u s
   stage_tasks_same q (Mscr s) agree = λ j.
       map_phase_same q.maps s.inputs agree j
-      ++ flat_map (λ g. joined (λ p. q.reduces g (reduce_same s.inputs agree j g p)) n.partitions)
+      ++ flat_map (λ g. concatenated (λ p. q.reduces g (reduce_same s.inputs agree j g p))
+      n.partitions)
       (groupings s.outputs)
   stage_tasks_same q (Flatten takes) agree = refl
   stage_tasks_same q (Operate takes o l a) agree = λ j.
@@ -166,8 +168,8 @@ module _ (w : World) (n : Split) (t u : Lists) where
   given_same : (ins : List InChannel) → AgreeOn (flat_map in_reads ins) t u → (c : OutChannel)
       → given_lists w n t ins c ≡ given_lists w n u ins c
   given_same ins agree (Group g) = λ j.
-      map (λ o. joined (λ p. task_gives w (reduce_same ins agree j g p) o) n.partitions)
-      (numbers g.does)
+      map (λ o. concatenated (λ p. task_gives w (reduce_same ins agree j g p) o) n.partitions)
+      (output_numbers_of g.does)
   given_same ins agree (Pass k number) = λ j. gathered_same ins agree j (k ∷ []) ∷ []
 
   flat_same : (places : List PlanPlace) → AgreeOn places t u

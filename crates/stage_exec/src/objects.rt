@@ -8,7 +8,7 @@ ghost use Rattle.stage_results.specs.of_map_shard.Tables.{table};
 ghost use Rattle.operate_step.specs.Results.{object_of};
 ghost use Rattle.stage_exec.specs.inner.Objects.{MakingHasEnded, made_object};
 ghost use Rattle.stage_results.specs.of_stage_phases.Runs.{InEachWorld, InSomeWorld};
-ghost use Rattle.task_lists.specs.Lists.{calm, object_made};
+ghost use Rattle.task_lists.specs.Lists.{calm_list, object_made};
 ghost use Rattle.stage_results.specs.of_task_safety.Stages.{CanRunStage};
 
 use combine_table::Comb;
@@ -158,7 +158,7 @@ fn values_of(
     takes: &Pile<PlanPlace>,
 ) -> Result<Option<Items>, AllocError>
     ensures { IfOk result (λ values.
-        values ≡ values_in (map (calm (table sources.now results.now)) takes.now)) }
+        values ≡ values_in (map (calm_list (table sources.now results.now)) takes.now)) }
 {
     let mut values = Pile::new(alloc);
     for place in takes.as_slice() {

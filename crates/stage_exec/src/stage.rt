@@ -4,7 +4,7 @@ ghost use Rattle.std.specs.List.{AllZip, flat_map};
 ghost use Rattle.crew.specs.Hosts.{Grew};
 ghost use Rattle.exec_graph.specs.World.{World};
 ghost use Rattle.exec_plan.specs.declared.plan.Stage.TheVariants as stages;
-ghost use Rattle.stage_results.specs.of_map_shard.Tables.{split, table};
+ghost use Rattle.stage_results.specs.of_map_shard.Tables.{split_into, table};
 ghost use Rattle.plan_phases.specs.Phases.{stage_phases};
 ghost use Rattle.stage_exec.specs.inner.Objects.{GivesObject};
 ghost use Rattle.stage_exec.specs.inner.Reads.{KeepsLater};
@@ -112,9 +112,9 @@ fn mscr_lists(
 ) -> Result<Pile<Items>, AllocError>
     requires cut { (0 < shards) × (0 < partitions) }
     requires count { length outs.maps.items ≡ length stage.now.inputs * shards }
-    ensures { (w : World) (t : Lists) → AreStageOuts w (split shards partitions) t stage.now
+    ensures { (w : World) (t : Lists) → AreStageOuts w (split_into shards partitions) t stage.now
         outs.maps.items outs.reduces.items → IfOk result (IsStageGiven w
-        (split shards partitions) t (stages.Mscr stage.now) sizes.old sizes.new) }
+        (split_into shards partitions) t (stages.Mscr stage.now) sizes.old sizes.new) }
 {
     let StageOuts { maps, reduces } = outs;
     add_map_counts(alloc, stage, shards, &maps, sizes)?;

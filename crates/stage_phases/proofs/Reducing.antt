@@ -22,10 +22,10 @@ use Rattle.exec_plan.specs.declared.plan.OutChannel.TheVariants.{Group, Pass}
 use Rattle.exec_plan.specs.declared.plan.Stage.{Stage}
 use Rattle.exec_plan.specs.Wellformed.{IsMscrOk}
 use Rattle.task_lists.specs.Outs.{AreMapOuts, IsCalm, IsFirstTaskTrap}
-use Rattle.task_lists.specs.Tasks.{Lists, Split, Task, groupings, no_task, places, reduce_count, reduce_task, reduce_task_at}
+use Rattle.task_lists.specs.Tasks.{Lists, Split, Task, groupings, no_task, asks_of, reduce_count, reduce_task, reduce_task_at}
 use Rattle.reduce_part.specs.declared.out.ReduceOut.{ReduceOut}
 use Rattle.reduce_part.specs.Reducing.{AreGroupsFirst, IsGathered, IsReducingValue, IsReduceValue, Reducing, group_count, group_task, reducing_count, reducing_places}
-use Rattle.map_shard.specs.Tables.{split}
+use Rattle.map_shard.specs.Tables.{split_into}
 use Rattle.plan_phases.specs.Phases.{OfTasks, reduce_phase_of, reduce_phases, tasks_below}
 use Rattle.stage_phases.specs.Outs.{AreReduceOuts, IsOutOf}
 use Rattle.stage_phases.specs.Stages.{CanReduceStage}
@@ -76,10 +76,10 @@ count_within r made is some few groups channels =
 
 module _ {F : Type 0} (r : Reducing F) (w : World) (called : ℕ → Value → Called)
     (same : w.called ≡ called) (shards : ℕ) (t : Lists) (takes : ℕ → Value → Type 0) (number : ℕ)
-    (ready : CanReduceStage called takes (split shards r.partitions) number r.stage r.outs)
+    (ready : CanReduceStage called takes (split_into shards r.partitions) number r.stage r.outs)
     (law : (sources : ℕ) (before : List Stage) (s : Channels) → IsMscrOk sources before s
     → AreGroupsFirst s.outputs)
-    (made : AreMapOuts w (split shards r.partitions) t r.stage r.outs) where
+    (made : AreMapOuts w (split_into shards r.partitions) t r.stage r.outs) where
   first : AreGroupsFirst r.stage.outputs
   first = law ready.ready.sources ready.ready.before r.stage ready.ready.ok
 
@@ -90,7 +90,7 @@ module _ {F : Type 0} (r : Reducing F) (w : World) (called : ℕ → Value → C
   some_partitions = ready.cut.1
 
   abbrev n : Split
-  n = split shards r.partitions
+  n = split_into shards r.partitions
 
   -- the pairs of a partition
   abbrev pairs_of_part : ℕ → Grouping → ℕ → List Value
@@ -175,7 +175,7 @@ module _ {F : Type 0} (r : Reducing F) (w : World) (called : ℕ → Value → C
         ∙ ap (λ o. unwrap_or o 0)
         (counted h.channel.lifted i p (pairs_of_part i h.channel p)
         (gathered_of i h.channel p h.within h.place))
-        ∙ ap places
+        ∙ ap asks_of
         (same_task i h.channel p ∙ sym h.is ∙ at_below task_of (reducing_count r) j task at);
   }
 

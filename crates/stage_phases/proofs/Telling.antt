@@ -13,7 +13,7 @@ use Rattle.phase_outs.specs.declared.stop.PhaseStop.TheVariants as stop
 use Rattle.phase_outs.specs.Outs.{HaveMadeOuts, AreMadeBelow, HasComeTo, HasRun, IsStop}
 use Rattle.phase_outs.proofs.Placing.{some_at}
 use Rattle.task_lists.specs.Outs.{IsCalm}
-use Rattle.task_lists.specs.Tasks.{Task, places}
+use Rattle.task_lists.specs.Tasks.{Task, asks_of}
 use Rattle.plan_phases.specs.declared.winners.PhaseWinners.{PhaseWinners}
 use Rattle.plan_phases.specs.Phases.{OfTasks, PhaseTasks}
 use Rattle.plan_phases.specs.Told.{AreAsked, AskedAtMost, AskedFront, HaveRun, IsReached, IsStopped, RanThrough, attempts_of, first_tasks, settings_of}
@@ -51,9 +51,9 @@ module _ (w : World) (ph : PhaseTasks) (s : Settings) (tasks : ℕ) {O : Type 0}
 
   run_of : (k attempt : ℕ) (task : Task) → slice_get ph.tasks k ≡ Some task
       → HasRun s us vs k (asked k) attempt
-      → HasRun (settings_of s.tries s.drill ph) us vs k (places task) attempt
+      → HasRun (settings_of s.tries s.drill ph) us vs k (asks_of task) attempt
   run_of k attempt task at ran =
-      subst (λ x. HasRun x us vs k (places task) attempt) settings_are
+      subst (λ x. HasRun x us vs k (asks_of task) attempt) settings_are
       (subst (λ n. HasRun s us vs k n attempt) (p.asks k task at) ran)
 
   asked_in : (won : List ℕ) → AreAskedOnce tasks s asked us vs
@@ -188,7 +188,7 @@ module _ (w : World) (ph : PhaseTasks) (s : Settings) (tasks : ℕ) {O : Type 0}
         at = here.1;
         is = p.trapped task here.0 trap here.1 h.2.value;
         ran = subst
-            (λ (l : List ℕ). HasRun (settings_of s.tries s.drill ph) us vs task (places here.0)
+            (λ (l : List ℕ). HasRun (settings_of s.tries s.drill ph) us vs task (asks_of here.0)
             (slice_index l task))
             (sym r.1) (run_of task (slice_index h.0 task) here.0 here.1 h.2.ran);
       })

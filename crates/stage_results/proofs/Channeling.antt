@@ -3,9 +3,9 @@ use Rattle.std.proofs.Common.{◌≡◌, ℕ, zero, suc, ◌+◌, ◌<◌, List,
 use Rattle.std.specs.Option.{IsSomeAnd}
 use Rattle.std.proofs.lemmas.Option.{none-some, same_Some, slice_get_within}
 use Rattle.flume_value.specs.declared.value.Value.{Value}
-use Rattle.shards.specs.Shards.{joined}
+use Rattle.shards.specs.Shards.{concatenated}
 use Rattle.exec_graph.specs.World.{World}
-use Rattle.exec_plan.specs.Channels.{numbers}
+use Rattle.exec_plan.specs.Channels.{output_numbers_of}
 use Rattle.exec_plan.specs.declared.plan.Grouping.{Grouping}
 use Rattle.exec_plan.specs.declared.plan.InChannel.{InChannel}
 use Rattle.phase_outs.proofs.Placing.{some_at}
@@ -13,7 +13,7 @@ use Rattle.stage_phases.specs.of_reduce_part.declared.out.ReduceOut.{ReduceOut}
 use Rattle.stage_phases.specs.Outs.{IsOutOf}
 use Rattle.step_counts.specs.Sizes.{HaveGrown}
 use Rattle.step_counts.proofs.Growing.{grown_as, grown_then}
-use Rattle.task_lists.specs.Lists.{reduced}
+use Rattle.task_lists.specs.Lists.{reduced_lists}
 use Rattle.task_lists.specs.Plans.{groups_count, steps_count, task_counts}
 use Rattle.task_lists.specs.Tasks.{Lists, Split, Task, reduce_task, task_gives}
 use Rattle.stage_results.specs.inner.Channels.{AreOutsOf, all_joined, each_joined}
@@ -55,7 +55,7 @@ zipped f g (n ∷ ns) = ap (λ l. (f n ++ g n) ∷ l) (zipped f g ns)
 
 module _ (nums : List ℕ) (give : ℕ → ℕ → List Value) where
   abbrev of_first : ℕ → List (List Value)
-  of_first k = map (λ j. joined (λ q. give q j) k) nums
+  of_first k = map (λ j. concatenated (λ q. give q j) k) nums
 
   joined_on : (k : ℕ) (outs : List ReduceOut) (lists : List (List Value)) → lists ≡ of_first k
       → ((q : ℕ) (o : ReduceOut) → slice_get outs q ≡ Some o → o.outputs ≡ map (give (k + q)) nums)
@@ -68,7 +68,7 @@ module _ (nums : List ℕ) (give : ℕ → ℕ → List Value) where
       f 0 o refl ∙ ap (λ n. map (give n) nums) here in
       let more : each_joined lists o.outputs ≡ of_first (suc k) =
       (λ i. each_joined (e i) (outputs i))
-      ∙ zipped (λ j. joined (λ q. give q j) k) (give k) nums in
+      ∙ zipped (λ j. concatenated (λ q. give q j) k) (give k) nums in
       let long : suc k + length os ≡ k + suc (length os) = omega arith in
       joined_on (suc k) os (each_joined lists o.outputs) more
       (λ q x at. f (suc q) x at
@@ -96,18 +96,18 @@ module _ (w : World) (n : Split) (t : Lists) (ins : List InChannel) (g : Groupin
       subst (λ o. IsSomeAnd o (IsOutOf w (reduce_task w n t ins g p))) at (are.each p below)
 
   pub channel_joined : 0 < n.partitions
-      → all_joined [] here ≡ map (reduced w n t ins g) (numbers g.does)
+      → all_joined [] here ≡ map (reduced_lists w n t ins g) (output_numbers_of g.does)
   channel_joined some =
       let count = are.count in
       let give : ℕ → ℕ → List Value = λ p j. task_gives w (reduce_task w n t ins g p) j in
-      joined_all (numbers g.does) give here (omega arith)
+      joined_all (output_numbers_of g.does) give here (omega arith)
       (λ q o at.
       let within = slice_get_within here q o at in
       (out_is q o (omega arith) at).outputs)
-      ∙ ap (λ k. map (λ j. joined (λ p. give p j) k) (numbers g.does)) are.count
+      ∙ ap (λ k. map (λ j. concatenated (λ p. give p j) k) (output_numbers_of g.does)) are.count
 
   abbrev pub counted : ℕ → ℕ → ℕ
-  counted i k = sum (joined (λ p. (task_counts w i).reduces g (reduce_task w n t ins g p)) k)
+  counted i k = sum (concatenated (λ p. (task_counts w i).reduces g (reduce_task w n t ins g p)) k)
 
   pub counted_more : (p : ℕ) (out : ReduceOut) (olds now next : List ℕ) → p < n.partitions
       → slice_get here p ≡ Some out

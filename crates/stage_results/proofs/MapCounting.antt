@@ -5,12 +5,12 @@ use Rattle.std.proofs.Math.Nat.{div-lt_iff_lt-mul}
 use Rattle.std.proofs.lemmas.List.{get_or-map}
 use Rattle.std.proofs.lemmas.List.Sums.{sum_by_push}
 use Rattle.std.proofs.lemmas.Option.{slice_get_read, get_or_from_slice_get}
-use Rattle.shards.specs.Shards.{joined}
+use Rattle.shards.specs.Shards.{concatenated}
 use Rattle.shuffle_parts.specs.declared.out.MapOut.{MapOut}
 use Rattle.exec_graph.specs.World.{World}
 use Rattle.exec_plan.specs.declared.plan.InChannel.{InChannel}
 use Rattle.exec_plan.specs.declared.plan.Mscr.{Mscr}
-use Rattle.stage_phases.specs.of_map_shard.Tables.{split}
+use Rattle.stage_phases.specs.of_map_shard.Tables.{split_into}
 use Rattle.phase_outs.proofs.Placing.{some_at}
 use Rattle.step_counts.specs.Owners.{owners_of}
 use Rattle.step_counts.specs.Sizes.{HaveGrown}
@@ -21,19 +21,19 @@ use Rattle.task_lists.specs.Tasks.{Lists, Split, Task, map_count, map_task, map_
 
 -- a sum with one number more
 pub sum_more : (f : ℕ → ℕ) (k : ℕ)
-    → sum (joined (λ j. f j ∷ []) k) + f k ≡ sum (joined (λ j. f j ∷ []) (k + 1))
+    → sum (concatenated (λ j. f j ∷ []) k) + f k ≡ sum (concatenated (λ j. f j ∷ []) (k + 1))
 sum_more f k =
-    sym (sum_by_push (λ x. x) (joined (λ j. f j ∷ []) k) (f k))
-    ∙ ap (λ n. sum (joined (λ j. f j ∷ []) n)) (sym (add-one k))
+    sym (sum_by_push (λ x. x) (concatenated (λ j. f j ∷ []) k) (f k))
+    ∙ ap (λ n. sum (concatenated (λ j. f j ∷ []) n)) (sym (add-one k))
 
 module _ (s : Mscr) (outs : List MapOut) (shards : ℕ) (some : 0 < shards)
     (count : length outs ≡ length s.inputs * shards) (w : World) (partitions : ℕ) (t : Lists)
-    (made : AreMapOuts w (split shards partitions) t s outs) where
+    (made : AreMapOuts w (split_into shards partitions) t s outs) where
   abbrev n : Split
-  n = split shards partitions
+  n = split_into shards partitions
 
   abbrev pub counted : ℕ → ℕ → ℕ
-  counted i k = sum (joined (λ j. steps_count w i (map_task_at n t s j) ∷ []) k)
+  counted i k = sum (concatenated (λ j. steps_count w i (map_task_at n t s j) ∷ []) k)
 
   owners_are : (k : ℕ) (owners : List (Option ℕ)) → k < length outs
       → owners ≡ get_or (map (λ (c : InChannel). owners_of c.does) s.inputs) (k / shards) owners

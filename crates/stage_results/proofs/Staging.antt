@@ -7,7 +7,7 @@ use Rattle.std.proofs.Math.Nat.{add-div_right, add-mod_right, div-eq_of_lt, mod-
 use Rattle.std.proofs.lemmas.List.{length-take}
 use Rattle.std.proofs.lemmas.List.Sums.{sum_by-append}
 use Rattle.flume_value.specs.declared.value.Value.{Value}
-use Rattle.shards.specs.Shards.{joined}
+use Rattle.shards.specs.Shards.{concatenated}
 use Rattle.exec_graph.specs.World.{World}
 use Rattle.exec_plan.specs.declared.plan.Grouping.{Grouping}
 use Rattle.exec_plan.specs.declared.plan.InChannel.{InChannel}
@@ -119,7 +119,7 @@ module _ (w : World) (n : Split) (t : Lists) (ins : List InChannel) (some : 0 < 
 
 counts_are : (w : World) (i : ℕ) (n : Split) (t : Lists) (ins : List InChannel)
     (cs : List OutChannel) → flat_map (channel_counts w i n t ins) cs
-    ≡ flat_map (λ g. joined (λ p. (task_counts w i).reduces g (reduce_task w n t ins g p))
+    ≡ flat_map (λ g. concatenated (λ p. (task_counts w i).reduces g (reduce_task w n t ins g p))
     n.partitions) (groupings cs)
 counts_are w i n t ins [] = refl
 counts_are w i n t ins (Group g ∷ cs) =

@@ -2,13 +2,13 @@
 ghost use Rattle.std.specs.Prelude.{◌≡◌, ◌<◌, ◌∷◌, ◌++◌, ◌+◌, ℕ, List, length, map, sum, IfOk, OnOk};
 ghost use Rattle.std.specs.Vec.Iter.{into_iter_items};
 ghost use Rattle.exec_graph.specs.World.{World};
-ghost use Rattle.exec_plan.specs.Channels.{numbers};
+ghost use Rattle.exec_plan.specs.Channels.{output_numbers_of};
 ghost use Rattle.exec_plan.specs.declared.plan.InChannel.{InChannel};
 ghost use Rattle.exec_plan.specs.declared.plan.OutChannel.TheVariants as channels;
-ghost use Rattle.stage_phases.specs.of_map_shard.Tables.{split};
+ghost use Rattle.stage_phases.specs.of_map_shard.Tables.{split_into};
 ghost use Rattle.stage_phases.specs.of_reduce_part.declared.out.ReduceOut.{ReduceOut as Out};
 ghost use Rattle.step_counts.specs.Sizes.{HaveGrown};
-ghost use Rattle.task_lists.specs.Lists.{reduced};
+ghost use Rattle.task_lists.specs.Lists.{reduced_lists};
 ghost use Rattle.step_counts.specs.Owners.{owners_of};
 ghost use Rattle.stage_phases.specs.Outs.{IsOutOf};
 ghost use Rattle.task_lists.specs.Plans.{groups_count, steps_count};
@@ -39,13 +39,13 @@ pub(crate) fn channel_lists(
         into_iter_items outs.old ≡ here ++ behind →
         OnOk result (into_iter_items outs.new ≡ behind) }
     ensures lists { (w : World) (shards : ℕ) (t : Lists) (ins : List InChannel) → StartsWith
-        (AreOutsOf w (split shards partitions) t ins grouping.now) (into_iter_items outs.old) →
+        (AreOutsOf w (split_into shards partitions) t ins grouping.now) (into_iter_items outs.old) →
         IfOk result (λ lists. lists.items
-        ≡ map (reduced w (split shards partitions) t ins grouping.now)
-        (numbers grouping.now.does)) }
+        ≡ map (reduced_lists w (split_into shards partitions) t ins grouping.now)
+        (output_numbers_of grouping.now.does)) }
     ensures grown { (w : World) (shards : ℕ) (t : Lists) (ins : List InChannel) → StartsWith
-        (AreOutsOf w (split shards partitions) t ins grouping.now) (into_iter_items outs.old) →
-        OnOk result (HaveGrown (λ i. sum (channel_counts w i (split shards partitions) t ins
+        (AreOutsOf w (split_into shards partitions) t ins grouping.now) (into_iter_items outs.old) →
+        OnOk result (HaveGrown (λ i. sum (channel_counts w i (split_into shards partitions) t ins
         (channels.Group grouping.now))) sizes.old sizes.new) }
 {
     let owners = Owners::new(alloc, &grouping.does)?;

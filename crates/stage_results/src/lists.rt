@@ -5,7 +5,7 @@ ghost use Rattle.exec_graph.specs.of_flume_collection.Calls.{or_none};
 ghost use Rattle.exec_graph.specs.World.{World};
 ghost use Rattle.exec_plan.specs.declared.plan.InChannel.{InChannel};
 ghost use Rattle.exec_plan.specs.declared.plan.Stage.TheVariants as stages;
-ghost use Rattle.stage_phases.specs.of_map_shard.Tables.{split};
+ghost use Rattle.stage_phases.specs.of_map_shard.Tables.{split_into};
 ghost use Rattle.stage_phases.specs.of_reduce_part.declared.out.ReduceOut.{ReduceOut as Out};
 ghost use Rattle.stage_phases.specs.Outs.{AreStageOuts};
 ghost use Rattle.step_counts.specs.Sizes.{HaveGrown};
@@ -38,13 +38,13 @@ pub fn stage_lists(
 ) -> Result<Vec<Items>, AllocError>
     requires some { 0 < partitions }
     ensures lists { (w : World) (shards : ℕ) (t : Lists) → 0 < shards →
-        AreStageOuts w (split shards partitions) t stage.now maps.items reduces.items →
+        AreStageOuts w (split_into shards partitions) t stage.now maps.items reduces.items →
         IfOk result (λ lists.
-        lists.items ≡ result_lists w (split shards partitions) t (stages.Mscr stage.now)) }
+        lists.items ≡ result_lists w (split_into shards partitions) t (stages.Mscr stage.now)) }
     ensures grown { (w : World) (shards : ℕ) (t : Lists) → 0 < shards →
-        AreStageOuts w (split shards partitions) t stage.now maps.items reduces.items →
+        AreStageOuts w (split_into shards partitions) t stage.now maps.items reduces.items →
         OnOk result (HaveGrown (λ i.
-        sum (reduce_phase (task_counts w i).reduces w (split shards partitions) t stage.now))
+        sum (reduce_phase (task_counts w i).reduces w (split_into shards partitions) t stage.now))
         sizes.old sizes.new) }
 {
     let mut passed = passed_lists(alloc, maps)?.into_iter();
@@ -70,15 +70,16 @@ fn given_lists(
     requires some { 0 < partitions }
     ensures next { (w : World) (shards : ℕ) (t : Lists) (ins : List InChannel)
         (here behind : List Out) → into_iter_items outs.old ≡ here ++ behind →
-        AreOutsAt w (split shards partitions) t ins channel.now here →
+        AreOutsAt w (split_into shards partitions) t ins channel.now here →
         OnOk result (into_iter_items outs.new ≡ behind) }
     ensures lists { (w : World) (shards : ℕ) (t : Lists) (s : Mscr) → 0 < shards → StartsWith
-        (AreOutsAt w (split shards partitions) t s.inputs channel.now) (into_iter_items outs.old) →
-        HavePassed w (split shards partitions) t s channel.now passed → IfOk result (λ lists.
-        lists.items ≡ given_lists w (split shards partitions) t s.inputs channel.now) }
+        (AreOutsAt w (split_into shards partitions) t s.inputs channel.now)
+        (into_iter_items outs.old) →
+        HavePassed w (split_into shards partitions) t s channel.now passed → IfOk result (λ lists.
+        lists.items ≡ given_lists w (split_into shards partitions) t s.inputs channel.now) }
     ensures grown { (w : World) (shards : ℕ) (t : Lists) (ins : List InChannel) → StartsWith
-        (AreOutsAt w (split shards partitions) t ins channel.now) (into_iter_items outs.old) →
-        OnOk result (HaveGrown (λ i. sum (channel_counts w i (split shards partitions) t ins
+        (AreOutsAt w (split_into shards partitions) t ins channel.now) (into_iter_items outs.old) →
+        OnOk result (HaveGrown (λ i. sum (channel_counts w i (split_into shards partitions) t ins
         channel.now)) sizes.old sizes.new) }
 {
     outs_law();

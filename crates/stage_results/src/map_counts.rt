@@ -1,7 +1,7 @@
 // What the steps of map tasks have counted.
 ghost use Rattle.std.specs.Prelude.{◌≡◌, ◌<◌, ◌*◌, ℕ, length, map, sum, IfOk, OnOk};
 ghost use Rattle.exec_graph.specs.World.{World};
-ghost use Rattle.stage_phases.specs.of_map_shard.Tables.{split};
+ghost use Rattle.stage_phases.specs.of_map_shard.Tables.{split_into};
 ghost use Rattle.step_counts.specs.Owners.{owners_of};
 ghost use Rattle.step_counts.specs.Sizes.{HaveGrown};
 ghost use Rattle.task_lists.specs.Outs.{AreMapOuts};
@@ -25,9 +25,9 @@ pub fn add_map_counts(
     requires some { 0 < shards }
     requires count { length outs.now ≡ length stage.now.inputs * shards }
     ensures { (w : World) (partitions : ℕ) (t : Lists) →
-        AreMapOuts w (split shards partitions) t stage.now outs.now →
+        AreMapOuts w (split_into shards partitions) t stage.now outs.now →
         OnOk result (HaveGrown
-        (λ i. sum (map_phase (task_counts w i).maps (split shards partitions) t stage.now))
+        (λ i. sum (map_phase (task_counts w i).maps (split_into shards partitions) t stage.now))
         sizes.old sizes.new) }
 {
     numbers_law();

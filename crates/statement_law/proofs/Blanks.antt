@@ -7,7 +7,7 @@ use Rattle.flume_grammar.specs.declared.tree.Operation.{Operation}
 use Rattle.flume_grammar.specs.declared.tree.Repeat.{Repeat}
 use Rattle.flume_grammar.specs.declared.tree.Statement.{Statement}
 use Rattle.flume_grammar.specs.declared.tree.TurnLet.{TurnLet}
-use Rattle.script_keys.specs.Outlines.{called_in, callees, operands, outline_of, read_in}
+use Rattle.script_keys.specs.Outlines.{called_in, callees, operand_names, outline_of, read_in}
 use Rattle.script_keys.specs.declared.outline.Outline.TheVariants as outline
 use Rattle.statement_law.specs.Outlined.{outlines_of}
 use Rattle.statement_law.specs.Lineless.{form_lineless, let_lineless, repeat_lineless, statement_lineless}
@@ -18,7 +18,7 @@ of_lets f [] = refl
 of_lets f (own ∷ lets) = ap (λ names. f own.by ++ names) (of_lets f lets)
 
 read_alike : (r : Repeat) → read_in (repeat_lineless r) ≡ read_in r
-read_alike r = ap (λ names. (r.from ++ names) ++ r.gives) (of_lets operands r.lets)
+read_alike r = ap (λ names. (r.from ++ names) ++ r.gives) (of_lets operand_names r.lets)
 
 called_alike : (r : Repeat) → called_in (repeat_lineless r) ≡ called_in r
 called_alike r = of_lets callees r.lets

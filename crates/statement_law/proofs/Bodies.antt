@@ -8,7 +8,7 @@ use Rattle.flume_grammar.specs.declared.tree.Body.TheVariants as body
 use Rattle.flume_grammar.specs.declared.tree.Expr.{Expr}
 use Rattle.flume_grammar.specs.Grammar as g
 use Rattle.flume_grammar.specs.Limits.{Limits}
-use Rattle.flume_grammar.specs.Terminals.{key, mark, name}
+use Rattle.flume_grammar.specs.Terminals.{keyword_token, mark, name_token}
 use Rattle.statement_law.proofs.Expressions.{go_expr}
 use Rattle.statement_law.proofs.Moving.{Goes, goes, at_close, join, plain, stop, under}
 use Rattle.statement_law.proofs.Plain.{go_numbered}
@@ -78,7 +78,7 @@ module _ (limits : Limits) where
         (as_body (lineless_if n e ss []) (g.if_ test.is yes.is))
     go_body (g.if_else {n} {e} {ss} {rs} y block other) d vs =
         let no = go_block other (suc d) vs in
-        let yes = go_block block (suc d) (key keyword.Else 0 ∷ no.without) in
+        let yes = go_block block (suc d) (keyword_token keyword.Else 0 ∷ no.without) in
         let test = go_expr limits y d yes.without in
         goes (plain refl (join test.moved (join yes.moved (plain refl no.moved))))
         (as_body (lineless_if n e ss rs) (g.if_else test.is yes.is no.is))
@@ -89,8 +89,10 @@ module _ (limits : Limits) where
         (as_body (lineless_for n x e ss) (g.for_ list.is each.is))
     go_body (g.case_ {x} {y} {n} {e} {ss} {rs} z block other) d vs =
         let second = go_block other (suc d) vs in
-        let first = go_block block (suc d) (key keyword.Right 0 ∷ name y 0 ∷ second.without) in
-        let test = go_expr limits z d (key keyword.Left 0 ∷ name x 0 ∷ first.without) in
+        let first =
+        go_block block (suc d) (keyword_token keyword.Right 0 ∷ name_token y 0 ∷ second.without) in
+        let test =
+        go_expr limits z d (keyword_token keyword.Left 0 ∷ name_token x 0 ∷ first.without) in
         goes (plain refl (join test.moved (plain refl (plain refl
         (join first.moved (plain refl (plain refl second.moved)))))))
         (as_body (lineless_case n e x ss y rs) (g.case_ test.is first.is second.is))

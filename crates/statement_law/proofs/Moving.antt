@@ -9,7 +9,7 @@ use Rattle.flume_tokens.specs.declared.token.TokenKind.TheVariants as kind
 use Rattle.flume_grammar.specs.Operators.{operator_of}
 use Rattle.flume_grammar.specs.Terminals.{word_of, mark}
 use Rattle.flume_grammar.specs.declared.tree.Binary.{Binary}
-use Rattle.statement_texts.specs.Texts.{StatementParts, before, braces_behind, is_beginning, is_beginning_word, kinds_of, parts_from}
+use Rattle.statement_texts.specs.Texts.{StatementParts, token_before, braces_behind, is_beginning, is_beginning_word, kinds_of, parts_from}
 
 -- a token without its line
 abbrev pub unlined : Token → Token
@@ -106,8 +106,8 @@ taken (next {d} {e} {t} {ts} q m) =
       own = t ∷ rest.own;
       is = ap (λ xs. t ∷ xs) rest.is;
       again = ap (λ xs. unlined t ∷ xs) rest.again;
-      parts = ap (λ b. before t.kind b (parts_from (braces_behind d t.kind) (kinds_of ts))) q
-          ∙ ap (before t.kind false) rest.parts;
+      parts = ap (λ b. token_before t.kind b (parts_from (braces_behind d t.kind) (kinds_of ts))) q
+          ∙ ap (token_before t.kind false) rest.parts;
     }
 
 -- ---- what is read

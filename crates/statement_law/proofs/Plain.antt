@@ -11,7 +11,7 @@ use Rattle.flume_grammar.specs.declared.tree.Operation.{Operation}
 use Rattle.flume_grammar.specs.Grammar as g
 use Rattle.flume_grammar.specs.Limits.{Limits}
 use Rattle.flume_grammar.specs.Parts.{Tree}
-use Rattle.flume_grammar.specs.Terminals.{key, mark, name}
+use Rattle.flume_grammar.specs.Terminals.{keyword_token, mark, name_token}
 use Rattle.statement_texts.specs.Texts.{is_beginning_word}
 use Rattle.statement_law.proofs.Moving.{Goes, goes, at_close, at_word, join, plain, stop, unlined}
 
@@ -31,7 +31,7 @@ pub go_names : {ts us : List Token} {xs : List (List ℕ)} → g.AreNames ts us 
     (vs : List Token) → Goes d ts us vs (λ ws. g.AreNames ws vs xs)
 go_names g.one d vs = goes (plain refl stop) g.one
 go_names (g.more {x} y) d vs =
-    let first = go_names y d (mark sign.Comma 0 ∷ name x 0 ∷ vs) in
+    let first = go_names y d (mark sign.Comma 0 ∷ name_token x 0 ∷ vs) in
     goes (join first.moved (plain refl (plain refl stop))) (g.more first.is)
 
 pub go_numbered : {k : Keyword} {ts us : List Token} {o : Option (List ℕ)}
@@ -108,7 +108,7 @@ module _ (limits : Limits) where
       let by = go_combiner x d vs in
       goes (plain refl (plain refl (plain refl by.moved))) (g.combine_all by.is)
   go_operation (g.operate {f} x l) d vs =
-      let names = go_names x d (key keyword.By 0 ∷ name f 0 ∷ vs) in
+      let names = go_names x d (keyword_token keyword.By 0 ∷ name_token f 0 ∷ vs) in
       goes (plain refl (join names.moved (plain refl (plain refl stop)))) (g.operate names.is l)
   go_operation g.do_with d vs =
       goes (plain refl (plain refl (plain refl (plain refl (plain refl stop))))) g.do_with

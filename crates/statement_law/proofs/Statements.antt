@@ -8,7 +8,7 @@ use Rattle.flume_grammar.specs.declared.tree.Statement.{Statement}
 use Rattle.flume_grammar.specs.declared.tree.TurnLet.{TurnLet}
 use Rattle.flume_grammar.specs.Grammar as g
 use Rattle.flume_grammar.specs.Limits.{Limits}
-use Rattle.flume_grammar.specs.Terminals.{key, mark, text}
+use Rattle.flume_grammar.specs.Terminals.{keyword_token, mark, text_token}
 use Rattle.statement_texts.specs.Texts.{is_beginning_word}
 use Rattle.statement_law.proofs.Bodies.{go_block, map_more}
 use Rattle.statement_law.proofs.Moving.{Goes, goes, Moved, at_close, join, plain, stop, under, unlined}
@@ -64,9 +64,9 @@ module _ (limits : Limits) where
       (vs : List Token) → Goes d ts us vs (λ ws. g.IsRepeat limits ws vs (repeat_lineless r))
   go_repeat (g.repeat_ x y l z) d vs =
       let gives = go_names z (suc d) (mark sign.CloseBrace 0 ∷ vs) in
-      let lets = go_lets l d (key keyword.Give 0 ∷ gives.without) in
+      let lets = go_lets l d (keyword_token keyword.Give 0 ∷ gives.without) in
       let entering = go_names y d (mark sign.OpenBrace 0 ∷ lets.without) in
-      let from_ = go_names x d (key keyword.As 0 ∷ entering.without) in
+      let from_ = go_names x d (keyword_token keyword.As 0 ∷ entering.without) in
       goes (plain refl (plain refl (plain refl (join from_.moved
       (plain refl (join entering.moved (plain refl (join lets.moved
       (plain refl (join gives.moved (at_close stop)))))))))))
@@ -79,7 +79,7 @@ module _ (limits : Limits) where
       let type_ = go_whole limits w 0 vs in
       begun refl (plain refl (plain refl type_.moved)) (g.type_ type_.is)
   go_statement (g.input {f} w) vs =
-      let type_ = go_whole limits w 0 (key keyword.From 0 ∷ text f 0 ∷ vs) in
+      let type_ = go_whole limits w 0 (keyword_token keyword.From 0 ∷ text_token f 0 ∷ vs) in
       begun refl (plain refl (plain refl (join type_.moved (plain refl (plain refl stop)))))
       (g.input type_.is)
   go_statement (g.fn_ w v t l c b small) vs =

@@ -10,7 +10,7 @@ use Rattle.flume_grammar.specs.declared.tree.Statement.{Statement}
 use Rattle.flume_grammar.specs.Grammar as g
 use Rattle.flume_grammar.specs.Limits.{Limits, the_limits}
 use Rattle.token_spelling.specs.Spellable.{IsSpellable}
-use Rattle.statement_texts.specs.Texts.{StatementParts, before, braces_behind, is_beginning_word, spaced, kinds_of, parts_from, texts_of}
+use Rattle.statement_texts.specs.Texts.{StatementParts, token_before, braces_behind, is_beginning_word, spaced_tokens, kinds_of, parts_from, texts_of}
 use Rattle.statement_law.proofs.Bodies.{map_more}
 use Rattle.statement_law.proofs.Moving.{taken, unlined}
 use Rattle.statement_law.proofs.Statements.{go_statement}
@@ -40,11 +40,11 @@ level d _ e = absurd (cc)
 
 begun_parts : (head : Token) (behind : List Token) → is_beginning_word head.kind ≡ true
     → parts_from 0 (kinds_of (head ∷ behind))
-    ≡ before head.kind true (parts_from 0 (kinds_of behind))
+    ≡ token_before head.kind true (parts_from 0 (kinds_of behind))
 unfolding parts_from
 begun_parts head behind e =
-    ap (λ b. before head.kind b (parts_from (braces_behind 0 head.kind) (kinds_of behind))) e
-    ∙ ap (λ d. before head.kind true (parts_from d (kinds_of behind))) (level 0 head.kind e)
+    ap (λ b. token_before head.kind b (parts_from (braces_behind 0 head.kind) (kinds_of behind))) e
+    ∙ ap (λ d. token_before head.kind true (parts_from d (kinds_of behind))) (level 0 head.kind e)
 
 module _ (limits : Limits) where
   -- its own tokens, without what is behind them
@@ -69,7 +69,7 @@ module _ (limits : Limits) where
         parts = λ e.
             ap (λ ts. parts_from 0 (kinds_of ts)) b.is_head
             ∙ begun_parts b.head b.behind b.begins
-            ∙ ap (before b.head.kind true) t.parts
+            ∙ ap (token_before b.head.kind true) t.parts
             ∙ ap (λ ks. (
               [],
               (b.head.kind ∷ (kinds_of t.own ++ ks))
@@ -147,7 +147,7 @@ module _ (limits : Limits) where
   -- ---- texts
 
   as_many : (ss : List Statement) (owns : List (List Token)) → Owned ss owns
-      → length (map spaced (map kinds_of owns)) ≡ length ss
+      → length (map spaced_tokens (map kinds_of owns)) ≡ length ss
   as_many [] [] h = refl
   as_many [] (own ∷ owns) h = absurd h
   as_many (s ∷ ss) [] h = absurd h
@@ -156,22 +156,23 @@ module _ (limits : Limits) where
   record At (s : Statement) (text : List ℕ) : Type 0 where
     pub own : List Token
     pub holds : Holds s own
-    pub is : text ≡ spaced (kinds_of own)
+    pub is : text ≡ spaced_tokens (kinds_of own)
 
   at : (ss : List Statement) (owns : List (List Token)) → Owned ss owns → (j : ℕ)
-      (s : Statement) (text : List ℕ) → slice_get (map spaced (map kinds_of owns)) j ≡ Some text
+      (s : Statement) (text : List ℕ)
+      → slice_get (map spaced_tokens (map kinds_of owns)) j ≡ Some text
       → slice_get ss j ≡ Some s → At s text
   at [] owns h j s text e f = absurd (cc)
   at (r ∷ ss) [] h j s text e f = absurd h
   at (r ∷ ss) (own ∷ owns) h zero s text e f =
       let same : r ≡ s = cc in
-      let is : text ≡ spaced (kinds_of own) = cc in
+      let is : text ≡ spaced_tokens (kinds_of own) = cc in
       record { own = own; holds = subst (λ x. Holds x own) same h.0; is = is }
   at (r ∷ ss) (own ∷ owns) h (suc j) s text e f = at ss owns h.1 j s text e f
 
   pub record Script (ts : List Token) (ss : List Statement) : Type 0 where
     pub owns : List (List Token)
-    pub texts : texts_of ts ≡ map spaced (map kinds_of owns)
+    pub texts : texts_of ts ≡ map spaced_tokens (map kinds_of owns)
     pub owned : Owned ss owns
 
   pub script : (ts : List Token) (ss : List Statement) → g.IsScript limits ts ss
@@ -181,8 +182,8 @@ module _ (limits : Limits) where
       let t = texting h (recursion_from_All (λ (t : Token). IsSpellable t.kind) ts all) in
       record {
         owns = t.owns;
-        texts = ap (λ (q : StatementParts). map spaced q.1) (t.parts refl)
-            ∙ ap (map spaced) (append-nil (map kinds_of t.owns));
+        texts = ap (λ (q : StatementParts). map spaced_tokens q.1) (t.parts refl)
+            ∙ ap (map spaced_tokens) (append-nil (map kinds_of t.owns));
         owned = t.owned;
       }
 
@@ -252,7 +253,7 @@ only_one x y e = cc
 
 abbrev Apart : Type 0
 Apart = (k j : TokenKind) (ks js : List TokenKind) → All IsSpellable (k ∷ ks)
-    → All IsSpellable (j ∷ js) → spaced (k ∷ ks) ≡ spaced (j ∷ js) → k ∷ ks ≡ j ∷ js
+    → All IsSpellable (j ∷ js) → spaced_tokens (k ∷ ks) ≡ spaced_tokens (j ∷ js) → k ∷ ks ≡ j ∷ js
 
 spelled_kinds : (own : List Token) (head : Token) (behind : List Token) → own ≡ head ∷ behind
     → Spelled own → All IsSpellable (head.kind ∷ kinds_of behind)
@@ -261,14 +262,15 @@ spelled_kinds own head behind e h =
     (All-from_recursion IsSpellable (kinds_of own) (kinds_spelled own h))
 
 alike : Apart → (s r : Statement) (own other : List Token) → Holds the_limits s own
-    → Holds the_limits r other → spaced (kinds_of own) ≡ spaced (kinds_of other)
+    → Holds the_limits r other → spaced_tokens (kinds_of own) ≡ spaced_tokens (kinds_of other)
     → kinds_of own ≡ kinds_of other
 alike apart s r own other h k e =
     ap kinds_of h.is
     ∙ apart h.head.kind k.head.kind (kinds_of h.behind) (kinds_of k.behind)
     (spelled_kinds own h.head h.behind h.is h.spelled)
     (spelled_kinds other k.head k.behind k.is k.spelled)
-    (ap (λ o. spaced (kinds_of o)) (sym h.is) ∙ e ∙ ap (λ o. spaced (kinds_of o)) k.is)
+    (ap (λ o. spaced_tokens (kinds_of o)) (sym h.is) ∙ e ∙ ap (λ o. spaced_tokens (kinds_of o))
+    k.is)
     ∙ sym (ap kinds_of k.is)
 
 pub same : ((ts : List Token) (ss rs : List Statement) → g.IsScript the_limits ts ss

@@ -6,8 +6,8 @@ use Rattle.flume_tokens.specs.declared.token.Token.{Token}
 use Rattle.flume_tokens.specs.declared.token.TokenKind.{TokenKind}
 use Rattle.flume_tokens.specs.Tokens.{TokensOrFault, tokens_from}
 use Rattle.token_spelling.specs.Spellable.{IsSpellable, AscendByLine, AreSpellable}
-use Rattle.token_spelling.specs.Spelled.{written, spelled_from, spelled}
-use Rattle.statement_texts.specs.Texts.{spaced, joined_behind, kinds_of}
+use Rattle.token_spelling.specs.Spelled.{token_written, spelled_from, spelled}
+use Rattle.statement_texts.specs.Texts.{spaced_tokens, joined_behind, kinds_of}
 
 -- these tokens, all on the first line
 abbrev on_one : List TokenKind → List Token
@@ -34,18 +34,18 @@ turned : (kinds : List TokenKind)
     → 32 ∷ spelled_from 1 (on_one kinds) ≡ joined_behind kinds ++ 32 ∷ []
 turned [] = refl
 turned (kind ∷ kinds) =
-    ap (λ bs. 32 ∷ (written kind ++ bs)) (turned kinds)
-    ∙ sym (append_assoc (32 ∷ written kind) (joined_behind kinds) (32 ∷ []))
+    ap (λ bs. 32 ∷ (token_written kind ++ bs)) (turned kinds)
+    ∙ sym (append_assoc (32 ∷ token_written kind) (joined_behind kinds) (32 ∷ []))
 
 spelled_is : (kind : TokenKind) (kinds : List TokenKind)
-    → spelled (on_one (kind ∷ kinds)) ≡ spaced (kind ∷ kinds) ++ 32 ∷ []
+    → spelled (on_one (kind ∷ kinds)) ≡ spaced_tokens (kind ∷ kinds) ++ 32 ∷ []
 spelled_is kind kinds =
-    ap (λ bs. written kind ++ bs) (turned kinds)
-    ∙ sym (append_assoc (written kind) (joined_behind kinds) (32 ∷ []))
+    ap (λ bs. token_written kind ++ bs) (turned kinds)
+    ∙ sym (append_assoc (token_written kind) (joined_behind kinds) (32 ∷ []))
 
 pub joined_apart : ((ts : List Token) → AreSpellable ts → tokens_from 0 1 (spelled ts) ≡ Ok ts)
     → (k j : TokenKind) (ks js : List TokenKind) → All IsSpellable (k ∷ ks)
-    → All IsSpellable (j ∷ js) → spaced (k ∷ ks) ≡ spaced (j ∷ js) → k ∷ ks ≡ j ∷ js
+    → All IsSpellable (j ∷ js) → spaced_tokens (k ∷ ks) ≡ spaced_tokens (j ∷ js) → k ∷ ks ≡ j ∷ js
 joined_apart cut k j ks js p q e =
     let bytes : spelled (on_one (k ∷ ks)) ≡ spelled (on_one (j ∷ js))
     = spelled_is k ks ∙ ap (λ bs. bs ++ 32 ∷ []) e ∙ sym (spelled_is j js) in

@@ -5,24 +5,24 @@ use Rattle.flume_tokens.specs.declared.sign.Sign.TheVariants as sign
 use Rattle.flume_tokens.specs.declared.token.Token.{Token}
 use Rattle.flume_tokens.specs.declared.token.TokenKind.{TokenKind}
 use Rattle.flume_tokens.specs.declared.token.TokenKind.TheVariants as kind
-use Rattle.token_spelling.specs.Spelled.{written}
-use Rattle.statement_texts.specs.Texts.{StatementParts, before, braces_behind, is_beginning, spaced, joined_behind, kinds_of, parts_from}
+use Rattle.token_spelling.specs.Spelled.{token_written}
+use Rattle.statement_texts.specs.Texts.{StatementParts, token_before, braces_behind, is_beginning, spaced_tokens, joined_behind, kinds_of, parts_from}
 use Rattle.statement_texts.specs.inner.Passing.{finished}
 
 pub begun : (texts : List (List ℕ)) (text : List ℕ) (token : TokenKind) (rest : StatementParts)
-    → (texts ++ text ∷ []) ++ finished (written token) rest
-    ≡ texts ++ finished text (before token true rest)
+    → (texts ++ text ∷ []) ++ finished (token_written token) rest
+    ≡ texts ++ finished text (token_before token true rest)
 begun texts text token rest =
-    append_assoc texts (text ∷ []) (finished (written token) rest)
-    ∙ ap (λ t. texts ++ t ∷ finished (written token) rest) (sym (append-nil text))
+    append_assoc texts (text ∷ []) (finished (token_written token) rest)
+    ∙ ap (λ t. texts ++ t ∷ finished (token_written token) rest) (sym (append-nil text))
 
 pub goes_on : (texts : List (List ℕ)) (text : List ℕ) (token : TokenKind) (rest : StatementParts)
-    → texts ++ finished ((text ++ 32 ∷ []) ++ written token) rest
-    ≡ texts ++ finished text (before token false rest)
+    → texts ++ finished ((text ++ 32 ∷ []) ++ token_written token) rest
+    ≡ texts ++ finished text (token_before token false rest)
 goes_on texts text token rest =
-    ap (λ t. texts ++ t ∷ map spaced rest.1)
-    (ap (λ t. t ++ joined_behind rest.0) (append_assoc text (32 ∷ []) (written token))
-    ∙ append_assoc text (32 ∷ written token) (joined_behind rest.0))
+    ap (λ t. texts ++ t ∷ map spaced_tokens rest.1)
+    (ap (λ t. t ++ joined_behind rest.0) (append_assoc text (32 ∷ []) (token_written token))
+    ∙ append_assoc text (32 ∷ token_written token) (joined_behind rest.0))
 
 -- the first of the tokens that are left, and those behind it
 next_kinds : (tokens : List Token) (i : ℕ) (token : Token) → i < length tokens
@@ -39,7 +39,7 @@ pub one_more : (texts more all : List (List ℕ)) (text next : List ℕ) (tokens
     (i depth behind : ℕ) (token : Token) → i < length tokens → token ≡ get_or tokens i token
     → behind ≡ braces_behind depth token.kind
     → ((rest : StatementParts) → more ++ finished next rest
-    ≡ texts ++ finished text (before token.kind (is_beginning depth token.kind) rest))
+    ≡ texts ++ finished text (token_before token.kind (is_beginning depth token.kind) rest))
     → texts ++ finished text (parts_from depth (kinds_of (drop i tokens))) ≡ all
     → more ++ finished next (parts_from behind (kinds_of (drop (i + 1) tokens))) ≡ all
 unfolding parts_from
@@ -47,7 +47,7 @@ one_more texts more all text next tokens i depth behind token below is opens ste
     let left : List TokenKind = kinds_of (drop (i + 1) tokens) in
     step (parts_from behind left)
     ∙ ap (λ d. texts ++ finished text
-    (before token.kind (is_beginning depth token.kind) (parts_from d left))) opens
+    (token_before token.kind (is_beginning depth token.kind) (parts_from d left))) opens
     ∙ ap (λ ks. texts ++ finished text (parts_from depth ks))
     (sym (next_kinds tokens i token below is))
     ∙ so_far

@@ -6,7 +6,7 @@ use Rattle.flume_tokens.specs.declared.sign.Sign.TheVariants as sign
 use Rattle.flume_tokens.specs.declared.token.Token.{Token}
 use Rattle.flume_tokens.specs.declared.token.TokenKind.{TokenKind}
 use Rattle.flume_tokens.specs.declared.token.TokenKind.TheVariants as kind
-use Rattle.token_spelling.specs.Spelled.{written}
+use Rattle.token_spelling.specs.Spelled.{token_written}
 
 -- the words with which statements begin
 abbrev pub is_beginning_word : TokenKind → Bool
@@ -32,15 +32,15 @@ abbrev pub StatementParts : Type 0
 StatementParts = List TokenKind × List (List TokenKind)
 
 -- with one token before: the first of a statement, or one more of what is left
-abbrev pub before : TokenKind → Bool → StatementParts → StatementParts
-before token true parts = ([], (token ∷ parts.0) ∷ parts.1)
-before token false parts = (token ∷ parts.0, parts.1)
+abbrev pub token_before : TokenKind → Bool → StatementParts → StatementParts
+token_before token true parts = ([], (token ∷ parts.0) ∷ parts.1)
+token_before token false parts = (token ∷ parts.0, parts.1)
 
 -- the parts of tokens, where so many braces are open
 unfoldable pub parts_from : ℕ → List TokenKind → StatementParts
 parts_from depth [] = ([], [])
 parts_from depth (token ∷ tokens) =
-    before token (is_beginning depth token) (parts_from (braces_behind depth token) tokens)
+    token_before token (is_beginning depth token) (parts_from (braces_behind depth token) tokens)
 
 -- the statements of a script, each as its tokens
 abbrev pub statements_of : List TokenKind → List (List TokenKind)
@@ -48,12 +48,12 @@ statements_of tokens = (parts_from 0 tokens).1
 
 -- tokens behind the first of a text: a space before each
 abbrev pub joined_behind : List TokenKind → List ℕ
-joined_behind tokens = flat_map (λ token. 32 ∷ written token) tokens
+joined_behind tokens = flat_map (λ token. 32 ∷ token_written token) tokens
 
 -- tokens as they are written, joined by one space
-abbrev pub spaced : List TokenKind → List ℕ
-spaced [] = []
-spaced (token ∷ tokens) = written token ++ joined_behind tokens
+abbrev pub spaced_tokens : List TokenKind → List ℕ
+spaced_tokens [] = []
+spaced_tokens (token ∷ tokens) = token_written token ++ joined_behind tokens
 
 -- what the tokens are, without the lines on which they stand
 abbrev pub kinds_of : List Token → List TokenKind
@@ -61,4 +61,4 @@ kinds_of tokens = map (λ token. token.kind) tokens
 
 -- the text of each statement that these are the tokens of, in order
 abbrev pub texts_of : List Token → List (List ℕ)
-texts_of tokens = map spaced (statements_of (kinds_of tokens))
+texts_of tokens = map spaced_tokens (statements_of (kinds_of tokens))

@@ -18,7 +18,7 @@ pub fn text_law()
         spec.texts_of list.items ≡ spec.texts_of other.items }
     // and tokens that a script may have are the same where their texts are.
     ensures apart { (k j : Kind) (ks js : List Kind) → All IsSpellable (k ∷ ks) →
-        All IsSpellable (j ∷ js) → spec.spaced (k ∷ ks) ≡ spec.spaced (j ∷ js) →
+        All IsSpellable (j ∷ js) → spec.spaced_tokens (k ∷ ks) ≡ spec.spaced_tokens (j ∷ js) →
         k ∷ ks ≡ j ∷ js }
 {
     spelling_law();

@@ -44,7 +44,7 @@ fn with_token(
     ensures { IfOk result (λ next. (rest : spec.StatementParts) →
         texts.new.items ++ finished next.items rest
         ≡ texts.old.items ++ finished text.items
-        (spec.before kind.now (spec.is_beginning depth kind.now) rest)) }
+        (spec.token_before kind.now (spec.is_beginning depth kind.now) rest)) }
 {
     if depth == 0 && is_beginning_word(kind) {
         texts.push(Str::from_vec(text)?)?;

@@ -1,13 +1,13 @@
 // A token as it is written, put behind a text.
 ghost use Rattle.std.specs.Prelude.{◌≡◌, ◌++◌, OnOk};
-ghost use Rattle.token_spelling.specs.Spelled.{written, escape, escaped};
+ghost use Rattle.token_spelling.specs.Spelled.{token_written, escape, escaped};
 
 use flume_tokens::TokenKind;
 use std::alloc::AllocError;
 
 /// Puts a token behind a text, as it is written.
 pub fn push_written(text: &mut Vec<u8>, kind: &TokenKind) -> Result<(), AllocError>
-    ensures { OnOk result (text.new.items ≡ text.old.items ++ written kind.now) }
+    ensures { OnOk result (text.new.items ≡ text.old.items ++ token_written kind.now) }
 {
     match kind {
         TokenKind::Name(name) => text.extend_from_slice(name.as_bytes()),
@@ -21,7 +21,7 @@ pub fn push_written(text: &mut Vec<u8>, kind: &TokenKind) -> Result<(), AllocErr
 // The content of a text, in quotes.
 fn push_quoted(text: &mut Vec<u8>, content: &[u8]) -> Result<(), AllocError>
     ensures { OnOk result (text.new.items
-        ≡ text.old.items ++ written (TokenKind.Text content.now)) }
+        ≡ text.old.items ++ token_written (TokenKind.Text content.now)) }
 {
     text.push(b'"')?;
     push_escaped(text, content)?;

@@ -5,7 +5,7 @@ use Rattle.std.specs.List.{flat_map}
 use Rattle.std.proofs.lemmas.List.{map-append}
 use Rattle.std.proofs.lemmas.List.Sums.{sum_by-append}
 use Rattle.flume_value.specs.declared.value.Value.{Value}
-use Rattle.shards.specs.Shards.{joined}
+use Rattle.shards.specs.Shards.{concatenated}
 use Rattle.shards.proofs.Alike.{alike_length, flat_map-nothing, flat_map-itself}
 use Rattle.exec_plan.specs.of_exec_graph.World.{World}
 use Rattle.exec_plan.specs.of_exec_graph.Calls.{emitted, is_own}
@@ -106,13 +106,13 @@ flat_counted a b h (x ∷ xs) =
     )
 
 joined_counted : {Y : Type 0} (a : ℕ → List ℕ) (b : ℕ → List Y) → IsCount a b → (n : ℕ)
-    → sum (joined a n) ≡ length (joined b n)
+    → sum (concatenated a n) ≡ length (concatenated b n)
 joined_counted a b h zero = refl
 joined_counted a b h (suc n) =
     omega (
       arith,
-      sum_append (joined a n) (a n),
-      length-append (joined b n) (b n),
+      sum_append (concatenated a n) (a n),
+      length-append (concatenated b n) (b n),
       h n,
       joined_counted a b h n,
     )
@@ -134,12 +134,13 @@ module _ {Y : Type 0} (a : SaysOfTasks ℕ) (b : SaysOfTasks Y) (counts : Counts
         arith,
         sum_append (map_phase a.maps n t s) (reduce_phase a.reduces w n t s),
         length-append (map_phase b.maps n t s) (reduce_phase b.reduces w n t s),
-        flat_counted (λ c. joined (λ i. a.maps (map_task n t c i)) n.shards)
-            (λ c. joined (λ i. b.maps (map_task n t c i)) n.shards)
+        flat_counted (λ c. concatenated (λ i. a.maps (map_task n t c i)) n.shards)
+            (λ c. concatenated (λ i. b.maps (map_task n t c i)) n.shards)
             (λ c. joined_counted (λ i. a.maps (map_task n t c i)) (λ i. b.maps (map_task n t c i))
             (λ i. counts.maps (map_task n t c i)) n.shards) s.inputs,
-        flat_counted (λ g. joined (λ p. a.reduces g (reduce_task w n t s.inputs g p)) n.partitions)
-            (λ g. joined (λ p. b.reduces g (reduce_task w n t s.inputs g p)) n.partitions)
+        flat_counted (λ g. concatenated (λ p. a.reduces g (reduce_task w n t s.inputs g p))
+            n.partitions)
+            (λ g. concatenated (λ p. b.reduces g (reduce_task w n t s.inputs g p)) n.partitions)
             (λ g. joined_counted (λ p. a.reduces g (reduce_task w n t s.inputs g p))
             (λ p. b.reduces g (reduce_task w n t s.inputs g p))
             (λ p. counts.reduces g (reduce_task w n t s.inputs g p)) n.partitions)

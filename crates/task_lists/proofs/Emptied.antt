@@ -11,7 +11,7 @@ use Rattle.exec_plan.specs.of_exec_graph.declared.graph.Act.TheVariants as act
 use Rattle.exec_plan.proofs.of_exec_graph.Barriers.{barrier_operate}
 use Rattle.exec_plan.specs.declared.plan.InChannel.{InChannel}
 use Rattle.exec_plan.specs.declared.plan.PlanPlace.{PlanPlace}
-use Rattle.task_lists.specs.Lists.{calm, object_made}
+use Rattle.task_lists.specs.Lists.{calm_list, object_made}
 use Rattle.task_lists.specs.Tasks.{Lists, Split, elements_beside, if_valued, map_task}
 use Rattle.task_lists.proofs.Typed.{each_shard}
 
@@ -20,22 +20,22 @@ none_first None = refl
 none_first (Some v) = refl
 
 none_valued : (t : Lists) (takes : List PlanPlace) (k : ℕ) (c : PlanPlace)
-    → slice_get takes k ≡ Some c → t c ≡ [] → values_in (map (calm t) takes) ≡ None
+    → slice_get takes k ≡ Some c → t c ≡ [] → values_in (map (calm_list t) takes) ≡ None
 none_valued t [] k c at empty = cc at
 none_valued t (d ∷ ds) zero c at empty =
     let same : d ≡ c = cc in
-    ap (λ (l : List Value). with_first (only (bag_of l)) (values_in (map (calm t) ds)))
+    ap (λ (l : List Value). with_first (only (bag_of l)) (values_in (map (calm_list t) ds)))
     (ap t same ∙ empty)
 none_valued t (d ∷ ds) (suc k) c at empty =
-    ap (with_first (value_in (calm t d))) (none_valued t ds k c at empty)
-    ∙ none_first (value_in (calm t d))
+    ap (with_first (value_in (calm_list t d))) (none_valued t ds k c at empty)
+    ∙ none_first (value_in (calm_list t d))
 
 -- a function of objects is not called
 pub none_operated : (w : World) (t : Lists) (takes : List PlanPlace) (o f k : ℕ) (c : PlanPlace)
     → slice_get takes k ≡ Some c → t c ≡ []
     → (object_made w t o (act.Operate f) takes).bag ∷ [] ≡ [] ∷ []
 none_operated w t takes o f k c at empty =
-    let objects : List Collection = map (calm t) takes in
+    let objects : List Collection = map (calm_list t) takes in
     ap (λ (made : Collection). made.bag ∷ []) (barrier_operate w o f objects
     ∙ ap (λ (vs : Option (List Value)). operated_on w o f vs objects)
     (none_valued t takes k c at empty))

@@ -29,7 +29,7 @@ use Rattle.exec_plan.specs.of_exec_graph.Typing.{Signatures, StepTyped, ForestTy
 use Rattle.exec_plan.specs.of_exec_graph.Wellformed.{comb_of, root_comb}
 use Rattle.exec_plan.specs.declared.plan.PlanPlace.{PlanPlace}
 use Rattle.exec_plan.specs.declared.plan.Grouping.{Grouping}
-use Rattle.exec_plan.specs.Typing.{ChannelTyped, GroupTyped, types_from}
+use Rattle.exec_plan.specs.Typing.{ChannelTyped, GroupTyped, stage_types}
 use Rattle.exec_plan.specs.Wellformed.{IsLiftOk}
 use Rattle.task_lists.specs.Typing.{AreGroupable}
 
@@ -97,7 +97,7 @@ groupable s types outs k g gt ok pairs have =
     elim g.lifted as (λ o. IsLiftOk o g.does → AreGroupable o pairs) [
       | None ↦ λ ok. all_pairs key value pairs tables
       | Some c ↦ λ ok.
-          let suited = reducer_suited s (types_from types k g.first) c gt.groups g.does ok
+          let suited = reducer_suited s (stage_types types k g.first) c gt.groups g.does ok
           gt.reduced in
           All-from_recursion (IsCombinable c) pairs
           (Each-weaker (Has (table_of key value)) (IsCombinable c)

@@ -4,20 +4,20 @@ use Rattle.std.specs.List.{slice_get}
 use Rattle.std.specs.Option.{option_map_or}
 use Rattle.std.proofs.lemmas.Bool.{cases_lt}
 use Rattle.flume_collection.specs.declared.trap.Trap.{Trap}
-use Rattle.shards.specs.Shards.{joined}
+use Rattle.shards.specs.Shards.{concatenated}
 use Rattle.shards.proofs.Joined.{joined_nothing, joined_same}
 use Rattle.exec_plan.specs.of_exec_graph.World.{World}
 use Rattle.exec_plan.specs.declared.plan.Grouping.{Grouping}
 use Rattle.exec_plan.specs.declared.plan.Mscr.{Mscr as Channels}
 use Rattle.exec_plan.specs.declared.plan.Stage.TheVariants.{Mscr}
-use Rattle.task_lists.specs.Runs.{traps_of}
+use Rattle.task_lists.specs.Runs.{traps_in_order}
 use Rattle.task_lists.specs.Tasks.{Split, Lists, Task, world_for, no_task, map_task_at, map_count, map_phase, reduce_task, reduce_task_at, reduce_count, reduce_phase, grouping_at}
 use Rattle.task_lists.specs.Plans.{task_traps, stage_tasks}
 use Rattle.task_lists.specs.Outs.{IsCalm, IsFirstTaskTrap}
 use Rattle.task_lists.proofs.Numbers.{joined_below, maps_numbered, reduces_numbered}
 
 joined_calm : {A : Type 0} (f : ℕ → List A) (n : ℕ) → ((i : ℕ) → i < n → f i ≡ [])
-    → joined f n ≡ []
+    → concatenated f n ≡ []
 joined_calm f n h = joined_below f (λ i. []) n h ∙ joined_nothing n
 
 first_left : {A : Type 0} (e : A) (xs ys : List A) → slice_get xs 0 ≡ Some e
@@ -27,12 +27,12 @@ first_left e (x ∷ xs) ys h = h
 
 joined_first : {A : Type 0} (f : ℕ → List A) (n k : ℕ) (e : A) → k < n
     → ((i : ℕ) → i < k → f i ≡ []) → slice_get (f k) 0 ≡ Some e
-    → slice_get (joined f n) 0 ≡ Some e
+    → slice_get (concatenated f n) 0 ≡ Some e
 joined_first f zero k e h calm first = absurd (omega arith)
 joined_first f (suc n) k e h calm first =
-    ⊎_elim (λ below. first_left e (joined f n) (f n) (joined_first f n k e below calm first))
+    ⊎_elim (λ below. first_left e (concatenated f n) (f n) (joined_first f n k e below calm first))
     (λ past. let last : k ≡ n = omega arith in
-    let none : joined f n ≡ [] = joined_calm f n (λ i below. calm i (omega arith)) in
+    let none : concatenated f n ≡ [] = joined_calm f n (λ i below. calm i (omega arith)) in
     ap (λ l. slice_get (l ++ f n) 0) none
     ∙ subst (λ (m : ℕ). slice_get (f m) 0 ≡ Some e) last first)
     (cases_lt k n)
@@ -40,7 +40,7 @@ joined_first f (suc n) k e h calm first =
 module _ (w : World) (n : Split) (some_shards : 0 < n.shards) (some : 0 < n.partitions) (t : Lists)
     (s : Channels) where
   abbrev traps_in : Task → List Trap
-  traps_in task = traps_of (world_for w task) task.does task.elements
+  traps_in task = traps_in_order (world_for w task) task.does task.elements
 
   abbrev maps : List Trap
   maps = map_phase (task_traps w).maps n t s
@@ -48,10 +48,10 @@ module _ (w : World) (n : Split) (some_shards : 0 < n.shards) (some : 0 < n.part
   abbrev reduces : List Trap
   reduces = reduce_phase (task_traps w).reduces w n t s
 
-  maps_are : maps ≡ joined (λ k. traps_in (map_task_at n t s k)) (map_count n s)
+  maps_are : maps ≡ concatenated (λ k. traps_in (map_task_at n t s k)) (map_count n s)
   maps_are = maps_numbered (task_traps w).maps n t s some_shards
 
-  reduces_are : reduces ≡ joined (λ k. traps_in (reduce_task_at w n t s k)) (reduce_count n s)
+  reduces_are : reduces ≡ concatenated (λ k. traps_in (reduce_task_at w n t s k)) (reduce_count n s)
   reduces_are =
       reduces_numbered (task_traps w).reduces w n t s some
       ∙ joined_same

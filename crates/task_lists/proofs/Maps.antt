@@ -10,17 +10,17 @@ use Rattle.flume_value.specs.declared.value.Value.{Value}
 use Rattle.flume_value.proofs.BagLemmas.{bag_of-twice}
 use Rattle.flume_collection.specs.Collection.{Collection, together}
 use Rattle.flume_collection.specs.Traps.{trap_set}
-use Rattle.shards.specs.Shards.{joined, shard}
+use Rattle.shards.specs.Shards.{concatenated, shard}
 use Rattle.shards.proofs.Alike.{Alike, alike_bag, alike_each, append_empty}
 use Rattle.shards.proofs.Joined.{joined_same, joined_alike, flat_map-joined, joined_each, joined_nothing, joined_if, joined_before, joined_at, shards_join}
 use Rattle.exec_plan.specs.of_exec_graph.World.{World}
-use Rattle.exec_plan.specs.of_exec_graph.Objects.{beside}
+use Rattle.exec_plan.specs.of_exec_graph.Objects.{world_beside}
 use Rattle.exec_plan.specs.declared.plan.PlanPlace.{PlanPlace}
 use Rattle.exec_plan.specs.declared.plan.Take.{Take}
 use Rattle.exec_plan.specs.declared.plan.InChannel.{InChannel}
 use Rattle.exec_plan.specs.declared.plan.Mscr.{Mscr}
 use Rattle.exec_plan.specs.Channels.{Fed, channel_out, fed, output_of, taken, value_on, world_in}
-use Rattle.task_lists.specs.Runs.{output_at, visits_of, gives}
+use Rattle.task_lists.specs.Runs.{output_at, visits_of, emissions_at}
 use Rattle.task_lists.specs.Tasks.{Split, Lists, elements_beside, value_beside, task_gives, no_task, map_task, map_task_of, given_to, gathered, map_phase}
 use Rattle.task_lists.proofs.Elements.{Agrees, none_agrees, visits_of_total, output_agrees}
 use Rattle.task_lists.proofs.Objects.{side_agrees, world_same}
@@ -28,7 +28,7 @@ use Rattle.task_lists.proofs.Says.{Each, each_in, each_says, each_trap}
 
 -- the world in which a channel's steps are called, and the elements on which they are
 abbrev pub world_at : World → Lists → InChannel → World
-world_at w t c = beside (value_beside t c.beside) w
+world_at w t c = world_beside (value_beside t c.beside) w
 
 abbrev pub list_at : Lists → InChannel → List Value
 list_at t c = elements_beside t c.beside (t c.reads)
@@ -36,7 +36,7 @@ list_at t c = elements_beside t c.beside (t c.reads)
 -- what a channel gives to its output j of its whole list
 abbrev pub whole_out : World → Lists → Option InChannel → ℕ → List Value
 whole_out w t None j = []
-whole_out w t (Some c) j = gives (world_at w t c) c.does (list_at t c) j
+whole_out w t (Some c) j = emissions_at (world_at w t c) c.does (list_at t c) j
 
 -- what a channel gets that takes these
 abbrev pub whole : World → Lists → List InChannel → List Take → List Value
@@ -66,7 +66,7 @@ module _ (w : World) (n : Split) (some : 0 < n.shards) (t : Lists) where
   shard_gives o j i = task_gives w (option_map_or (λ c. map_task n t c i) o no_task) j
 
   shards_whole : (o : Option InChannel) (j : ℕ)
-      → joined (shard_gives o j) n.shards ≡ whole_out w t o j
+      → concatenated (shard_gives o j) n.shards ≡ whole_out w t o j
   shards_whole None j = joined_nothing n.shards
   shards_whole (Some c) j =
       sym (flat_map-joined (output_at (world_at w t c) c.does j)
@@ -75,7 +75,7 @@ module _ (w : World) (n : Split) (some : 0 < n.shards) (t : Lists) where
       (shards_join n.shards (list_at t c) some)
 
   says_whole : {Y : Type 0} (q : Each Y) (c : InChannel)
-      → joined (λ i. (each_says w q).maps (map_task n t c i)) n.shards
+      → concatenated (λ i. (each_says w q).maps (map_task n t c i)) n.shards
       ≡ flat_map (visits_of (world_at w t c) (q.steps (world_at w t c)) c.does) (list_at t c)
   says_whole q c =
       let visits = visits_of (world_at w t c) (q.steps (world_at w t c)) c.does in
@@ -86,21 +86,22 @@ module _ (w : World) (n : Split) (some : 0 < n.shards) (t : Lists) where
 
   -- of one take
   taken_once : (ins : List InChannel) (k : Take)
-      → joined (λ m. joined (λ i. cond (k.channel == m)
+      → concatenated (λ m. concatenated (λ i. cond (k.channel == m)
       (task_gives w (map_task_of n t ins m i) k.out)
       []) n.shards) (length ins) ≡ whole_out w t (slice_get ins k.channel) k.out
   taken_once ins k =
-      let of : ℕ → List Value = λ m. joined (shard_gives (slice_get ins m) k.out) n.shards in
+      let of : ℕ → List Value = λ m. concatenated (shard_gives (slice_get ins m) k.out) n.shards in
       let own : List Value = of k.channel in
       let at = λ (m : ℕ). cond (k.channel == m) own [] in
       joined_same
-      (λ m. joined (λ i. cond (k.channel == m) (shard_gives (slice_get ins m) k.out i) []) n.shards)
+      (λ m. concatenated (λ i. cond (k.channel == m) (shard_gives (slice_get ins m) k.out i) [])
+      n.shards)
       at
       (λ m. joined_if (k.channel == m) (shard_gives (slice_get ins m) k.out) n.shards
       ∙ at_own of k.channel m) (length ins)
       ∙ ⊎_elim (λ h. joined_at k.channel own (length ins) h)
       (λ h. joined_before k.channel own (length ins) h
-      ∙ sym (ap (λ o. joined (shard_gives o k.out) n.shards) (slice_get_past ins k.channel h)
+      ∙ sym (ap (λ o. concatenated (shard_gives o k.out) n.shards) (slice_get_past ins k.channel h)
       ∙ joined_nothing n.shards))
       (cases_lt k.channel (length ins))
       ∙ shards_whole (slice_get ins k.channel) k.out
@@ -110,10 +111,11 @@ module _ (w : World) (n : Split) (some : 0 < n.shards) (t : Lists) where
   gathered_whole ins takes =
       let at = λ (m i : ℕ) (k : Take). cond (k.channel == m)
       (task_gives w (map_task_of n t ins m i) k.out) [] in
-      λ u. joined_alike (λ m. joined (λ i. given_to w (map_task_of n t ins m i) m takes) n.shards)
-      (λ m. flat_map (λ k. joined (λ i. at m i k) n.shards) takes)
+      λ u. joined_alike (λ m. concatenated (λ i. given_to w (map_task_of n t ins m i) m takes)
+      n.shards)
+      (λ m. flat_map (λ k. concatenated (λ i. at m i k) n.shards) takes)
       (λ m. joined_each (at m) takes n.shards) (length ins) u
-      ∙ joined_each (λ m k. joined (λ i. at m i k) n.shards) takes (length ins) u
+      ∙ joined_each (λ m k. concatenated (λ i. at m i k) n.shards) takes (length ins) u
       ∙ (λ i. sum_by u (flat_map (λ k. taken_once ins k i) takes))
 
   -- ---- where the lists agree with the collections
@@ -145,7 +147,7 @@ module _ (w : World) (n : Split) (some : 0 < n.shards) (t : Lists) where
         → Alike (map_phase (each_says w q).maps n t s)
         (flat_map (each_in w q) (map (fed m) s.inputs))
     maps_alike q s u =
-        alike_each (λ c. joined (λ i. (each_says w q).maps (map_task n t c i)) n.shards)
+        alike_each (λ c. concatenated (λ i. (each_says w q).maps (map_task n t c i)) n.shards)
         (λ c. each_in w q (fed m c))
         (λ c v. ap (sum_by v) (says_whole q c) ∙ said_alike q c v) s.inputs u
         ∙ ap (sum_by u) (sym (flat_map-map (each_in w q) (fed m) s.inputs))
@@ -156,7 +158,8 @@ module _ (w : World) (n : Split) (some : 0 < n.shards) (t : Lists) where
     channel_agrees None j calm = none_agrees
     channel_agrees (Some c) j calm =
         subst (λ (v : World).
-        Agrees (gives v c.does (list_at t c) j) (output_of (world_of c) (value_of c) c.does j))
+        Agrees (emissions_at v c.does (list_at t c) j) (output_of (world_of c) (value_of c) c.does
+        j))
         (same_world c)
         (output_agrees (world_of c) c.does j (list_at t c) (value_of c) (channel_agree c)
         (calm c refl))

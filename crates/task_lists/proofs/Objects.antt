@@ -13,12 +13,12 @@ use Rattle.flume_collection.specs.Traps.{trap_set}
 use Rattle.shards.proofs.Alike.{bag_alike}
 use Rattle.exec_plan.proofs.of_exec_graph.ActLemmas.{act_holds}
 use Rattle.exec_plan.specs.of_exec_graph.declared.graph.Act.{Act}
-use Rattle.exec_plan.specs.of_exec_graph.Objects.{act_result, beside, called_beside, only, side_input_on, value_in}
+use Rattle.exec_plan.specs.of_exec_graph.Objects.{act_result, world_beside, called_beside, only, side_input_on, value_in}
 use Rattle.exec_plan.specs.of_exec_graph.World.{World}
 use Rattle.exec_plan.specs.Channels.{value_on, world_in}
 use Rattle.exec_plan.specs.declared.plan.PlanPlace.{PlanPlace}
 use Rattle.task_lists.specs.Tasks.{Lists, elements_beside, if_valued, value_beside}
-use Rattle.task_lists.specs.Lists.{calm, object_made}
+use Rattle.task_lists.specs.Lists.{calm_list, object_made}
 use Rattle.task_lists.proofs.Elements.{Agrees, IsBag}
 
 -- ---- what acts make is a bag
@@ -26,7 +26,8 @@ use Rattle.task_lists.proofs.Elements.{Agrees, IsBag}
 side_bag : (w : World) (o f : ℕ) (v : Option Value) (c d : Collection)
     → IsBag (side_input_on w o f v c d)
 side_bag w o f v c d =
-    bag_of-twice (flat_map (λ x. emissions 0 ((beside v w).called f x)) (called_beside v c d).bag)
+    bag_of-twice (flat_map (λ x. emissions 0 ((world_beside v w).called f x))
+    (called_beside v c d).bag)
 
 pub act_bag : (w : World) (o : ℕ) (a : Act) (cs : List Collection) → IsBag (act_result w o a cs)
 act_bag =
@@ -58,7 +59,7 @@ module _ (t : Lists) (m : PlanPlace → Collection) (agree : (c : PlanPlace) →
         sym (only_bag (t c)) ∙ ap only (bag_same c)
         ∙ sym (ap (λ (ts : List Trap). only (unless_trapped ts (m c).bag)) (agree c).calm)
 
-    calm_same : (takes : List PlanPlace) → map (calm t) takes ≡ map m takes
+    calm_same : (takes : List PlanPlace) → map (calm_list t) takes ≡ map m takes
     calm_same [] = refl
     calm_same (c ∷ cs) = λ i. record {
       bag = bag_same c i;
@@ -72,9 +73,9 @@ module _ (t : Lists) (m : PlanPlace → Collection) (agree : (c : PlanPlace) →
 
     -- steps are called in the same world, and on the same elements
     pub world_same : (w : World) (o : Option PlanPlace)
-        → beside (value_beside t o) w ≡ world_in w (option_map m o)
+        → world_beside (value_beside t o) w ≡ world_in w (option_map m o)
     world_same w None = refl
-    world_same w (Some c) = ap (λ (v : Option Value). beside v w) (value_same c)
+    world_same w (Some c) = ap (λ (v : Option Value). world_beside v w) (value_same c)
 
     pub side_agrees : (o : Option PlanPlace) (c : PlanPlace)
         → Agrees (elements_beside t o (t c)) (value_on (m c) (option_map m o))

@@ -13,10 +13,10 @@ use Rattle.bag_groups.specs.Groups.{grouped, keys_of, values_of}
 use Rattle.bag_groups.proofs.Grouping.{grouped-bag_of, grouped-IsSorted}
 use Rattle.bag_groups.proofs.PairLemmas.{parts_of-pair}
 use Rattle.flume_collection.specs.Collection.{Collection, together, unless_trapped}
-use Rattle.shards.specs.Shards.{joined}
+use Rattle.shards.specs.Shards.{concatenated}
 use Rattle.shards.proofs.Alike.{Alike, alike_back, alike_then, alike_append, alike_bag, bag_alike, alike_flat_map, alike_both, alike_each}
 use Rattle.shards.proofs.Joined.{flat_map-joined, joined_alike}
-use Rattle.shuffle_parts.specs.Partitions.{part_of}
+use Rattle.shuffle_parts.specs.Partitions.{pairs_in_part}
 use Rattle.shuffle_parts.proofs.Whole.{parts_whole}
 use Rattle.exec_plan.specs.of_exec_graph.World.{World}
 use Rattle.exec_plan.specs.of_exec_graph.Calls.{trapped}
@@ -30,7 +30,7 @@ use Rattle.exec_plan.specs.Channels.{fed, taken, groups, output_of}
 use Rattle.exec_plan.specs.Meaning.{total_of, out_sum}
 use Rattle.task_lists.specs.Runs.{output_at, visits_of}
 use Rattle.task_lists.specs.Tasks.{Split, Lists, gathered, reduce_task, groupings, reduce_phase}
-use Rattle.task_lists.specs.Lists.{reduced}
+use Rattle.task_lists.specs.Lists.{reduced_lists}
 use Rattle.task_lists.proofs.Elements.{Agrees, each_step, visits_of_total, output_agrees}
 use Rattle.task_lists.proofs.Says.{Each, each_in, each_says, each_parts, each_trap}
 use Rattle.task_lists.proofs.Maps.{gathered_agrees}
@@ -49,9 +49,9 @@ groups_paired pairs =
 
 -- the partitions of groups together have each group
 parts_alike : (n : ℕ) (gs : List Value) → 0 < n → All IsPair gs
-    → Alike (joined (λ p. part_of n p gs) n) gs
+    → Alike (concatenated (λ p. pairs_in_part n p gs) n) gs
 parts_alike n gs some pairs =
-    let parts : List Value = joined (λ p. part_of n p gs) n in
+    let parts : List Value = concatenated (λ p. pairs_in_part n p gs) n in
     alike_then parts (bag_of parts) gs (alike_back (bag_of parts) parts (alike_bag parts))
     (λ u. ap (sum_by u) (parts_whole n gs some pairs) ∙ alike_bag gs u)
 
@@ -98,23 +98,24 @@ module _ (w : World) (n : Split) (some_shards : 0 < n.shards) (some : 0 < n.part
 
   -- partition by partition, or all groups
   reduced_whole : {Y : Type 0} (h : Value → List Y) (g : Grouping)
-      → Alike (joined (λ p. flat_map h (reduce_task w n t s.inputs g p).elements) n.partitions)
+      → Alike (concatenated (λ p. flat_map h (reduce_task w n t s.inputs g p).elements)
+      n.partitions)
       (flat_map h (group_of g).bag)
   reduced_whole h g u =
       let gs : List Value = grouped (gathers g) in
-      let parts = λ (p : ℕ). part_of n.partitions p gs in
+      let parts = λ (p : ℕ). pairs_in_part n.partitions p gs in
       ap (sum_by u) (sym (flat_map-joined h parts n.partitions))
-      ∙ alike_flat_map h (joined parts n.partitions) gs
+      ∙ alike_flat_map h (concatenated parts n.partitions) gs
       (parts_alike n.partitions gs some (groups_paired (gathers g))) u
       ∙ ap (λ l. sum_by u (flat_map h l)) (groups_same g)
 
   pub reduced_agrees : (g : Grouping) (j : ℕ)
       → total_of w (each_step (trapped w)) (group_of g) g.does ≡ []
-      → Agrees (reduced w n t s.inputs g j) (output_of w (group_of g) g.does j)
+      → Agrees (reduced_lists w n t s.inputs g j) (output_of w (group_of g) g.does j)
   reduced_agrees g j none =
       let a = output_agrees w g.does j (group_of g).bag (group_of g) (groups_agree g) none in
       record {
-        same = alike_then (reduced w n t s.inputs g j)
+        same = alike_then (reduced_lists w n t s.inputs g j)
             (flat_map (output_at w g.does j) (group_of g).bag)
             (output_of w (group_of g) g.does j).bag
             (reduced_whole (output_at w g.does j) g) a.same;
@@ -123,7 +124,7 @@ module _ (w : World) (n : Split) (some_shards : 0 < n.shards) (some : 0 < n.part
       }
 
   channel_alike : {Y : Type 0} (q : Each Y) (o : OutChannel)
-      → Alike (by_channel (λ g. joined (λ p. (each_says w q).reduces g
+      → Alike (by_channel (λ g. concatenated (λ p. (each_says w q).reduces g
       (reduce_task w n t s.inputs g p)) n.partitions) o)
       (out_sum w (each_parts w q) (map (fed m) s.inputs) o)
   channel_alike q (Pass k number) = λ u. refl
@@ -146,7 +147,7 @@ module _ (w : World) (n : Split) (some_shards : 0 < n.shards) (some : 0 < n.part
       → Alike (reduce_phase (each_says w q).reduces w n t s)
       (flat_map (out_sum w (each_parts w q) (map (fed m) s.inputs)) s.outputs)
   reduces_alike q u =
-      let says = λ (g : Grouping). joined (λ p. (each_says w q).reduces g
+      let says = λ (g : Grouping). concatenated (λ p. (each_says w q).reduces g
       (reduce_task w n t s.inputs g p)) n.partitions in
       ap (sum_by u) (groupings_each says s.outputs)
       ∙ alike_each (by_channel says) (out_sum w (each_parts w q) (map (fed m) s.inputs))

@@ -24,10 +24,10 @@ use Rattle.exec_plan.specs.declared.plan.OutChannel.TheVariants.{Group, Pass}
 use Rattle.exec_plan.specs.declared.plan.Stage.{Stage}
 use Rattle.exec_plan.specs.declared.plan.Stage.TheVariants.{Mscr, Flatten, Operate}
 use Rattle.exec_plan.specs.declared.plan.Mscr.{Mscr as Channels}
-use Rattle.exec_plan.specs.Channels.{fed, given, groups, numbers, output_of}
+use Rattle.exec_plan.specs.Channels.{fed, channel_gives, groups, output_numbers_of, output_of}
 use Rattle.exec_plan.specs.Meaning.{Parts, total_of, in_sum, out_sum, own_parts, stage_sum, results, with_results}
 use Rattle.task_lists.specs.Tasks.{Split, Lists, map_phase, reduce_phase}
-use Rattle.task_lists.specs.Lists.{object_made, reduced, given_lists, result_lists, with_lists}
+use Rattle.task_lists.specs.Lists.{object_made, reduced_lists, given_lists, result_lists, with_lists}
 use Rattle.task_lists.specs.Plans.{AreFirstBeside, AreStageFirst, stage_tasks}
 use Rattle.task_lists.proofs.Elements.{Agrees, each_step, none_agrees}
 use Rattle.task_lists.proofs.Objects.{act_bag, made_same}
@@ -74,7 +74,7 @@ module _ (w : World) (n : Split) (some_shards : 0 < n.shards) (some : 0 < n.part
       (calm : flat_map (λ (c : InChannel). each_in w each_trap (fed m c)) s.inputs ≡ []) where
     numbered_agree : (g : Grouping)
         → total_of w (each_step (trapped w)) (groups w (map (fed m) s.inputs) g) g.does ≡ []
-        → (js : List ℕ) → AgreeAll (map (reduced w n t s.inputs g) js)
+        → (js : List ℕ) → AgreeAll (map (reduced_lists w n t s.inputs g) js)
         (map (output_of w (groups w (map (fed m) s.inputs) g) g.does) js)
     numbered_agree g none [] = tt
     numbered_agree g none (j ∷ js) = (
@@ -84,25 +84,26 @@ module _ (w : World) (n : Split) (some_shards : 0 < n.shards) (some : 0 < n.part
 
     channel_agree : (o : OutChannel)
         → out_sum w (each_parts w each_trap) (map (fed m) s.inputs) o ≡ []
-        → AgreeAll (given_lists w n t s.inputs o) (given w (map (fed m) s.inputs) o)
+        → AgreeAll (given_lists w n t s.inputs o) (channel_gives w (map (fed m) s.inputs) o)
     channel_agree (Pass k number) none =
         (passed_agrees w n some_shards t m agree s.inputs calm k, tt)
     channel_agree (Group g) none =
         let made = groups w (map (fed m) s.inputs) g in
         numbered_agree g
         (append_empty (flat_map (λ x. []) made.bag)
-        (total_of w (each_step (trapped w)) made g.does) none).1 (numbers g.does)
+        (total_of w (each_step (trapped w)) made g.does) none).1 (output_numbers_of g.does)
 
     channels_agree : (outs : List OutChannel)
         → flat_map (out_sum w (each_parts w each_trap) (map (fed m) s.inputs)) outs ≡ []
         → AgreeAll (flat_map (given_lists w n t s.inputs) outs)
-        (flat_map (given w (map (fed m) s.inputs)) outs)
+        (flat_map (channel_gives w (map (fed m) s.inputs)) outs)
     channels_agree [] none = tt
     channels_agree (o ∷ os) none =
         let sums = out_sum w (each_parts w each_trap) (map (fed m) s.inputs) in
         let each = append_empty (sums o) (flat_map sums os) none in
         agree_append (given_lists w n t s.inputs o) (flat_map (given_lists w n t s.inputs) os)
-        (given w (map (fed m) s.inputs) o) (flat_map (given w (map (fed m) s.inputs)) os)
+        (channel_gives w (map (fed m) s.inputs) o) (flat_map
+        (channel_gives w (map (fed m) s.inputs)) os)
         (channel_agree o each.0) (channels_agree os each.1)
 
   -- ---- a Flatten stage

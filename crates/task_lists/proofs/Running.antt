@@ -15,7 +15,7 @@ use Rattle.exec_plan.specs.declared.plan.Stage.{Stage}
 use Rattle.exec_plan.specs.declared.plan.Stage.TheVariants.{Mscr, Flatten, Operate}
 use Rattle.exec_plan.specs.declared.plan.Plan.{Plan}
 use Rattle.exec_plan.specs.Channels.{fed}
-use Rattle.exec_plan.specs.Meaning.{Parts, channels_sum, in_reads, stage_sum, object_places, results, with_results, run, sources, plan_collection}
+use Rattle.exec_plan.specs.Meaning.{Parts, channels_sum, in_reads, stage_sum, object_places, results, with_results, stages_run, sources, plan_collection}
 use Rattle.exec_plan.specs.Wellformed.{IsPlaceSoFar, IsStageOk, AreStages, IsPlanOk, results_at}
 use Rattle.exec_plan.proofs.Running.{IsBelow, run_below}
 
@@ -84,10 +84,10 @@ next_place before s k e = let l = length-append before (s ∷ []) in omega (arit
 
 sum_whole : {Y : Type 0} (w : World) (p : Parts Y) (n : ℕ) (before ss : List Stage)
     (m : PlanPlace → Collection) (k : ℕ) → k ≡ suc (length before) → AreStages n before ss
-    → sum_from w p k ss m ≡ flat_map (stage_sum w p (run w k ss m)) ss
+    → sum_from w p k ss m ≡ flat_map (stage_sum w p (stages_run w k ss m)) ss
 sum_whole w p n before [] m k e ok = refl
 sum_whole w p n before (s ∷ ss) m k e ok =
-    let final : PlanPlace → Collection = run w k (s ∷ ss) m in
+    let final : PlanPlace → Collection = stages_run w k (s ∷ ss) m in
     let here : stage_sum w p m s ≡ stage_sum w p final s =
     stage_same w n before m final
     (λ c made. sym (run_below w k (s ∷ ss) m c (made_below n before k c e made))) p s ok.0 in

@@ -14,7 +14,7 @@ use Rattle.exec_plan.specs.of_exec_graph.Forests.{Label, Forest, Bare, Grow}
 use Rattle.exec_plan.specs.of_exec_graph.Meaning.{through, total}
 use Rattle.exec_plan.specs.Channels.{Fed, value_on, world_in}
 use Rattle.exec_plan.specs.Meaning.{Parts, fed_sum, in_sum, own_parts, total_of}
-use Rattle.task_lists.specs.Runs.{labels_in, visits_of, traps_of}
+use Rattle.task_lists.specs.Runs.{labels_in, visits_of, traps_in_order}
 use Rattle.task_lists.specs.Tasks.{world_for}
 use Rattle.task_lists.specs.Plans.{AreFirstBeside, SaysOfTasks, task_traps}
 use Rattle.task_lists.proofs.Elements.{each_step}
@@ -56,10 +56,10 @@ each_trap = record { steps = trapped; groups = λ o l x. []; objects = λ o l c.
 
 pub traps_each : (w : World) → task_traps w ≡ each_says w each_trap
 traps_each w = λ i. record {
-  maps = λ task. traps_of (world_for w task) task.does task.elements;
+  maps = λ task. traps_in_order (world_for w task) task.does task.elements;
   reduces = λ g task.
       (sym (flat_map-nothing {Y = Trap} task.elements) i)
-      ++ traps_of (world_for w task) task.does task.elements;
+      ++ traps_in_order (world_for w task) task.does task.elements;
   objects = λ o l c. c.traps;
 }
 

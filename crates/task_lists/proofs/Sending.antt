@@ -12,13 +12,13 @@ use Rattle.combine_table.specs.declared.comb.Comb.{Comb}
 use Rattle.shuffle_parts.specs.of_partial_tables.Merges.{StandFor, merged_by_key, finished_each, combined_groups}
 use Rattle.shuffle_parts.proofs.of_partial_tables.Merged.{merged-accumulated}
 use Rattle.shuffle_parts.proofs.of_partial_tables.Finishing.{finished-accumulated}
-use Rattle.shards.specs.Shards.{joined}
+use Rattle.shards.specs.Shards.{concatenated}
 use Rattle.shards.proofs.Joined.{flat_map-joined, joined_same}
 use Rattle.shuffle_parts.specs.declared.out.MapOut.{MapOut}
 use Rattle.shuffle_parts.specs.declared.out.Sent.{Sent}
 use Rattle.shuffle_parts.specs.declared.out.Sent.TheVariants.{Passed}
 use Rattle.shuffle_parts.specs.Outs.{sent_at, passed_at, passed_in, all_passed, all_pairs, all_partials, ArePairsOf, ArePartialsOf}
-use Rattle.shuffle_parts.specs.Partitions.{is_in, part_of}
+use Rattle.shuffle_parts.specs.Partitions.{is_in_part, pairs_in_part}
 use Rattle.shuffle_parts.proofs.Finding.{found_zip}
 use Rattle.shuffle_parts.proofs.Gathered.{all_pairs-are, all_partials-stand}
 use Rattle.shuffle_parts.proofs.Passing.{grouped-passing}
@@ -55,7 +55,7 @@ module _ (w : World) (n : Split) (t : Lists) (s : Mscr) (outs : List MapOut) (r 
       flat_map-joined itself (λ k. given_by takes k ∷ []) (length outs)
       ∙ joined_same (λ k. flat_map itself (given_by takes k ∷ [])) (given_by takes)
       (λ k. append-nil (given_by takes k)) (length outs)
-      ∙ ap (joined (given_by takes)) made.count
+      ∙ ap (concatenated (given_by takes)) made.count
       ∙ joined_two (λ m i. given_to w (map_task_of n t s.inputs m i) m takes) (length s.inputs)
       n.shards some
 
@@ -116,23 +116,24 @@ module _ (w : World) (n : Split) (t : Lists) (s : Mscr) (outs : List MapOut) (r 
   -- all pairs of the partition
   pub pairs_whole : (p : ℕ) (g : Grouping) → p < n.partitions
       → slice_get s.outputs r ≡ Some (Group g) → g.lifted ≡ None
-      → all_pairs outs r p ≡ Some (part_of n.partitions p (gathered w n t s.inputs g.takes))
+      → all_pairs outs r p ≡ Some (pairs_in_part n.partitions p (gathered w n t s.inputs g.takes))
   pairs_whole p g below at unlifted =
       let P = n.partitions in
       all_pairs-are P r p outs (listed (given_by g.takes) (length outs)) below
       (zipped (Group g) g.takes (λ out pairs. ArePairsOf P (sent_at r out) pairs) at
       (λ k out sent. pairs_are (sent_at r out) P (given_by g.takes k) g.lifted unlifted sent))
-      ∙ ap (λ l. Some (part_of P p l)) (given_all g.takes)
+      ∙ ap (λ l. Some (pairs_in_part P p l)) (given_all g.takes)
 
   -- accumulators that stand for them
   pub partials_whole : (p : ℕ) (g : Grouping) (c : Comb) → p < n.partitions
       → slice_get s.outputs r ≡ Some (Group g) → g.lifted ≡ Some c
       → IsSomeAnd (all_partials outs r p) (λ partials. StandFor c partials
-      (pairs_of (part_of n.partitions p (gathered w n t s.inputs g.takes))))
+      (pairs_of (pairs_in_part n.partitions p (gathered w n t s.inputs g.takes))))
   partials_whole p g c below at lifted =
       let P = n.partitions in
       subst
-      (λ l. IsSomeAnd (all_partials outs r p) (λ ps. StandFor c ps (pairs_of (part_of P p l))))
+      (λ l. IsSomeAnd (all_partials outs r p) (λ ps. StandFor c ps
+      (pairs_of (pairs_in_part P p l))))
       (given_all g.takes)
       (all_partials-stand c P r p outs (listed (given_by g.takes) (length outs)) below
       (zipped (Group g) g.takes (λ out pairs. ArePartialsOf c P (sent_at r out) pairs) at
@@ -145,7 +146,7 @@ module _ (w : World) (n : Split) (t : Lists) (s : Mscr) (outs : List MapOut) (r 
   groups_whole p g below at unlifted =
       subst (λ o. IsSomeAnd o (λ l. grouped l ≡ (reduce_task w n t s.inputs g p).elements))
       (sym (pairs_whole p g below at unlifted))
-      (grouped-passing (is_in n.partitions p) (gathered w n t s.inputs g.takes))
+      (grouped-passing (is_in_part n.partitions p) (gathered w n t s.inputs g.takes))
 
   pub combined_whole : (p : ℕ) (g : Grouping) (c : Comb) → p < n.partitions
       → slice_get s.outputs r ≡ Some (Group g) → g.lifted ≡ Some c
@@ -153,14 +154,14 @@ module _ (w : World) (n : Split) (t : Lists) (s : Mscr) (outs : List MapOut) (r 
       ≡ combined_groups c (groups_in (reduce_task w n t s.inputs g p).elements))
   combined_whole p g c below at lifted =
       let all : List Value = gathered w n t s.inputs g.takes in
-      let pairs : List Value = part_of n.partitions p all in
+      let pairs : List Value = pairs_in_part n.partitions p all in
       some_weaker (λ l. StandFor c l (pairs_of pairs))
       (λ l. finished_each c (merged_by_key c l)
       ≡ combined_groups c (groups_in (reduce_task w n t s.inputs g p).elements))
       (λ l stand.
       ap (finished_each c) (merged-accumulated c l (pairs_of pairs) stand)
       ∙ finished-accumulated c pairs
-      ∙ ap (λ l. combined_groups c (groups_in l)) (grouped-passing (is_in n.partitions p) all))
+      ∙ ap (λ l. combined_groups c (groups_in l)) (grouped-passing (is_in_part n.partitions p) all))
       (all_partials outs r p) (partials_whole p g c below at lifted)
 
   -- so the root of a lifted reducer answers of the groups what their accumulators finish as
@@ -171,7 +172,7 @@ module _ (w : World) (n : Split) (t : Lists) (s : Mscr) (outs : List MapOut) (r 
       ≡ map (called w (does.Combine c)) (reduce_task w n t s.inputs g p).elements)
   answered_whole p g c below at lifted =
       let all : List Value = gathered w n t s.inputs g.takes in
-      let same = grouped-passing (is_in n.partitions p) all in
+      let same = grouped-passing (is_in_part n.partitions p) all in
       some_weaker
       (λ l. finished_each c (merged_by_key c l)
       ≡ combined_groups c (groups_in (reduce_task w n t s.inputs g p).elements))
@@ -180,6 +181,6 @@ module _ (w : World) (n : Split) (t : Lists) (s : Mscr) (outs : List MapOut) (r 
       (λ l finished.
       ap answers_of finished
       ∙ ap (λ l. answers_of (combined_groups c (groups_in l))) (sym same)
-      ∙ groups_answered w c (part_of n.partitions p all)
+      ∙ groups_answered w c (pairs_in_part n.partitions p all)
       ∙ ap (map (called w (does.Combine c))) same)
       (all_partials outs r p) (combined_whole p g c below at lifted)

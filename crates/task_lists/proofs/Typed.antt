@@ -11,12 +11,12 @@ use Rattle.flume_types.specs.declared.types.Ty.{Ty}
 use Rattle.flume_types.specs.Typing.{Has, AllHave}
 use Rattle.bag_groups.specs.Groups.{grouped}
 use Rattle.exec_plan.proofs.of_keyed_steps.TypedFacts.{groups_have}
-use Rattle.shards.specs.Shards.{joined, shard, begins}
+use Rattle.shards.specs.Shards.{concatenated, shard, begins}
 use Rattle.shuffle_parts.specs.Partitions.{falls_in}
 use Rattle.exec_plan.specs.of_exec_graph.World.{World}
 use Rattle.exec_plan.specs.of_exec_graph.Calls.{emitted}
 use Rattle.exec_plan.specs.of_exec_graph.Forests.{Forest, Bare, Grow}
-use Rattle.exec_plan.specs.of_exec_graph.Objects.{beside, only}
+use Rattle.exec_plan.specs.of_exec_graph.Objects.{world_beside, only}
 use Rattle.exec_plan.specs.of_exec_graph.Meaning.{is_out, has_out, place}
 use Rattle.exec_plan.specs.of_exec_graph.declared.graph.Place.{Place}
 use Rattle.exec_plan.specs.of_exec_graph.Typing.{Signatures, OutTyped, ForestTyped, IsWorldTyped}
@@ -26,11 +26,11 @@ use Rattle.exec_plan.specs.declared.plan.PlanPlace.TheVariants as at
 use Rattle.exec_plan.specs.declared.plan.Take.{Take}
 use Rattle.exec_plan.specs.declared.plan.InChannel.{InChannel}
 use Rattle.exec_plan.specs.declared.plan.Grouping.{Grouping}
-use Rattle.exec_plan.specs.Wellformed.{Exists, outs_at, outs as outs_count}
-use Rattle.exec_plan.specs.Typing.{BesideTyped, ChannelTyped, InTyped, InsTyped, IsSideTyped, take_type, types_from, GroupTyped}
-use Rattle.task_lists.specs.Runs.{out_at, gives}
+use Rattle.exec_plan.specs.Wellformed.{Exists, outputs_count_at, count_of_outputs as outs_count}
+use Rattle.exec_plan.specs.Typing.{BesideTyped, ChannelTyped, InTyped, InsTyped, IsSideTyped, take_type, stage_types, GroupTyped}
+use Rattle.task_lists.specs.Runs.{out_at, emissions_at}
 use Rattle.task_lists.specs.Tasks.{Split, Lists, elements_beside, if_valued, value_beside, task_gives, no_task, map_task, map_task_of, given_to, gathered, reduce_task}
-use Rattle.task_lists.specs.Lists.{reduced}
+use Rattle.task_lists.specs.Lists.{reduced_lists}
 use Rattle.task_lists.specs.Typing.{AreListsTyped, IsTaskTyped, StepsTyped}
 use Rattle.task_lists.proofs.TypedSides.{only_has, side_emits, valued_have}
 
@@ -44,9 +44,9 @@ each_flat P Q f h (x ∷ xs) a =
     Each-append Q (f x) (flat_map f xs) (h x a.0) (each_flat P Q f h xs a.1)
 
 pub each_joined : (Q : Value → Type 0) (f : ℕ → List Value) → ((i : ℕ) → AllByRecursion Q (f i))
-    → (n : ℕ) → AllByRecursion Q (joined f n)
+    → (n : ℕ) → AllByRecursion Q (concatenated f n)
 each_joined Q f h zero = tt
-each_joined Q f h (suc n) = Each-append Q (joined f n) (f n) (each_joined Q f h n) (h n)
+each_joined Q f h (suc n) = Each-append Q (concatenated f n) (f n) (each_joined Q f h n) (h n)
 
 pub each_shard : (Q : Value → Type 0) (s i : ℕ) (xs : List Value) → AllByRecursion Q xs
     → AllByRecursion Q (shard s i xs)
@@ -102,7 +102,7 @@ module _ (s : Signatures) (w : World) (world : IsWorldTyped s w) where
 
   gives_typed : (outs : Place → Ty) (n : ℕ) (t : Ty) (f : Option Forest) (j : ℕ)
       → IsOutput f j → ChannelTyped s outs n t f → (xs : List Value) → AllByRecursion (Has t) xs
-      → AllByRecursion (Has (outs (place n j))) (gives w f xs j)
+      → AllByRecursion (Has (outs (place n j))) (emissions_at w f xs j)
   gives_typed outs n t None j first typed xs h =
       each_flat (Has t) (Has (outs (place n j))) (λ x. x ∷ [])
       (λ x i. (
@@ -117,9 +117,9 @@ module _ (s : Signatures) (w : World) (world : IsWorldTyped s w) where
 
   side_typed : (outs : Place → Ty) (n : ℕ) (t object : Ty) (v : Value) → Has object v
       → (f : Forest) → IsSideTyped s outs n t object f → (j : ℕ) (x : Value) → Has t x
-      → AllByRecursion (Has (outs (place n j))) (out_at (beside (Some v) w) f j x)
+      → AllByRecursion (Has (outs (place n j))) (out_at (world_beside (Some v) w) f j x)
   side_typed outs n t object v held f typed j x h =
-      let b : World = beside (Some v) w in
+      let b : World = world_beside (Some v) w in
       let Q : Value → Type 0 = Has (outs (place n j)) in
       let emits = side_emits s w world outs n t object v held f typed x h in
       subst (λ (g : Forest). AllByRecursion Q (out_at b g j x)) (sym typed.alone)
@@ -137,18 +137,18 @@ module _ (s : Signatures) (w : World) (world : IsWorldTyped s w) where
   gives_beside : (outs : Place → Ty) (n : ℕ) (t : Ty) (v : Option Value) (f : Option Forest)
       (j : ℕ) → IsOutput f j → StepsTyped s outs n t v f → (xs : List Value)
       → AllByRecursion (Has t) xs
-      → AllByRecursion (Has (outs (place n j))) (gives (beside v w) f xs j)
+      → AllByRecursion (Has (outs (place n j))) (emissions_at (world_beside v w) f xs j)
   gives_beside outs n t None f j first typed xs h = gives_typed outs n t f j first typed xs h
   gives_beside outs n t (Some v) None j first typed xs h = absurd typed.2
   gives_beside outs n t (Some v) (Some f) j first typed xs h =
-      each_flat (Has t) (Has (outs (place n j))) (out_at (beside (Some v) w) f j)
+      each_flat (Has t) (Has (outs (place n j))) (out_at (world_beside (Some v) w) f j)
       (side_typed outs n t typed.0 v typed.1 f typed.2 j) xs h
 
   -- of elements, if there are any
   gives_each : (outs : Place → Ty) (n : ℕ) (t : Ty) (v : Option Value) (f : Option Forest)
       (j : ℕ) → IsOutput f j → (xs : List Value)
       → (0 < length xs → StepsTyped s outs n t v f) → AllByRecursion (Has t) xs
-      → AllByRecursion (Has (outs (place n j))) (gives (beside v w) f xs j)
+      → AllByRecursion (Has (outs (place n j))) (emissions_at (world_beside v w) f xs j)
   gives_each outs n t v f j first [] typed h = tt
   gives_each outs n t v f j first (x ∷ xs) typed h =
       gives_beside outs n t v f j first (typed (omega arith)) (x ∷ xs) h
@@ -245,7 +245,7 @@ module _ (s : Signatures) (w : World) (world : IsWorldTyped s w) where
         (task_gives w (map_task_of n t ins k.channel i) k.out)
     taken_typed k i there =
         elim (slice_get ins k.channel) as
-        (λ o. slice_get ins k.channel ≡ o → k.out < outs_at o
+        (λ o. slice_get ins k.channel ≡ o → k.out < outputs_count_at o
         → AllByRecursion (Has (take_type outs k))
         (task_gives w (option_map_or (λ c. map_task n t c i) o no_task) k.out)) [
           | None ↦ λ e below. tt
@@ -287,7 +287,7 @@ module _ (s : Signatures) (w : World) (world : IsWorldTyped s w) where
         → AllByRecursion (Has pairs) (gathered w n t ins takes)
     gathered_typed pairs takes there fit =
         each_joined (Has pairs)
-        (λ m. joined (λ i. given_to w (map_task_of n t ins m i) m takes) n.shards)
+        (λ m. concatenated (λ i. given_to w (map_task_of n t ins m i) m takes) n.shards)
         (λ m. each_joined (Has pairs) (λ i. given_to w (map_task_of n t ins m i) m takes)
         (λ i. given_typed pairs m i takes there fit) n.shards) (length ins)
 
@@ -310,7 +310,7 @@ module _ (s : Signatures) (w : World) (world : IsWorldTyped s w) where
         → AllByRecursion (Exists ins) g.takes → IsTaskTyped s (reduce_task w n t ins g p)
     reduce_typed k g p gt there = record {
       element = gt.groups;
-      outs = types_from types k g.first;
+      outs = stage_types types k g.first;
       node = 0;
       members = All-from_recursion (Has gt.groups) (reduce_task w n t ins g p).elements
           (groups_typed k g p gt there);
@@ -319,9 +319,9 @@ module _ (s : Signatures) (w : World) (world : IsWorldTyped s w) where
 
     pub reduced_typed : (k : ℕ) (g : Grouping) (j : ℕ) → GroupTyped s types outs k g
         → AllByRecursion (Exists ins) g.takes → IsOutput g.does j
-        → AllByRecursion (Has (types (at.Result k (g.first + j)))) (reduced w n t ins g j)
+        → AllByRecursion (Has (types (at.Result k (g.first + j)))) (reduced_lists w n t ins g j)
     reduced_typed k g j gt there first =
         each_joined (Has (types (at.Result k (g.first + j))))
         (λ p. task_gives w (reduce_task w n t ins g p) j)
-        (λ p. gives_typed (types_from types k g.first) 0 gt.groups g.does j first gt.reduced
+        (λ p. gives_typed (stage_types types k g.first) 0 gt.groups g.does j first gt.reduced
         (reduce_task w n t ins g p).elements (groups_typed k g p gt there)) n.partitions

@@ -9,7 +9,7 @@ use Rattle.flume_types.specs.declared.types.Ty.{Ty}
 use Rattle.flume_types.specs.Typing.{Has, AllHave}
 use Rattle.flume_collection.specs.Calls.{or_none}
 use Rattle.exec_plan.specs.of_exec_graph.World.{World}
-use Rattle.exec_plan.specs.of_exec_graph.Forests.{Forest, Bare, Grow, after_out, after, new_out, numbered}
+use Rattle.exec_plan.specs.of_exec_graph.Forests.{Forest, Bare, Grow, after_out, next_after, new_out, numbered}
 use Rattle.exec_plan.specs.of_exec_graph.declared.graph.Place.{Place}
 use Rattle.exec_plan.specs.of_exec_graph.Typing.{Signatures, IsWorldTyped}
 use Rattle.exec_plan.proofs.of_exec_graph.Barriers.{barrier_typed}
@@ -22,12 +22,12 @@ use Rattle.exec_plan.specs.declared.plan.OutChannel.TheVariants.{Group, Pass}
 use Rattle.exec_plan.specs.declared.plan.Plan.{Plan}
 use Rattle.exec_plan.specs.declared.plan.Stage.{Stage}
 use Rattle.exec_plan.specs.declared.plan.Stage.TheVariants.{Mscr, Flatten, Operate}
-use Rattle.exec_plan.specs.Channels.{kept_out, outs_of, numbers}
+use Rattle.exec_plan.specs.Channels.{kept_out, outs_of, output_numbers_of}
 use Rattle.exec_plan.specs.Typing.{AreStagesTyped, InTyped, InsTyped, IsPlanTyped, take_type, GroupTyped, OutChannelTyped, StageTyped}
-use Rattle.exec_plan.specs.Wellformed.{AreOutChannels, Exists, IsNumbered, IsStageOk, is_pass, outs, width}
+use Rattle.exec_plan.specs.Wellformed.{AreOutChannels, Exists, IsNumbered, IsStageOk, is_pass, count_of_outputs, results_given}
 use Rattle.exec_plan.proofs.Meeting.{map-length, outs_counted}
 use Rattle.task_lists.specs.Tasks.{Split, Lists, gathered}
-use Rattle.task_lists.specs.Lists.{calm, reduced, given_lists, result_lists, source_lists, with_lists}
+use Rattle.task_lists.specs.Lists.{calm_list, reduced_lists, given_lists, result_lists, source_lists, with_lists}
 use Rattle.task_lists.specs.Plans.{AreFirstBeside, AreSidesFirst, AreStageFirst}
 use Rattle.task_lists.specs.Runs.{labels_of}
 use Rattle.task_lists.specs.Typing.{AreListsTyped}
@@ -58,11 +58,11 @@ one_more m None = omega arith
 one_more m (Some j) = refl
 
 outs_numbered : (m : ℕ) (f : Forest)
-    → (m + length (outs_of (numbered m f)) ≡ after m f) × AreFrom m (outs_of (numbered m f))
+    → (m + length (outs_of (numbered m f)) ≡ next_after m f) × AreFrom m (outs_of (numbered m f))
 outs_numbered m Bare = (omega arith, tt)
 outs_numbered m (Grow l kids rest) =
     let first : ℕ = after_out m l.out in
-    let second : ℕ = after first kids in
+    let second : ℕ = next_after first kids in
     let here = kept_out (new_out m l.out) in
     let below = outs_of (numbered first kids) in
     let beside = outs_of (numbered second rest) in
@@ -82,11 +82,11 @@ outs_numbered m (Grow l kids rest) =
           (subst (λ n. AreFrom n beside) (sym kid.0) other.1))),
     )
 
-pub numbers_from : (f : Option Forest) → IsNumbered f → AreFrom 0 (numbers f)
+pub numbers_from : (f : Option Forest) → IsNumbered f → AreFrom 0 (output_numbers_of f)
 numbers_from None ok = (refl, tt)
 numbers_from (Some f) ok = subst (λ g. AreFrom 0 (outs_of g)) ok (outs_numbered 0 f).1
 
-numbers_are : (f : Option Forest) → AllByRecursion (IsOutput f) (numbers f)
+numbers_are : (f : Option Forest) → AllByRecursion (IsOutput f) (output_numbers_of f)
 numbers_are None = (refl, tt)
 numbers_are (Some f) = all (outs_of f)
   where
@@ -137,7 +137,7 @@ module _ (types : PlanPlace → Ty) (k : ℕ) where
 
 -- ---- the results of a stage
 
-numbers_count : (f : Option Forest) → length (numbers f) ≡ outs f
+numbers_count : (f : Option Forest) → length (output_numbers_of f) ≡ count_of_outputs f
 numbers_count None = refl
 numbers_count (Some f) = outs_counted f
 
@@ -145,9 +145,9 @@ module _ (s : Signatures) (w : World) (world : IsWorldTyped s w) (types : PlanPl
     (n : Split) (t : Lists) (lists : AreListsTyped types t) (k : ℕ) where
   module _ (ins : List InChannel) (given : Place → Ty) (typed : InsTyped s types given 0 ins)
     where
-      lists_count : (o : OutChannel) → length (given_lists w n t ins o) ≡ width o
+      lists_count : (o : OutChannel) → length (given_lists w n t ins o) ≡ results_given o
       lists_count (Group g) =
-          map-length (reduced w n t ins g) (numbers g.does) ∙ numbers_count g.does
+          map-length (reduced_lists w n t ins g) (output_numbers_of g.does) ∙ numbers_count g.does
       lists_count (Pass i number) = refl
 
       outs_typed : (passed : Bool) (m : ℕ) (os : List OutChannel) → AreOutChannels ins passed m os
@@ -168,23 +168,24 @@ module _ (s : Signatures) (w : World) (world : IsWorldTyped s w) (types : PlanPl
       outs_typed passed m (Group g ∷ os) ok fit =
           let each : (js : List ℕ) → AllByRecursion (IsOutput g.does) js
           → AllByRecursion (λ j. AllByRecursion (Has (types (at.Result k (g.first + j))))
-          (reduced w n t ins g j)) js = all_reduced g fit.0 ok.0.takes in
+          (reduced_lists w n t ins g j)) js = all_reduced g fit.0 ok.0.takes in
           let start : g.first + 0 ≡ m = omega (arith, ok.0.first) in
           let here : TypedFrom types k m (given_lists w n t ins (Group g)) =
           subst (λ j. TypedFrom types k j (given_lists w n t ins (Group g))) start
-          (typed_map types k g.first 0 (reduced w n t ins g) (numbers g.does)
-          (numbers_from g.does ok.0.steps) (each (numbers g.does) (numbers_are g.does))) in
+          (typed_map types k g.first 0 (reduced_lists w n t ins g) (output_numbers_of g.does)
+          (numbers_from g.does ok.0.steps) (each (output_numbers_of g.does) (numbers_are g.does)))
+          in
           typed_append types k m (given_lists w n t ins (Group g))
           (flat_map (given_lists w n t ins) os) here
           (subst (λ l. TypedFrom types k (m + l) (flat_map (given_lists w n t ins) os))
           (sym (lists_count (Group g)))
-          (outs_typed (passed || is_pass (Group g)) (m + width (Group g)) os ok.1 fit.1))
+          (outs_typed (passed || is_pass (Group g)) (m + results_given (Group g)) os ok.1 fit.1))
         where
           all_reduced : (g : Grouping) → GroupTyped s types given k g
               → AllByRecursion (Exists ins) g.takes → (js : List ℕ)
               → AllByRecursion (IsOutput g.does) js
               → AllByRecursion (λ j. AllByRecursion (Has (types (at.Result k (g.first + j))))
-              (reduced w n t ins g j)) js
+              (reduced_lists w n t ins g j)) js
           all_reduced g gt there [] are = tt
           all_reduced g gt there (j ∷ js) are = (
             reduced_typed s w world types n t lists ins given typed k g j gt there are.0,
@@ -208,7 +209,7 @@ module _ (s : Signatures) (w : World) (world : IsWorldTyped s w) (types : PlanPl
   results_typed sources before (Flatten takes) fit ok = (takes_typed takes fit, tt)
   results_typed sources before (Operate takes o l a) fit ok = (
     barrier_typed s w world o a (map types takes) (types (at.Result k 0)) fit
-        (map (calm t) takes) (calm_good types t lists takes),
+        (map (calm_list t) takes) (calm_good types t lists takes),
     tt,
   )
 

@@ -11,7 +11,7 @@ use Rattle.flume_types.proofs.PartLemmas.{has_record}
 use Rattle.flume_collection.specs.Calls.{Called, emissions, or_none}
 use Rattle.exec_plan.specs.of_exec_graph.Calls.{called, emitted}
 use Rattle.exec_plan.specs.of_exec_graph.Forests.{Forest}
-use Rattle.exec_plan.specs.of_exec_graph.Objects.{beside, naming, only}
+use Rattle.exec_plan.specs.of_exec_graph.Objects.{world_beside, naming, only}
 use Rattle.exec_plan.specs.of_exec_graph.Typing.{EmitsTyped, IsRecord, IsWorldTyped, Signatures}
 use Rattle.exec_plan.specs.of_exec_graph.World.{World}
 use Rattle.exec_plan.specs.of_exec_graph.Meaning.{place}
@@ -21,7 +21,7 @@ use Rattle.exec_plan.proofs.of_exec_graph.Barriers.{AllGood}
 use Rattle.exec_plan.proofs.of_exec_graph.StepFacts.{called_is}
 use Rattle.exec_plan.specs.declared.plan.PlanPlace.{PlanPlace}
 use Rattle.exec_plan.specs.Typing.{IsSideTyped}
-use Rattle.task_lists.specs.Lists.{calm}
+use Rattle.task_lists.specs.Lists.{calm_list}
 use Rattle.task_lists.specs.Tasks.{Lists, if_valued}
 use Rattle.task_lists.specs.Typing.{AreListsTyped}
 
@@ -40,7 +40,7 @@ valued_have P (Some v) xs a = a
 
 -- the collections of lists have the lists' types
 pub calm_good : (types : PlanPlace → Ty) (t : Lists) → AreListsTyped types t
-    → (takes : List PlanPlace) → AllGood (map types takes) (map (calm t) takes)
+    → (takes : List PlanPlace) → AllGood (map types takes) (map (calm_list t) takes)
 calm_good types t lists [] = tt
 calm_good types t lists (c ∷ cs) = (
   Each-bag_of (Has (types c)) (t c) (each_from (Has (types c)) (t c) (lists c)),
@@ -77,10 +77,10 @@ module _ (s : Signatures) (w : World) (world : IsWorldTyped s w) (outs : Place �
   side_takes x h = pair_has t object (s.takes typed.function) typed.typed.0 x v h held
 
   pub side_emits : (x : Value) → Has t x → AllByRecursion (Has (outs (place n 0)))
-      (emitted (beside (Some v) w) typed.label x)
+      (emitted (world_beside (Some v) w) typed.label x)
   side_emits x h =
       let u : Ty = outs (place n 0) in
-      let b : World = beside (Some v) w in
+      let b : World = world_beside (Some v) w in
       let pair : Value = value.Rec (x ∷ (v ∷ [])) in
       let same : emitted b typed.label x ≡ emissions 0 (b.called typed.function x) =
       (λ i. emissions (typed.first i) (called b (typed.calls i) x))

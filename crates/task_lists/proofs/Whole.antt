@@ -14,11 +14,11 @@ use Rattle.exec_plan.specs.declared.plan.PlanPlace.{PlanPlace}
 use Rattle.exec_plan.specs.declared.plan.PlanPlace.TheVariants as at
 use Rattle.exec_plan.specs.declared.plan.Stage.{Stage}
 use Rattle.exec_plan.specs.declared.plan.Plan.{Plan}
-use Rattle.exec_plan.specs.Meaning.{stage_sum, results, with_results, run, sources, plan_collection, own_parts, trap_parts, emitted_by, plan_traps}
+use Rattle.exec_plan.specs.Meaning.{stage_sum, results, with_results, stages_run, sources, plan_collection, own_parts, trap_parts, emitted_by, plan_traps}
 use Rattle.exec_plan.specs.Wellformed.{IsPlanOk}
 use Rattle.task_lists.specs.Tasks.{Split, Lists}
 use Rattle.task_lists.specs.Lists.{result_lists, with_lists, run_lists, source_lists, lists}
-use Rattle.task_lists.specs.Plans.{AreSidesFirst, AreStageFirst, stage_tasks, tasks_from, all_tasks, task_traps, first_trap, task_counts, size_of}
+use Rattle.task_lists.specs.Plans.{AreSidesFirst, AreStageFirst, stage_tasks, tasks_from, all_tasks, task_traps, first_trap, task_counts, counted_size}
 use Rattle.task_lists.proofs.Elements.{Agrees, none_agrees}
 use Rattle.task_lists.proofs.Says.{each_says, each_trap, each_own, traps_each}
 use Rattle.task_lists.proofs.Trapping.{first_of_both}
@@ -51,7 +51,8 @@ module _ (w : World) (n : Split) (some_shards : 0 < n.shards) (some : 0 < n.part
       (traps_from (suc k) ss (next k s t)) none
 
   lists_agree : (k : ℕ) (ss : List Stage) (t : Lists) (m : PlanPlace → Collection)
-      → AllAgree t m → traps_from k ss t ≡ [] → AllAgree (run_lists w n k ss t) (run w k ss m)
+      → AllAgree t m → traps_from k ss t ≡ []
+      → AllAgree (run_lists w n k ss t) (stages_run w k ss m)
   lists_agree k [] t m agree none = agree
   lists_agree k (s ∷ ss) t m agree none =
       let each = apart k s ss t none in
@@ -123,7 +124,7 @@ module _ (w : World) (n : Split) (some_shards : 0 < n.shards) (some : 0 < n.part
 
   -- and the tasks count the members of each script node's bag
   pub sizes_whole : (p : Plan) → AreSidesFirst p → IsPlanOk p → first_trap w n p ≡ None
-      → (i : ℕ) → size_of w n p i ≡ length (emitted_by w p i)
+      → (i : ℕ) → counted_size w n p i ≡ length (emitted_by w p i)
   sizes_whole p first ok none i =
       let own = each_says w (each_own i) in
       let given = flat_map (stage_sum w (own_parts w i) (plan_collection w p)) p.stages in

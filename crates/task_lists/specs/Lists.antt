@@ -6,11 +6,11 @@ use Rattle.flume_value.specs.declared.value.Value.{Value}
 use Rattle.flume_value.specs.Bag.{bag_of}
 use Rattle.flume_collection.specs.Calls.{or_none}
 use Rattle.flume_collection.specs.Collection.{Collection}
-use Rattle.shards.specs.Shards.{joined}
+use Rattle.shards.specs.Shards.{concatenated}
 use Rattle.exec_plan.specs.of_exec_graph.Objects.{act_result}
 use Rattle.exec_plan.specs.of_exec_graph.World.{World}
 use Rattle.exec_plan.specs.of_exec_graph.declared.graph.Act.{Act}
-use Rattle.exec_plan.specs.Channels.{numbers}
+use Rattle.exec_plan.specs.Channels.{output_numbers_of}
 use Rattle.exec_plan.specs.declared.plan.PlanPlace.{PlanPlace}
 use Rattle.exec_plan.specs.declared.plan.PlanPlace.TheVariants as at
 use Rattle.exec_plan.specs.declared.plan.InChannel.{InChannel}
@@ -23,22 +23,23 @@ use Rattle.exec_plan.specs.declared.plan.Plan.{Plan}
 use Rattle.task_lists.specs.Tasks.{Split, Lists, task_gives, gathered, reduce_task}
 
 -- output j of a reducer: the emissions of the partitions, in order
-abbrev pub reduced : World → Split → Lists → List InChannel → Grouping → ℕ → List Value
-reduced w n t ins g j = joined (λ p. task_gives w (reduce_task w n t ins g p) j) n.partitions
+abbrev pub reduced_lists : World → Split → Lists → List InChannel → Grouping → ℕ → List Value
+reduced_lists w n t ins g j =
+    concatenated (λ p. task_gives w (reduce_task w n t ins g p) j) n.partitions
 
 -- the results of a channel, in order
 abbrev pub given_lists : World → Split → Lists → List InChannel → OutChannel → List (List Value)
-given_lists w n t ins (Group g) = map (reduced w n t ins g) (numbers g.does)
+given_lists w n t ins (Group g) = map (reduced_lists w n t ins g) (output_numbers_of g.does)
 given_lists w n t ins (Pass k number) = gathered w n t ins (k ∷ []) ∷ []
 
 -- the collection of that list, behind which no trap is
-abbrev pub calm : Lists → PlanPlace → Collection
-calm t c = record { bag = bag_of (t c); traps = [] }
+abbrev pub calm_list : Lists → PlanPlace → Collection
+calm_list t c = record { bag = bag_of (t c); traps = [] }
 
 -- the object that a stage makes of these collections by an act, for script node o. It has no value
 -- where the act traps, or where an object that it reads has an empty list
 abbrev pub object_made : World → Lists → ℕ → Act → List PlanPlace → Collection
-object_made w t o a takes = act_result w o a (map (calm t) takes)
+object_made w t o a takes = act_result w o a (map (calm_list t) takes)
 
 -- the results of a stage, in order. That of an Operate is its one value, or it is empty
 abbrev pub result_lists : World → Split → Lists → Stage → List (List Value)

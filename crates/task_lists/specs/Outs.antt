@@ -17,8 +17,8 @@ use Rattle.exec_plan.specs.declared.plan.Take.{Take}
 use Rattle.exec_plan.specs.declared.plan.OutChannel.{OutChannel}
 use Rattle.exec_plan.specs.declared.plan.OutChannel.TheVariants.{Group, Pass}
 use Rattle.exec_plan.specs.declared.plan.Mscr.{Mscr}
-use Rattle.task_lists.specs.Runs.{all_given, traps_of, counts_of, kept_count}
-use Rattle.task_lists.specs.Tasks.{Split, Lists, Task, places, world_for, given_to, map_task_of, map_count}
+use Rattle.task_lists.specs.Runs.{all_emissions, traps_in_order, counts_of, kept_count}
+use Rattle.task_lists.specs.Tasks.{Split, Lists, Task, asks_of, world_for, given_to, map_task_of, map_count}
 
 -- ---- of any task
 
@@ -29,11 +29,11 @@ kept_counts w task = map kept_count (counts_of (world_for w task) task.does task
 -- the first trap of the task, in the order of its elements and calls
 abbrev pub IsFirstTaskTrap : World → Task → Trap → Type 0
 IsFirstTaskTrap w task trap =
-    slice_get (traps_of (world_for w task) task.does task.elements) 0 ≡ Some trap
+    slice_get (traps_in_order (world_for w task) task.does task.elements) 0 ≡ Some trap
 
 -- no call of the task traps
 abbrev pub IsCalm : World → Task → Type 0
-IsCalm w task = traps_of (world_for w task) task.does task.elements ≡ []
+IsCalm w task = traps_in_order (world_for w task) task.does task.elements ≡ []
 
 -- ---- of a map task
 
@@ -80,6 +80,6 @@ answers_of finished = map (λ it. of_combine it.0 it.1) finished
 pub record IsReduceOut (w : World) (task : Task) (given : List (List Value)) (counted : List ℕ)
     (number : ℕ) : Type 0 where
   pub calm : IsCalm w task
-  pub outputs : given ≡ all_given (world_for w task) task.does task.elements
+  pub outputs : given ≡ all_emissions (world_for w task) task.does task.elements
   pub counts : counted ≡ kept_counts w task
-  pub groups : number ≡ kept_count (places task)
+  pub groups : number ≡ kept_count (asks_of task)

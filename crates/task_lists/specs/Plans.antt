@@ -10,8 +10,8 @@ use Rattle.exec_plan.specs.declared.plan.Grouping.{Grouping}
 use Rattle.exec_plan.specs.declared.plan.Stage.{Stage}
 use Rattle.exec_plan.specs.declared.plan.Stage.TheVariants.{Mscr, Flatten, Operate}
 use Rattle.exec_plan.specs.declared.plan.Plan.{Plan}
-use Rattle.task_lists.specs.Runs.{traps_of, counts_of, labels_of, own_count}
-use Rattle.task_lists.specs.Tasks.{Split, Lists, Task, places, world_for, map_phase, reduce_phase}
+use Rattle.task_lists.specs.Runs.{traps_in_order, counts_of, labels_of, own_count}
+use Rattle.task_lists.specs.Tasks.{Split, Lists, Task, asks_of, world_for, map_phase, reduce_phase}
 use Rattle.task_lists.specs.Lists.{object_made, result_lists, with_lists, source_lists}
 
 -- what is said of a map task, of a reduce task of a channel, and of the object that a stage makes
@@ -43,8 +43,8 @@ all_tasks q w n p = tasks_from q w n 1 p.stages (source_lists w)
 
 abbrev pub task_traps : World → SaysOfTasks Trap
 task_traps w = record {
-  maps = λ task. traps_of (world_for w task) task.does task.elements;
-  reduces = λ g task. traps_of (world_for w task) task.does task.elements;
+  maps = λ task. traps_in_order (world_for w task) task.does task.elements;
+  reduces = λ g task. traps_in_order (world_for w task) task.does task.elements;
   objects = λ o l object. object.traps;
 }
 
@@ -62,7 +62,7 @@ steps_count w i task =
 
 -- a task's groups, where they are members of the bag of script node i
 abbrev pub groups_count : ℕ → Grouping → Task → ℕ
-groups_count i g task = cond (g.last && (g.origin == i)) (places task) 0
+groups_count i g task = cond (g.last && (g.origin == i)) (asks_of task) 0
 
 abbrev pub task_counts : World → ℕ → SaysOfTasks ℕ
 task_counts w i = record {
@@ -72,8 +72,8 @@ task_counts w i = record {
 }
 
 -- how many members the tasks count for script node i
-abbrev pub size_of : World → Split → Plan → ℕ → ℕ
-size_of w n p i = sum (all_tasks (task_counts w i) w n p)
+abbrev pub counted_size : World → Split → Plan → ℕ → ℕ
+counted_size w n p i = sum (all_tasks (task_counts w i) w n p)
 
 -- ---- steps beside objects
 

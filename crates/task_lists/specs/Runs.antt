@@ -7,7 +7,7 @@ use Rattle.exec_plan.specs.of_exec_graph.World.{World}
 use Rattle.exec_plan.specs.of_exec_graph.Calls.{emitted, trapped, is_own}
 use Rattle.exec_plan.specs.of_exec_graph.Forests.{Label, Forest, Bare, Grow}
 use Rattle.exec_plan.specs.of_exec_graph.Meaning.{is_out, has_out}
-use Rattle.exec_plan.specs.Channels.{numbers}
+use Rattle.exec_plan.specs.Channels.{output_numbers_of}
 
 -- ---- of one element
 
@@ -38,16 +38,16 @@ visits_of w q (Some f) x = visits w q f x
 -- ---- of a list of elements
 
 -- what is emitted to the output j, in order of the elements
-abbrev pub gives : World → Option Forest → List Value → ℕ → List Value
-gives w f xs j = flat_map (output_at w f j) xs
+abbrev pub emissions_at : World → Option Forest → List Value → ℕ → List Value
+emissions_at w f xs j = flat_map (output_at w f j) xs
 
 -- what is emitted to each of its outputs
-abbrev pub all_given : World → Option Forest → List Value → List (List Value)
-all_given w f xs = map (gives w f xs) (numbers f)
+abbrev pub all_emissions : World → Option Forest → List Value → List (List Value)
+all_emissions w f xs = map (emissions_at w f xs) (output_numbers_of f)
 
 -- the traps, in the order in which the steps are called
-abbrev pub traps_of : World → Option Forest → List Value → List Trap
-traps_of w f xs = flat_map (visits_of w (trapped w) f) xs
+abbrev pub traps_in_order : World → Option Forest → List Value → List Trap
+traps_in_order w f xs = flat_map (visits_of w (trapped w) f) xs
 
 -- what each output of each step emits, in preorder, the outputs of a step side by side
 abbrev pub step_lists : World → Forest → List Value → List (List Value)

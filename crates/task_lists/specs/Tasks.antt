@@ -4,10 +4,10 @@ use Rattle.std.specs.List.{flat_map, slice_get}
 use Rattle.std.specs.Option.{option_map_or}
 use Rattle.flume_value.specs.declared.value.Value.{Value}
 use Rattle.bag_groups.specs.Groups.{grouped}
-use Rattle.shards.specs.Shards.{joined, shard}
-use Rattle.shuffle_parts.specs.Partitions.{part_of}
+use Rattle.shards.specs.Shards.{concatenated, shard}
+use Rattle.shuffle_parts.specs.Partitions.{pairs_in_part}
 use Rattle.exec_plan.specs.of_exec_graph.World.{World}
-use Rattle.exec_plan.specs.of_exec_graph.Objects.{beside, only}
+use Rattle.exec_plan.specs.of_exec_graph.Objects.{world_beside, only}
 use Rattle.exec_plan.specs.of_exec_graph.Forests.{Forest}
 use Rattle.exec_plan.specs.declared.plan.PlanPlace.{PlanPlace}
 use Rattle.exec_plan.specs.declared.plan.Take.{Take}
@@ -16,7 +16,7 @@ use Rattle.exec_plan.specs.declared.plan.Grouping.{Grouping}
 use Rattle.exec_plan.specs.declared.plan.OutChannel.{OutChannel}
 use Rattle.exec_plan.specs.declared.plan.OutChannel.TheVariants.{Group, Pass}
 use Rattle.exec_plan.specs.declared.plan.Mscr.{Mscr}
-use Rattle.task_lists.specs.Runs.{gives}
+use Rattle.task_lists.specs.Runs.{emissions_at}
 
 -- how many shards an input channel has, and how many partitions a grouping channel
 pub record Split : Type 0 where
@@ -37,15 +37,15 @@ pub record Task : Type 0 where
 -- the world in which the steps of a task are called. Beside a value a call is on the record of an
 -- element and that value, and its trap names the element
 abbrev pub world_for : World → Task → World
-world_for w task = beside task.beside w
+world_for w task = world_beside task.beside w
 
 -- a task asks its host before each of its elements
-abbrev pub places : Task → ℕ
-places task = length task.elements
+abbrev pub asks_of : Task → ℕ
+asks_of task = length task.elements
 
 -- what a task gives to its output j
 abbrev pub task_gives : World → Task → ℕ → List Value
-task_gives w task j = gives (world_for w task) task.does task.elements j
+task_gives w task j = emissions_at (world_for w task) task.does task.elements j
 
 abbrev pub no_task : Task
 no_task = record { elements = []; beside = None; does = None }
@@ -89,14 +89,15 @@ given_to w task m takes =
 -- what all map tasks give it, in order of tasks
 abbrev pub gathered : World → Split → Lists → List InChannel → List Take → List Value
 gathered w n t ins takes =
-    joined (λ m. joined (λ i. given_to w (map_task_of n t ins m i) m takes) n.shards) (length ins)
+    concatenated (λ m. concatenated (λ i. given_to w (map_task_of n t ins m i) m takes) n.shards)
+    (length ins)
 
 -- ---- reduce tasks: reduce task r * partitions + p is partition p of grouping channel r
 
 -- the groups whose keys are in partition p, keys ascending
 abbrev pub reduce_task : World → Split → Lists → List InChannel → Grouping → ℕ → Task
 reduce_task w n t ins g p = record {
-  elements = part_of n.partitions p (grouped (gathered w n t ins g.takes));
+  elements = pairs_in_part n.partitions p (grouped (gathered w n t ins g.takes));
   beside = None;
   does = g.does;
 }
@@ -113,13 +114,13 @@ groupings outs = filter_map grouping_of outs
 
 -- what f says of each map task, in order of tasks
 abbrev pub map_phase : {Y : Type 0} → (Task → List Y) → Split → Lists → Mscr → List Y
-map_phase f n t s = flat_map (λ c. joined (λ i. f (map_task n t c i)) n.shards) s.inputs
+map_phase f n t s = flat_map (λ c. concatenated (λ i. f (map_task n t c i)) n.shards) s.inputs
 
 -- what f says of each reduce task, in order of tasks
 abbrev pub reduce_phase : {Y : Type 0} → (Grouping → Task → List Y) → World → Split → Lists → Mscr
     → List Y
 reduce_phase f w n t s =
-    flat_map (λ g. joined (λ p. f g (reduce_task w n t s.inputs g p)) n.partitions)
+    flat_map (λ g. concatenated (λ p. f g (reduce_task w n t s.inputs g p)) n.partitions)
     (groupings s.outputs)
 
 -- ---- tasks by their numbers

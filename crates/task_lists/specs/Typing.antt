@@ -11,7 +11,7 @@ use Rattle.exec_plan.specs.of_exec_graph.Forests.{Forest}
 use Rattle.exec_plan.specs.of_exec_graph.Typing.{Signatures}
 use Rattle.exec_plan.specs.declared.plan.PlanPlace.{PlanPlace}
 use Rattle.exec_plan.specs.Typing.{BesideTyped, ChannelTyped}
-use Rattle.task_lists.specs.Tasks.{Lists, Task, places}
+use Rattle.task_lists.specs.Tasks.{Lists, Task, asks_of}
 
 -- each list has its collection's type
 abbrev pub AreListsTyped : (PlanPlace → Ty) → Lists → Type 0
@@ -30,7 +30,7 @@ pub record IsTaskTyped (s : Signatures) (task : Task) : Type 0 where
   pub outs : Place → Ty
   pub node : ℕ
   pub members : AllHave element task.elements
-  pub steps : 0 < places task → StepsTyped s outs node element task.beside task.does
+  pub steps : 0 < asks_of task → StepsTyped s outs node element task.beside task.does
 
 -- what a grouping channel may be given: pairs, and a lifted one pairs of a key and a value that its
 -- combiner takes

@@ -10,7 +10,7 @@ ghost use Rattle.bag_groups.specs.Combining.{groups_in};
 ghost use Rattle.bag_groups.specs.Groups.{grouped};
 ghost use Rattle.combine_table.specs.declared.comb.Comb.{Comb};
 ghost use Rattle.shuffle_parts.specs.of_partial_tables.Merges.{merged_by_key, finished_each, combined_groups};
-ghost use Rattle.shards.specs.Shards.{joined};
+ghost use Rattle.shards.specs.Shards.{concatenated};
 ghost use Rattle.shuffle_parts.specs.declared.out.MapOut.{MapOut};
 ghost use Rattle.shuffle_parts.specs.Outs.{all_passed, all_pairs, all_partials};
 ghost use Rattle.exec_plan.specs.of_exec_graph.Typing.{Signatures, IsWorldTyped};
@@ -32,7 +32,7 @@ ghost use Rattle.exec_plan.specs.Typing.{IsPlanTyped, IsPlanTypedBy, MscrTyped, 
 ghost use Rattle.exec_plan.specs.Wellformed.{Exists, IsLiftOk, IsPlanOk, IsStageOk};
 ghost use Rattle.task_lists.specs.Tasks.{Split, Lists, Task, given_to, map_task, map_task_of, gathered, reduce_task, map_phase, map_count, map_task_at, reduce_phase, reduce_count, reduce_task_at, grouping_at};
 ghost use Rattle.task_lists.specs.Lists.{lists, result_lists, source_lists, with_lists};
-ghost use Rattle.task_lists.specs.Plans.{AreSidesFirst, first_trap, size_of, stage_tasks, task_traps};
+ghost use Rattle.task_lists.specs.Plans.{AreSidesFirst, first_trap, counted_size, stage_tasks, task_traps};
 ghost use Rattle.task_lists.specs.Outs.{answers_of, AreMapOuts, IsCalm, IsFirstTaskTrap};
 ghost use Rattle.task_lists.specs.Typing.{AreGroupable, AreListsTyped, IsTaskTyped};
 
@@ -48,7 +48,7 @@ pub fn tasks_law()
     // Then the tasks count the members of each script node's bag.
     ensures sizes { (w : World) (n : Split) (p : Plan) → 0 < n.shards → 0 < n.partitions →
         AreSidesFirst p → IsPlanOk p → first_trap w n p ≡ None → (i : ℕ) →
-        size_of w n p i ≡ length (emitted_by w p i) }
+        counted_size w n p i ≡ length (emitted_by w p i) }
     // One of them traps exactly where the plan has a trap.
     ensures through { (w : World) (n : Split) (p : Plan) → 0 < n.shards → 0 < n.partitions →
         IsPlanOk p → (first_trap w n p ≡ None) ↔ (plan_traps w p ≡ []) }
@@ -61,16 +61,18 @@ pub fn tasks_law()
 /// What is said of the tasks of a phase, in order of tasks, is said of them by their numbers.
 pub fn numbers_law()
     ensures map_traps { (f : Task → List Trap) (n : Split) (t : Lists) (s : Mscr) → 0 < n.shards →
-        map_phase f n t s ≡ joined (λ k. f (map_task_at n t s k)) (map_count n s) }
+        map_phase f n t s ≡ concatenated (λ k. f (map_task_at n t s k)) (map_count n s) }
     ensures map_counts { (f : Task → List ℕ) (n : Split) (t : Lists) (s : Mscr) → 0 < n.shards →
-        map_phase f n t s ≡ joined (λ k. f (map_task_at n t s k)) (map_count n s) }
+        map_phase f n t s ≡ concatenated (λ k. f (map_task_at n t s k)) (map_count n s) }
     ensures reduce_traps { (f : Grouping → Task → List Trap) (w : World) (n : Split) (t : Lists)
         (s : Mscr) → 0 < n.partitions → reduce_phase f w n t s
-        ≡ joined (λ k. option_map_or (λ g. f g (reduce_task_at w n t s k)) (grouping_at n s k) [])
+        ≡ concatenated (λ k. option_map_or (λ g. f g (reduce_task_at w n t s k)) (grouping_at n s k)
+        [])
         (reduce_count n s) }
     ensures reduce_counts { (f : Grouping → Task → List ℕ) (w : World) (n : Split) (t : Lists)
         (s : Mscr) → 0 < n.partitions → reduce_phase f w n t s
-        ≡ joined (λ k. option_map_or (λ g. f g (reduce_task_at w n t s k)) (grouping_at n s k) [])
+        ≡ concatenated (λ k. option_map_or (λ g. f g (reduce_task_at w n t s k)) (grouping_at n s k)
+        [])
         (reduce_count n s) }
 {}
 

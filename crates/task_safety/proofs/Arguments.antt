@@ -9,7 +9,7 @@ use Rattle.exec_graph.specs.Objects.{argument, values_in}
 use Rattle.exec_graph.specs.Typing.{IsArgument, IsRecord, Signatures}
 use Rattle.exec_graph.proofs.Barriers.{values_have}
 use Rattle.exec_plan.specs.declared.plan.PlanPlace.{PlanPlace}
-use Rattle.forest_courses.specs.of_task_lists.Lists.{calm}
+use Rattle.forest_courses.specs.of_task_lists.Lists.{calm_list}
 use Rattle.forest_courses.specs.of_task_lists.Tasks.{Lists}
 use Rattle.forest_courses.specs.of_task_lists.Typing.{AreListsTyped}
 use Rattle.forest_courses.proofs.of_task_lists.TypedSides.{calm_good}
@@ -35,7 +35,8 @@ argument_has (u ∷ (y ∷ us)) t (v ∷ (x ∷ vs)) r h =
 pub argument_taken : (s : Signatures) (types : PlanPlace → Ty) (t : Lists)
     → AreListsTyped types t → (takes : List PlanPlace) (f : ℕ)
     → IsArgument (map types takes) (s.takes f) → (vs : List Value)
-    → values_in (map (calm t) takes) ≡ Some vs → Takes s f (argument vs)
+    → values_in (map (calm_list t) takes) ≡ Some vs → Takes s f (argument vs)
 argument_taken s types t lists takes f is vs found =
     argument_has (map types takes) (s.takes f) vs is
-    (values_have (map types takes) (map (calm t) takes) vs (calm_good types t lists takes) found)
+    (values_have (map types takes) (map (calm_list t) takes) vs (calm_good types t lists takes)
+    found)

@@ -5,7 +5,7 @@ use Rattle.std.proofs.Math.Nat.{mul-le-mul_left, mul-le-mul_right}
 use Rattle.std.proofs.lemmas.Option.{none-some, same_Some}
 use Rattle.exec_plan.specs.declared.plan.InChannel.{InChannel}
 use Rattle.exec_plan.specs.declared.plan.OutChannel.{OutChannel}
-use Rattle.exec_plan.specs.Wellformed.{AreOutChannels, IsOutOk, is_pass, width}
+use Rattle.exec_plan.specs.Wellformed.{AreOutChannels, IsOutOk, is_pass, results_given}
 
 pub each_placed : {A : Type 0} (P : A → Type 0) (xs : List A)
     → ((k : ℕ) (x : A) → slice_get xs k ≡ Some x → P x) → Each P xs
@@ -25,7 +25,7 @@ out_at ins passed n [] all r c e = absurd (none-some c e)
 out_at ins passed n (d ∷ cs) all zero c e =
     record { passed = passed; first = n; ok = subst (IsOutOk ins passed n) (same_Some d c e) all.0 }
 out_at ins passed n (d ∷ cs) all (suc r) c e =
-    out_at ins (passed || is_pass d) (n + width d) cs all.1 r c e
+    out_at ins (passed || is_pass d) (n + results_given d) cs all.1 r c e
 
 pub few_tasks : (channels parts : ℕ) → channels ≤ 2 ^ 17 → parts ≤ 1024
     → channels * parts ≤ 2 ^ 27

@@ -13,7 +13,7 @@ use Rattle.exec_graph.specs.declared.step.Does.{Does}
 use Rattle.exec_graph.specs.declared.step.Does.TheVariants as does
 use Rattle.exec_graph.specs.Calls.{emitted}
 use Rattle.exec_graph.specs.Forests.{Forest, Bare, Grow}
-use Rattle.exec_graph.specs.Objects.{beside}
+use Rattle.exec_graph.specs.Objects.{world_beside}
 use Rattle.exec_graph.specs.Typing.{Signatures, StepTyped, ForestTyped, IsCombined, IsWorldTyped}
 use Rattle.exec_graph.specs.World.{World}
 use Rattle.exec_graph.proofs.Typed.{step_typed}
@@ -67,9 +67,9 @@ module _ (s : Signatures) (w : World) (world : IsWorldTyped s w) where
 
   side_safe : (outs : Place → Ty) (n : ℕ) (t object : Ty) (v : Value) → Has object v
       → (f : Forest) → IsSideTyped s outs n t object f → (x : Value) → Has t x
-      → Safe (beside (Some v) w) (taking (Some v) (Takes s)) f x
+      → Safe (world_beside (Some v) w) (taking (Some v) (Takes s)) f x
   side_safe outs n t object v held f typed x h =
-      let b : World = beside (Some v) w in
+      let b : World = world_beside (Some v) w in
       let takes : ℕ → Value → Type 0 = taking (Some v) (Takes s) in
       subst (λ (g : Forest). Safe b takes g x) (sym typed.alone) (
         subst (λ (d : Does). CanCall takes d x) (sym typed.calls)
@@ -80,7 +80,7 @@ module _ (s : Signatures) (w : World) (world : IsWorldTyped s w) where
 
   steps_safe : (outs : Place → Ty) (n : ℕ) (t : Ty) (v : Option Value) (f : Option Forest)
       → StepsTyped s outs n t v f → (x : Value) → Has t x
-      → SafeOf (beside v w) (taking v (Takes s)) f x
+      → SafeOf (world_beside v w) (taking v (Takes s)) f x
   steps_safe outs n t None f a x h = channel_safe outs n t f a x h
   steps_safe outs n t (Some v) None a x h = tt
   steps_safe outs n t (Some v) (Some f) a x h =
@@ -91,10 +91,10 @@ module _ (s : Signatures) (w : World) (world : IsWorldTyped s w) where
   elements_safe : (outs : Place → Ty) (n : ℕ) (t : Ty) (v : Option Value) (f : Option Forest)
       (xs : List Value) → (0 < length xs → StepsTyped s outs n t v f)
       → AllByRecursion (Has t) xs
-      → AllByRecursion (SafeOf (beside v w) (taking v (Takes s)) f) xs
+      → AllByRecursion (SafeOf (world_beside v w) (taking v (Takes s)) f) xs
   elements_safe outs n t v f [] a h = tt
   elements_safe outs n t v f (x ∷ xs) a h =
-      Each-weaker (Has t) (SafeOf (beside v w) (taking v (Takes s)) f)
+      Each-weaker (Has t) (SafeOf (world_beside v w) (taking v (Takes s)) f)
       (steps_safe outs n t v f (a (omega arith))) (x ∷ xs) h
 
   pub task_safe : (task : Task) → IsTaskTyped s task

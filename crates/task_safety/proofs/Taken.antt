@@ -9,7 +9,7 @@ use Rattle.exec_graph.specs.declared.step.Does.{Does}
 use Rattle.exec_graph.specs.declared.step.Does.TheVariants as does
 use Rattle.exec_graph.specs.Calls.{emitted}
 use Rattle.exec_graph.specs.Forests.{Forest, Bare, Grow}
-use Rattle.exec_graph.specs.Objects.{beside, naming}
+use Rattle.exec_graph.specs.Objects.{world_beside, naming}
 use Rattle.exec_graph.specs.World.{World}
 use Rattle.forest_courses.specs.of_forest_steps.Safety.{CanCall, Safe, SafeOf}
 use Rattle.forest_courses.proofs.Worlds.{same_safe_of}
@@ -50,7 +50,7 @@ module _ (taken takes : ℕ → Value → Type 0) (more : (f : ℕ) (x : Value) 
 -- ---- beside a value
 
 pub same_beside : (a : Option Value) (v w : World) → v.called ≡ w.called
-    → (beside a v).called ≡ (beside a w).called
+    → (world_beside a v).called ≡ (world_beside a w).called
 same_beside None v w same = same
 same_beside (Some a) v w same =
     ap (λ (called : ℕ → Value → Called). λ (f : ℕ) (x : Value).
@@ -65,8 +65,9 @@ more_beside (Some a) taken takes more f x h = more f (value.Rec (x ∷ (a ∷ []
 pub all_safe_beside : (a : Option Value) (taken takes : ℕ → Value → Type 0)
     → ((f : ℕ) (x : Value) → taken f x → takes f x) → (v w : World) → v.called ≡ w.called
     → (f : Option Forest) (xs : List Value)
-    → AllByRecursion (SafeOf (beside a v) (taking a taken) f) xs
-    → AllByRecursion (SafeOf (beside a w) (taking a takes) f) xs
+    → AllByRecursion (SafeOf (world_beside a v) (taking a taken) f) xs
+    → AllByRecursion (SafeOf (world_beside a w) (taking a takes) f) xs
 all_safe_beside a taken takes more v w same f xs all =
-    all_safe_more (taking a taken) (taking a takes) (more_beside a taken takes more) (beside a v)
-    (beside a w) (same_beside a v w same) f xs all
+    all_safe_more (taking a taken) (taking a takes) (more_beside a taken takes more)
+    (world_beside a v)
+    (world_beside a w) (same_beside a v w same) f xs all

@@ -4,7 +4,7 @@ ghost use Rattle.std.specs.List.{AllByRecursion};
 ghost use Rattle.flume_value.specs.declared.value.Value.{Value};
 ghost use Rattle.exec_graph.specs.declared.graph.Act.TheVariants as act;
 ghost use Rattle.exec_graph.specs.Forests.{Forest};
-ghost use Rattle.exec_graph.specs.Objects.{argument, beside, values_in};
+ghost use Rattle.exec_graph.specs.Objects.{argument, world_beside, values_in};
 ghost use Rattle.exec_graph.specs.Typing.{Signatures, IsWorldTyped};
 ghost use Rattle.exec_graph.specs.World.{World};
 ghost use Rattle.exec_plan.specs.declared.plan.Plan.{Plan};
@@ -14,7 +14,7 @@ ghost use Rattle.exec_plan.specs.declared.plan.Stage.TheVariants as stage;
 ghost use Rattle.exec_plan.specs.Wellformed.{IsPlanOk};
 ghost use Rattle.forest_courses.specs.of_forest_steps.Functions.{world_of};
 ghost use Rattle.forest_courses.specs.of_forest_steps.Safety.{SafeOf};
-ghost use Rattle.forest_courses.specs.of_task_lists.Lists.{calm};
+ghost use Rattle.forest_courses.specs.of_task_lists.Lists.{calm_list};
 ghost use Rattle.forest_courses.specs.of_task_lists.Tasks.{Lists, Split, Task, world_for};
 ghost use Rattle.forest_courses.specs.of_task_lists.Typing.{IsTaskTyped};
 ghost use Rattle.task_safety.specs.Stages.{AreSoFar, CanRunStage, IsTypedRun};
@@ -36,8 +36,8 @@ pub fn taken_law<F: Functions>(functions: &F)
     ensures { (s : Signatures) (w : World) (v : Option Value) (does : Option Forest)
         (xs : List Value) → w.called ≡ F.called functions.now →
         ((f : ℕ) (x : Value) → Takes s f x → F.can_call functions.now f x) →
-        AllByRecursion (SafeOf (beside v w) (taking v (Takes s)) does) xs →
-        AllByRecursion (SafeOf (beside v (world_of (F.called functions.now)))
+        AllByRecursion (SafeOf (world_beside v w) (taking v (Takes s)) does) xs →
+        AllByRecursion (SafeOf (world_beside v (world_of (F.called functions.now)))
         (taking v (F.can_call functions.now)) does) xs }
 {}
 
@@ -46,7 +46,7 @@ pub fn act_law<F: Functions>(functions: &F)
     ensures { (w : World) (k origin f : ℕ) (last : Bool) (t : Lists) (takes : List PlanPlace)
         (values : List Value) → CanRunStage w (F.can_call functions.now) k t
         (stage.Operate takes origin last (act.Operate f)) →
-        values_in (map (calm t) takes) ≡ Some values →
+        values_in (map (calm_list t) takes) ≡ Some values →
         F.can_call functions.now f (argument values) }
 {}
 

@@ -17,7 +17,7 @@ use Rattle.flume_tokens.specs.Signs.{sign_spelling}
 use Rattle.flume_tokens.specs.Pieces.{piece_of}
 use Rattle.flume_tokens.specs.Tokens.{ahead, tokens_from}
 use Rattle.flume_tokens.proofs.NextPieces.{next_LineEnd, next_Gap, next_Token}
-use Rattle.token_spelling.specs.Spelled.{escaped, written, line_ends, spelled_from}
+use Rattle.token_spelling.specs.Spelled.{escaped, token_written, line_ends, spelled_from}
 use Rattle.token_spelling.specs.Spellable.{IsWord, IsSpellable, AscendByLine}
 use Rattle.token_spelling.proofs.Bytes.{IsPlain, is_word, word_plain, digit_plain, plain_utf8}
 use Rattle.token_spelling.proofs.WrittenWords.{keyword_word, sign_plain, sign_bytes}
@@ -45,7 +45,7 @@ over_line_ends (suc n) line bs =
     ∙ ap (λ m. tokens_from 0 m bs) (omega arith)
 
 -- a token is written with a byte at least
-some_bytes : (k : TokenKind) → IsSpellable k → 1 ≤ length (written k)
+some_bytes : (k : TokenKind) → IsSpellable k → 1 ≤ length (token_written k)
 some_bytes (kind.Name []) h = let e = h.word.letter in cc
 some_bytes (kind.Name (c ∷ cs)) h = omega arith
 some_bytes (kind.Number []) h = let e = h.digit in cc
@@ -60,15 +60,15 @@ some_bytes (kind.Sign s) h = sign_bytes s
 
 module _ (read : (k : Keyword) → keyword_of (keyword_spelling k) ≡ Some k) where
   over_token : (k : TokenKind) (line : ℕ) (bs : List ℕ) → IsSpellable k
-      → tokens_from 0 line (written k ++ 32 ∷ bs)
+      → tokens_from 0 line (token_written k ++ 32 ∷ bs)
       ≡ ahead (record { kind = k; line = line } ∷ []) (tokens_from 0 line bs)
   over_token k line bs h =
       let some = some_bytes k h in
-      next_Token k (length (written k)) line (written k ++ 32 ∷ bs)
-      (omega (arith, length-append (written k) (32 ∷ bs))) some
+      next_Token k (length (token_written k)) line (token_written k ++ 32 ∷ bs)
+      (omega (arith, length-append (token_written k) (32 ∷ bs))) some
       (sym (written_piece read k bs h))
       ∙ ap (λ xs. ahead (record { kind = k; line = line } ∷ []) (tokens_from 0 line xs))
-      (drop-append_seam (written k) (32 ∷ bs))
+      (drop-append_seam (token_written k) (32 ∷ bs))
       ∙ ap (ahead (record { kind = k; line = line } ∷ [])) (over_blank line bs)
 
   pub cut_from : (line : ℕ) (ts : List Token) → All (λ t. IsSpellable t.kind) ts
@@ -77,7 +77,7 @@ module _ (read : (k : Keyword) → keyword_of (keyword_spelling k) ≡ Some k) w
   cut_from line (t ∷ ts) each lines =
       let here = lines.0 in
       let bs = spelled_from t.line ts in
-      let own = written t.kind ++ 32 ∷ bs in
+      let own = token_written t.kind ++ 32 ∷ bs in
       over_line_ends (t.line - line) line own
       ∙ ap (λ m. tokens_from 0 m own) (omega arith)
       ∙ over_token t.kind t.line bs (All-head (λ t. IsSpellable t.kind) t ts each)
@@ -102,7 +102,7 @@ quote_utf8 = one_plain 34 (lit≤ tt) refl
 blank_utf8 : IsUtf8 (32 ∷ [])
 blank_utf8 = one_plain 32 (lit≤ tt) refl
 
-written_utf8 : (k : TokenKind) → IsSpellable k → IsUtf8 (written k)
+written_utf8 : (k : TokenKind) → IsSpellable k → IsUtf8 (token_written k)
 written_utf8 (kind.Name x) h = plain_utf8 x (word_plains x h.word.rest)
 written_utf8 (kind.Keyword k) h =
     plain_utf8 (keyword_spelling k) (word_plains (keyword_spelling k) (keyword_word k).rest)
@@ -123,9 +123,9 @@ pub spelled_utf8 : (line : ℕ) (ts : List Token) → All (λ t. IsSpellable t.k
 spelled_utf8 line [] each = IsUtf8-nil
 spelled_utf8 line (t ∷ ts) each =
     let bs = spelled_from t.line ts in
-    IsUtf8-append (line_ends (t.line - line)) (written t.kind ++ 32 ∷ bs)
+    IsUtf8-append (line_ends (t.line - line)) (token_written t.kind ++ 32 ∷ bs)
     (line_ends_utf8 (t.line - line))
-    (IsUtf8-append (written t.kind) (32 ∷ bs)
+    (IsUtf8-append (token_written t.kind) (32 ∷ bs)
     (written_utf8 t.kind (All-head (λ t. IsSpellable t.kind) t ts each))
     (IsUtf8-append (32 ∷ []) bs blank_utf8
     (spelled_utf8 t.line ts (All-tail (λ t. IsSpellable t.kind) t ts each))))

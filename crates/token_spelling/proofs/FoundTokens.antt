@@ -20,8 +20,8 @@ use Rattle.flume_tokens.specs.declared.token.TokenList.{TokenList}
 use Rattle.flume_tokens.specs.Keywords.{keyword_of}
 use Rattle.flume_tokens.specs.Signs.{sign_of}
 use Rattle.flume_tokens.specs.Texts.{Closed, closed_text}
-use Rattle.flume_tokens.specs.Pieces.{piece_of, is_blank, word_kind, word, number, text, text_piece, sign as sign_read, sign_piece}
-use Rattle.flume_tokens.specs.Tokens.{TokensOrFault, ahead, and_on, tokens_from, line_at, list_of, listed, tokens_of}
+use Rattle.flume_tokens.specs.Pieces.{piece_of, is_blank, word_kind, piece_of_word, digits_piece, quoted_piece, text_piece, sign as sign_read, sign_piece}
+use Rattle.flume_tokens.specs.Tokens.{TokensOrFault, ahead, and_on, tokens_from, line_at, list_of, token_list, tokens_of}
 use Rattle.flume_tokens.specs.Utf8.{IsUtf8Text}
 use Rattle.flume_tokens.proofs.Utf8Texts.{texts}
 use Rattle.token_spelling.specs.Spellable.{IsName, IsNumber, IsSpellable, AscendByLine, AreSpellable}
@@ -40,7 +40,7 @@ IsFormedPiece (piece.Token k n) = IsFormed k
 IsFormedPiece _ = Unit {0}
 
 word_formed : (b : ℕ) (bs : List ℕ) → is_ascii_alphabetic b ≡ true
-    → IsFormedPiece (word (b ∷ bs))
+    → IsFormedPiece (piece_of_word (b ∷ bs))
 word_formed b bs h = by (nat_lt 32 (length w)) refl (keyword_of w) refl
   where
     w : List ℕ
@@ -64,7 +64,7 @@ word_formed b bs h = by (nat_lt 32 (length w)) refl (keyword_of w) refl
     }
 
 number_formed : (b : ℕ) (bs : List ℕ) → is_ascii_digit b ≡ true
-    → IsFormedPiece (number (b ∷ bs))
+    → IsFormedPiece (digits_piece (b ∷ bs))
 number_formed b bs h = record {
   digit =
       ap (λ xs. is_ascii_digit (slice_index xs 0)) (begins is_ascii_digit b bs h) ∙ h;
@@ -89,7 +89,8 @@ piece_formed b bs =
         → is_ascii_digit b ≡ d
         → IsFormedPiece (if lf then piece.LineEnd else if blank then piece.Gap 1 else if comment
         then piece.Gap (length (take_while (λ b. not (b == 10)) (b ∷ bs))) else if quote then
-        text (b ∷ bs) else if a then word (b ∷ bs) else if d then number (b ∷ bs) else
+        quoted_piece (b ∷ bs) else if a then piece_of_word (b ∷ bs) else if d then digits_piece
+        (b ∷ bs) else
         sign_read (b ∷ bs))
     by true blank comment quote a e d f = tt
     by false true comment quote a e d f = tt
@@ -164,7 +165,7 @@ formed bs list e = by (nat_lt 65536 (length bs)) (is_utf8 bs) e
 
     by : (t u : Bool)
         → (if t then Err (Refused 0 refusal.TooLong) else if not u then Err
-        (Refused (line_at bs (utf8_valid_len bs)) refusal.Utf8) else listed bs) ≡ Ok list
+        (Refused (line_at bs (utf8_valid_len bs)) refusal.Utf8) else token_list bs) ≡ Ok list
         → AreFormed 1 list.items
     by true u e = cc
     by false false e = cc

@@ -13,7 +13,7 @@ use Rattle.flume_tokens.specs.Keywords.{keyword_of, keyword_spelling}
 use Rattle.flume_tokens.specs.Signs.{sign_spelling}
 use Rattle.flume_tokens.specs.Tokens.{line_at, list_of, tokens_of}
 use Rattle.flume_tokens.proofs.Whole.{cut}
-use Rattle.token_spelling.specs.Spelled.{escaped, written, line_ends, spelled_from, spelled, line_from, last_line}
+use Rattle.token_spelling.specs.Spelled.{escaped, token_written, line_ends, spelled_from, spelled, line_from, last_line}
 use Rattle.token_spelling.specs.Spellable.{IsSpellable, AscendByLine, AreSpellable}
 use Rattle.token_spelling.proofs.Bytes.{feeds, feeds_cons, no_feeds, plain_feeds}
 use Rattle.token_spelling.proofs.WrittenWords.{keyword_word, sign_plain}
@@ -36,7 +36,7 @@ text_feeds content =
     (All-cons (λ b. (b == 10) ≡ false) 34 [] refl (All-nil (λ b. (b == 10) ≡ false)))))
 
 -- a token ends no line
-written_feeds : (k : TokenKind) → IsSpellable k → feeds (written k) ≡ 0
+written_feeds : (k : TokenKind) → IsSpellable k → feeds (token_written k) ≡ 0
 written_feeds (kind.Name x) h = plain_feeds x (word_plains x h.word.rest)
 written_feeds (kind.Keyword k) h =
     plain_feeds (keyword_spelling k) (word_plains (keyword_spelling k) (keyword_word k).rest)
@@ -53,8 +53,8 @@ spelled_feeds line (t ∷ ts) each lines =
     let up = line_ends_feeds (t.line - line) in
     let own = written_feeds t.kind (All-head (λ t. IsSpellable t.kind) t ts each) in
     let rest = spelled_feeds t.line ts (All-tail (λ t. IsSpellable t.kind) t ts each) lines.1 in
-    let a = feeds_append (line_ends (t.line - line)) (written t.kind ++ 32 ∷ bs) in
-    let b = feeds_append (written t.kind) (32 ∷ bs) in
+    let a = feeds_append (line_ends (t.line - line)) (token_written t.kind ++ 32 ∷ bs) in
+    let b = feeds_append (token_written t.kind) (32 ∷ bs) in
     let c = feeds_cons 32 bs in
     let here = lines.0 in
     added line t.line _ _ _ _ _ _ _ a b c up own here rest

@@ -12,8 +12,8 @@ use Rattle.flume_tokens.specs.declared.token.TokenKind.TheVariants as kind
 use Rattle.flume_tokens.specs.Keywords.{keyword_of, keyword_spelling}
 use Rattle.flume_tokens.specs.Signs.{sign_of, sign_spelling}
 use Rattle.flume_tokens.specs.Texts.{closed_text}
-use Rattle.flume_tokens.specs.Pieces.{piece_of, is_blank, word_kind, word, number, text, text_piece, sign as sign_read}
-use Rattle.token_spelling.specs.Spelled.{escaped, written}
+use Rattle.flume_tokens.specs.Pieces.{piece_of, is_blank, word_kind, piece_of_word, digits_piece, quoted_piece, text_piece, sign as sign_read}
+use Rattle.token_spelling.specs.Spelled.{escaped, token_written}
 use Rattle.token_spelling.specs.Spellable.{IsWord, IsNumber, IsSpellable}
 use Rattle.token_spelling.proofs.Branches.{first, second, apart}
 use Rattle.token_spelling.proofs.Bytes.{is_word, digit_no_letter}
@@ -24,8 +24,9 @@ use Rattle.token_spelling.proofs.WrittenWords.{keyword_word}
 -- what begins with a byte that passes is no line end, no gap and no text
 begins : (p : ℕ → Bool) (b : ℕ) (bs : List ℕ) → p b ≡ true → p 10 ≡ false → p 32 ≡ false
     → p 9 ≡ false → p 13 ≡ false → p 35 ≡ false → p 34 ≡ false
-    → piece_of (b ∷ bs) ≡ (if is_ascii_alphabetic b then word (b ∷ bs) else if is_ascii_digit b
-    then number (b ∷ bs) else sign_read (b ∷ bs))
+    → piece_of (b ∷ bs)
+    ≡ (if is_ascii_alphabetic b then piece_of_word (b ∷ bs) else if is_ascii_digit b
+    then digits_piece (b ∷ bs) else sign_read (b ∷ bs))
 unfolding piece_of
 begins p b bs h lf space tab cr comment quote =
     second (b == 10) _ _ (apart p b 10 h lf)
@@ -35,7 +36,7 @@ begins p b bs h lf space tab cr comment quote =
     ∙ second (b == 34) _ _ (apart p b 34 h quote)
 
 word_read : (w bs : List ℕ) → IsWord w
-    → word (w ++ 32 ∷ bs) ≡ piece.Token (word_kind w (keyword_of w)) (length w)
+    → piece_of_word (w ++ 32 ∷ bs) ≡ piece.Token (word_kind w (keyword_of w)) (length w)
 word_read w bs h =
     ap (λ xs. if nat_lt 32 (length xs) then piece.Fault refusal.TooLong else
     piece.Token (word_kind xs (keyword_of xs)) (length xs)) (run is_word 32 w bs h.rest refl)
@@ -60,20 +61,20 @@ number_piece (c ∷ cs) bs h =
     (run is_ascii_digit 32 (c ∷ cs) bs h.rest refl)
 
 text_read : (content bs : List ℕ)
-    → text (written (kind.Text content) ++ 32 ∷ bs)
+    → quoted_piece (token_written (kind.Text content) ++ 32 ∷ bs)
     ≡ piece.Token (kind.Text content) (length (escaped content) + 1 + 1)
 text_read content bs =
     ap (λ xs. text_piece (closed_text false xs))
     (append_assoc (escaped content) (34 ∷ []) (32 ∷ bs))
     ∙ ap text_piece (closed content (32 ∷ bs))
 
-text_begins : (bs : List ℕ) → piece_of (34 ∷ bs) ≡ text (34 ∷ bs)
+text_begins : (bs : List ℕ) → piece_of (34 ∷ bs) ≡ quoted_piece (34 ∷ bs)
 unfolding piece_of
 text_begins bs = refl
 
 text_piece_of : (content bs : List ℕ)
-    → piece_of (written (kind.Text content) ++ 32 ∷ bs)
-    ≡ piece.Token (kind.Text content) (length (written (kind.Text content)))
+    → piece_of (token_written (kind.Text content) ++ 32 ∷ bs)
+    ≡ piece.Token (kind.Text content) (length (token_written (kind.Text content)))
 text_piece_of content bs =
     text_begins ((escaped content ++ 34 ∷ []) ++ 32 ∷ bs)
     ∙ text_read content bs
@@ -108,7 +109,7 @@ sign_piece_of sign.Remainder bs = refl
 
 module _ (read : (k : Keyword) → keyword_of (keyword_spelling k) ≡ Some k) where
   pub written_piece : (k : TokenKind) (bs : List ℕ) → IsSpellable k
-      → piece_of (written k ++ 32 ∷ bs) ≡ piece.Token k (length (written k))
+      → piece_of (token_written k ++ 32 ∷ bs) ≡ piece.Token k (length (token_written k))
   written_piece (kind.Name x) bs h =
       word_piece x bs h.word
       ∙ ap (λ o. piece.Token (word_kind x o) (length x)) h.free

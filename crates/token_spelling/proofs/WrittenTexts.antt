@@ -6,7 +6,7 @@ use Rattle.std.proofs.lemmas.Bool.{eqb-true}
 use Rattle.std.proofs.lemmas.List.Elements.{All-nil, All-cons, All-append}
 use Rattle.std.proofs.lemmas.Str.{IsUtf8-append, IsUtf8-from_ascii}
 use Rattle.std.proofs.lemmas.Str.Ascii.{IsAscii-cons, IsAscii-nil}
-use Rattle.flume_tokens.specs.Texts.{Closed, closed_text, taken, with_byte}
+use Rattle.flume_tokens.specs.Texts.{Closed, closed_text, one_more_taken, with_byte}
 use Rattle.flume_tokens.proofs.Utf8Texts.{before, after}
 use Rattle.token_spelling.specs.Spelled.{escape, escaped}
 use Rattle.token_spelling.proofs.Branches.{second}
@@ -41,13 +41,13 @@ closed (b ∷ content) rest =
     by : (q : Bool) → (b == 34) ≡ q → (s : Bool) → (b == 92) ≡ s → (n : Bool) → (b == 10) ≡ n
         → IsRead content rest → ReadAs b content rest (escape_by q s n b)
     by true e s f n g h =
-        ap (λ r. taken (with_byte (Some 34) r)) h
+        ap (λ r. one_more_taken (with_byte (Some 34) r)) h
         ∙ same 34 b content _ _ (sym (eqb-true b 34 e)) (omega arith)
     by false e true f n g h =
-        ap (λ r. taken (with_byte (Some 92) r)) h
+        ap (λ r. one_more_taken (with_byte (Some 92) r)) h
         ∙ same 92 b content _ _ (sym (eqb-true b 92 f)) (omega arith)
     by false e false f true g h =
-        ap (λ r. taken (with_byte (Some 10) r)) h
+        ap (λ r. one_more_taken (with_byte (Some 10) r)) h
         ∙ same 10 b content _ _ (sym (eqb-true b 10 g)) (omega arith)
     by false e false f false g h =
         second (b == 34) _ _ e ∙ second (b == 10) _ _ g ∙ second (b == 92) _ _ f

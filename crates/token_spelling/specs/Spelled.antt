@@ -18,12 +18,12 @@ escaped [] = []
 escaped (b ∷ bs) = escape b ++ escaped bs
 
 -- how a token is written; a text stands in quotes
-abbrev pub written : TokenKind → List ℕ
-written (kind.Name name) = name
-written (kind.Keyword keyword) = keyword_spelling keyword
-written (kind.Number digits) = digits
-written (kind.Text content) = 34 ∷ escaped content ++ 34 ∷ []
-written (kind.Sign sign) = sign_spelling sign
+abbrev pub token_written : TokenKind → List ℕ
+token_written (kind.Name name) = name
+token_written (kind.Keyword keyword) = keyword_spelling keyword
+token_written (kind.Number digits) = digits
+token_written (kind.Text content) = 34 ∷ escaped content ++ 34 ∷ []
+token_written (kind.Sign sign) = sign_spelling sign
 
 -- so many line ends
 abbrev pub line_ends : ℕ → List ℕ
@@ -34,7 +34,7 @@ line_ends (suc n) = 10 ∷ line_ends n
 abbrev pub spelled_from : ℕ → List Token → List ℕ
 spelled_from line [] = []
 spelled_from line (t ∷ ts) =
-    line_ends (t.line - line) ++ (written t.kind ++ 32 ∷ spelled_from t.line ts)
+    line_ends (t.line - line) ++ (token_written t.kind ++ 32 ∷ spelled_from t.line ts)
 
 -- tokens as they are written, from line 1 on
 abbrev pub spelled : List Token → List ℕ

@@ -18,10 +18,10 @@ use Rattle.type_table.specs.contracts.shape.ShapePartialEq.TheImpl.{ghosts}
 use Rattle.std.proofs.lemmas.Bool.Decides.{same_from_decides, Decides-eqb}
 use Rattle.flume_types.specs.Equality.{type_eq}
 use Rattle.type_table.proofs.ShapeLemmas.{tells_apart, shape_eq-Decides}
-use Rattle.type_table.specs.Table.{type_at, field_at, level, tree_of, IsWithin, Extends, types_from, types_of, entry_at, capped, IsTable}
+use Rattle.type_table.specs.Table.{type_at, field_at, shape_layer, tree_of, IsWithin, Extends, types_from, kept_types, entry_at, depth_kept, IsTable}
 
 -- a type's first level
-out-tree : (types : List Ty) (s : Shape) → out-Ty (tree_of types s) ≡ level types s
+out-tree : (types : List Ty) (s : Shape) → out-Ty (tree_of types s) ≡ shape_layer types s
 out-tree types shape.Int = ty.outs-Int
 out-tree types shape.Bool = ty.outs-Bool
 out-tree types shape.Text = ty.outs-Text
@@ -94,7 +94,7 @@ parts-apart types n apart (x ∷ xs) (y ∷ ys) h g e =
     g.1 rest i
 
 level-apart : (types : List Ty) (n : ℕ) → Apart types n → (s r : Shape) → IsWithin n s
-    → IsWithin n r → level types s ≡ level types r → s ≡ r
+    → IsWithin n r → shape_layer types s ≡ shape_layer types r → s ≡ r
 level-apart types n apart shape.Int shape.Int h g e = refl
 level-apart types n apart shape.Bool shape.Bool h g e = refl
 level-apart types n apart shape.Text shape.Text h g e = refl
@@ -127,7 +127,8 @@ types_from-push types (e ∷ entries) entry =
     types_from-push (types ++ tree_of types e.0 ∷ []) entries entry
 
 types_of-push : (entries : List (Shape × ℕ)) (entry : Shape × ℕ)
-    → types_of (entries ++ entry ∷ []) ≡ types_of entries ++ tree_of (types_of entries) entry.0 ∷ []
+    → kept_types (entries ++ entry ∷ [])
+    ≡ kept_types entries ++ tree_of (kept_types entries) entry.0 ∷ []
 types_of-push = types_from-push []
 
 -- what holds of each number of a longer table: of the earlier ones, and of the new one
@@ -145,7 +146,7 @@ module _ (entries : List (Shape × ℕ)) (s : Shape) (depth : ℕ) (is : IsTable
   n = length entries
 
   abbrev types : List Ty
-  types = types_of entries
+  types = kept_types entries
 
   abbrev after : List (Shape × ℕ)
   after = entries ++ (s, depth) ∷ []
@@ -153,7 +154,7 @@ module _ (entries : List (Shape × ℕ)) (s : Shape) (depth : ℕ) (is : IsTable
   abbrev longer : List Ty
   longer = types ++ tree_of types s ∷ []
 
-  grown : types_of after ≡ longer
+  grown : kept_types after ≡ longer
   grown = types_of-push entries (s, depth)
 
   more : Extends types longer
@@ -200,7 +201,7 @@ module _ (entries : List (Shape × ℕ)) (s : Shape) (depth : ℕ) (is : IsTable
       id in_
 
   IsTable-push : ((id : ℕ) → id < n → (entry_at entries id).0 ≡ s → ⊥)
-      → depth ≡ capped (depth_of (tree_of types s)) → IsTable after
+      → depth ≡ depth_kept (depth_of (tree_of types s)) → IsTable after
   IsTable-push absent deep =
       let length-after : length after ≡ n + 1 = length-append entries ((s, depth) ∷ []) in record {
         as_many = ap length grown ∙ length-append types (tree_of types s ∷ [])
@@ -223,12 +224,12 @@ module _ (entries : List (Shape × ℕ)) (s : Shape) (depth : ℕ) (is : IsTable
             (omega (arith, length-after)) (ap (λ ts. type_at ts id) (sym grown) ∙ e
             ∙ ap (λ ts. type_at ts other) grown);
         depths =
-            λ id in_. subst (λ ts. (entry_at after id).1 ≡ capped (depth_of (type_at ts id)))
+            λ id in_. subst (λ ts. (entry_at after id).1 ≡ depth_kept (depth_of (type_at ts id)))
             (sym grown) (
-            below-or-new n (λ id. (entry_at after id).1 ≡ capped (depth_of (type_at longer id)))
+            below-or-new n (λ id. (entry_at after id).1 ≡ depth_kept (depth_of (type_at longer id)))
             (λ id in_. ap (λ e. e.1) (entry-old id in_) ∙ is.depths id in_
-            ∙ ap (λ t. capped (depth_of t)) (sym (type-old id in_)))
-            (ap (λ e. e.1) entry-new ∙ deep ∙ ap (λ t. capped (depth_of t)) (sym type-new))
+            ∙ ap (λ t. depth_kept (depth_of t)) (sym (type-old id in_)))
+            (ap (λ e. e.1) entry-new ∙ deep ∙ ap (λ t. depth_kept (depth_of t)) (sym type-new))
             id (omega (arith, length-after)));
       }
 
@@ -291,36 +292,36 @@ lookup-absent s (e ∷ entries) absent =
     ∙ lookup-absent s entries (λ id in_. absent (suc id) (omega arith))
 
 pub level-at : (entries : List (Shape × ℕ)) (types : List Ty) (id : ℕ) (s : Shape)
-    → IsTable entries → types_of entries ≡ types → id < length types → s ≡ (entry_at entries id).0
-    → out-Ty (type_at types id) ≡ level types s
+    → IsTable entries → kept_types entries ≡ types → id < length types → s ≡ (entry_at entries id).0
+    → out-Ty (type_at types id) ≡ shape_layer types s
 level-at entries types id s is view in_ at =
     let here : id < length entries = omega (arith, ap length view, is.as_many) in
-    subst (λ ts. out-Ty (type_at ts id) ≡ level ts s) view
-    (ap out-Ty (is.levels id here) ∙ out-tree (types_of entries) (entry_at entries id).0
-    ∙ ap (level (types_of entries)) (sym at))
+    subst (λ ts. out-Ty (type_at ts id) ≡ shape_layer ts s) view
+    (ap out-Ty (is.levels id here) ∙ out-tree (kept_types entries) (entry_at entries id).0
+    ∙ ap (shape_layer (kept_types entries)) (sym at))
 
 -- ---- a shape more, or want of memory
 
 pub record Interned {E : Type 0} (after : List (Shape × ℕ)) (types : List Ty) (s : Shape)
     (r : Result ℕ E) : Type 0 where
   pub table : IsTable after
-  pub within : IfOk r (λ id. id < length (types_of after))
-  pub ok : IfOk r (λ id. type_at (types_of after) id ≡ tree_of types s)
-  pub extends : Extends types (types_of after)
+  pub within : IfOk r (λ id. id < length (kept_types after))
+  pub ok : IfOk r (λ id. type_at (kept_types after) id ≡ tree_of types s)
+  pub extends : Extends types (kept_types after)
 
 module _ (entries after : List (Shape × ℕ)) (s : Shape) (depth : ℕ) (is : IsTable entries)
-    (within : IsWithin (length (types_of entries)) s)
+    (within : IsWithin (length (kept_types entries)) s)
     (absent : (id : ℕ) → id < length entries → (entry_at entries id).0 ≡ s
-    → ⊥) (deep : depth ≡ capped (depth_of (tree_of (types_of entries) s))) where
+    → ⊥) (deep : depth ≡ depth_kept (depth_of (tree_of (kept_types entries) s))) where
   within-entries : IsWithin (length entries) s
   within-entries = subst (λ m. IsWithin m s) is.as_many within
 
   pub interned : {E : Type 0} (r : Result ℕ E) → OnOk r (after ≡ entries ++ (s, depth) ∷ [])
       → OnErr r (after ≡ entries) → IfOk r (λ id. id ≡ length entries)
-      → Interned after (types_of entries) s r
+      → Interned after (kept_types entries) s r
   interned (Ok id) ok err at =
-      let longer : types_of after ≡ types_of entries ++ tree_of (types_of entries) s ∷ [] =
-      ap types_of ok ∙ types_of-push entries (s, depth) in record {
+      let longer : kept_types after ≡ kept_types entries ++ tree_of (kept_types entries) s ∷ [] =
+      ap kept_types ok ∙ types_of-push entries (s, depth) in record {
         table = subst IsTable (sym ok) (IsTable-push entries s depth is within-entries absent deep);
         within =
             omega (
@@ -328,23 +329,24 @@ module _ (entries after : List (Shape × ℕ)) (s : Shape) (depth : ℕ) (is : I
               at,
               is.as_many,
               ap length longer,
-              length-append (types_of entries)
-                  (tree_of (types_of entries) s ∷ []),
+              length-append (kept_types entries)
+                  (tree_of (kept_types entries) s ∷ []),
             );
         ok = ap (λ ts. type_at ts id) longer
-            ∙ get_or_push (types_of entries) (tree_of (types_of entries) s) ty.Int id (is.as_many
+            ∙ get_or_push (kept_types entries) (tree_of (kept_types entries) s) ty.Int id
+            (is.as_many
             ∙ sym at);
         extends =
-            subst (Extends (types_of entries)) (sym longer)
-            (Extends-push (types_of entries) (tree_of (types_of entries) s));
+            subst (Extends (kept_types entries)) (sym longer)
+            (Extends-push (kept_types entries) (tree_of (kept_types entries) s));
       }
   interned (Err e) ok err at = record {
     table = subst IsTable (sym err) is;
     within = tt;
     ok = tt;
     extends =
-        subst (Extends (types_of entries)) (sym (ap types_of err))
-        (Extends-itself (types_of entries));
+        subst (Extends (kept_types entries)) (sym (ap kept_types err))
+        (Extends-itself (kept_types entries));
   }
 
 -- ---- depths
@@ -354,32 +356,32 @@ DepthLaw = (t : Ty) → depth_of t ≡ layer_depth depth_of (out-Ty t)
 
 module _ (law : DepthLaw) (entries : List (Shape × ℕ)) (s : Shape) where
   abbrev ts : List Ty
-  ts = types_of entries
+  ts = kept_types entries
 
   pub tree-depth : (form : Shape) → s ≡ form
-      → depth_of (tree_of ts s) ≡ layer_depth depth_of (level ts form)
+      → depth_of (tree_of ts s) ≡ layer_depth depth_of (shape_layer ts form)
   tree-depth form is = ap (λ s. depth_of (tree_of ts s)) is ∙ law (tree_of ts form)
       ∙ ap (layer_depth depth_of) (out-tree ts form)
 
   -- a type without parts is of one level
-  one_level : (form : Shape) → s ≡ form → layer_depth depth_of (level ts form) ≡ 1
-      → 1 ≡ capped (depth_of (tree_of ts s))
+  one_level : (form : Shape) → s ≡ form → layer_depth depth_of (shape_layer ts form) ≡ 1
+      → 1 ≡ depth_kept (depth_of (tree_of ts s))
   one_level form is one = let e = tree-depth form is ∙ one in omega (arith, e)
 
-  pub depth-Int : s ≡ shape.Int → 1 ≡ capped (depth_of (tree_of ts s))
+  pub depth-Int : s ≡ shape.Int → 1 ≡ depth_kept (depth_of (tree_of ts s))
   depth-Int is = one_level shape.Int is refl
 
-  pub depth-Bool : s ≡ shape.Bool → 1 ≡ capped (depth_of (tree_of ts s))
+  pub depth-Bool : s ≡ shape.Bool → 1 ≡ depth_kept (depth_of (tree_of ts s))
   depth-Bool is = one_level shape.Bool is refl
 
-  pub depth-Text : s ≡ shape.Text → 1 ≡ capped (depth_of (tree_of ts s))
+  pub depth-Text : s ≡ shape.Text → 1 ≡ depth_kept (depth_of (tree_of ts s))
   depth-Text is = one_level shape.Text is refl
 
 -- ---- equality of types
 
 pub same-as-numbers : (entries : List (Shape × ℕ)) (types : List Ty) (a b : ℕ)
     → ((t u : Ty) → Decides (type_eq t u) (t ≡ u))
-    → IsTable entries → types_of entries ≡ types → a < length types → b < length types
+    → IsTable entries → kept_types entries ≡ types → a < length types → b < length types
     → nat_eq a b ≡ type_eq (type_at types a) (type_at types b)
 same-as-numbers entries types a b law is view a_in b_in =
     same_from_decides {P = type_at types a ≡ type_at types b} (nat_eq a b)

@@ -17,13 +17,13 @@ abbrev pub field_at : List Ty → Part → Field Ty
 field_at types part = record { name = part.name; ty = type_at types part.ty }
 
 -- one level of the type that a shape stands for
-abbrev pub level : List Ty → Shape → Ty-F Ty
-level types shape.Int = Ty-F.Int
-level types shape.Bool = Ty-F.Bool
-level types shape.Text = Ty-F.Text
-level types (shape.List part) = Ty-F.List (type_at types part)
-level types (shape.Rec parts) = Ty-F.Rec (map (field_at types) parts)
-level types (shape.Either left right) = Ty-F.Either (type_at types left) (type_at types right)
+abbrev pub shape_layer : List Ty → Shape → Ty-F Ty
+shape_layer types shape.Int = Ty-F.Int
+shape_layer types shape.Bool = Ty-F.Bool
+shape_layer types shape.Text = Ty-F.Text
+shape_layer types (shape.List part) = Ty-F.List (type_at types part)
+shape_layer types (shape.Rec parts) = Ty-F.Rec (map (field_at types) parts)
+shape_layer types (shape.Either left right) = Ty-F.Either (type_at types left) (type_at types right)
 
 -- the type that a shape stands for
 abbrev pub tree_of : List Ty → Shape → Ty
@@ -58,8 +58,8 @@ types_from types [] = types
 types_from types (entry ∷ entries) = types_from (types ++ tree_of types entry.0 ∷ []) entries
 
 -- the types of a table's entries, which are shapes with their depths
-abbrev pub types_of : List (Shape × ℕ) → List Ty
-types_of = types_from []
+abbrev pub kept_types : List (Shape × ℕ) → List Ty
+kept_types = types_from []
 
 abbrev pub entry_at : List (Shape × ℕ) → ℕ → Shape × ℕ
 entry_at entries id = slice_index_or entries id (shape.Int, 0)
@@ -70,16 +70,16 @@ LacksShape entries shape =
     (id : ℕ) → id < length entries → (entry_at entries id).0 ≡ shape → ⊥
 
 -- the depth as it is kept, at most 2^32 - 1
-abbrev pub capped : ℕ → ℕ
-capped n = min n (2 ^ 32 - 1)
+abbrev pub depth_kept : ℕ → ℕ
+depth_kept n = min n (2 ^ 32 - 1)
 
 -- what holds of a table
 pub record IsTable (entries : List (Shape × ℕ)) : Type 0 where
-  pub as_many : length (types_of entries) ≡ length entries
+  pub as_many : length (kept_types entries) ≡ length entries
   pub levels : (id : ℕ) → id < length entries
-      → type_at (types_of entries) id ≡ tree_of (types_of entries) (entry_at entries id).0
+      → type_at (kept_types entries) id ≡ tree_of (kept_types entries) (entry_at entries id).0
   pub within : (id : ℕ) → id < length entries → IsWithin id (entry_at entries id).0
   pub apart : (id other : ℕ) → id < length entries → other < length entries
-      → type_at (types_of entries) id ≡ type_at (types_of entries) other → id ≡ other
+      → type_at (kept_types entries) id ≡ type_at (kept_types entries) other → id ≡ other
   pub depths : (id : ℕ) → id < length entries
-      → (entry_at entries id).1 ≡ capped (depth_of (type_at (types_of entries) id))
+      → (entry_at entries id).1 ≡ depth_kept (depth_of (type_at (kept_types entries) id))

@@ -23,7 +23,7 @@ pub fn shape_depth(shapes: &IndexMap<Shape, u32>, shape: &Shape) -> u32
     requires table { spec.IsTable shapes.now.entries }
     requires within { spec.IsWithin (length shapes.now.entries) shape.now }
     ensures { result ≡
-        spec.capped (depth_of (spec.tree_of (spec.types_of shapes.now.entries) shape.now)) }
+        spec.depth_kept (depth_of (spec.tree_of (spec.kept_types shapes.now.entries) shape.now)) }
 {
     depth_law();
     match shape {
@@ -42,8 +42,8 @@ pub fn shape_depth(shapes: &IndexMap<Shape, u32>, shape: &Shape) -> u32
 fn deepest(shapes: &IndexMap<Shape, u32>, parts: &[Part]) -> u32
     requires table { spec.IsTable shapes.now.entries }
     requires within { spec.AreWithin (length shapes.now.entries) parts.now }
-    ensures { result ≡ spec.capped
-        (deepest_of depth_of (map (spec.field_at (spec.types_of shapes.now.entries)) parts.now)) }
+    ensures { result ≡ spec.depth_kept
+        (deepest_of depth_of (map (spec.field_at (spec.kept_types shapes.now.entries)) parts.now)) }
 {
     let mut most = 0;
     for part in parts {
@@ -53,7 +53,7 @@ fn deepest(shapes: &IndexMap<Shape, u32>, parts: &[Part]) -> u32
 }
 
 fn one_more(depth: u32) -> u32
-    ensures { result ≡ spec.capped (depth + 1) }
+    ensures { result ≡ spec.depth_kept (depth + 1) }
 {
     depth.saturating_add(1)
 }

@@ -123,9 +123,9 @@ fn add_cell_at(
 
 fn add_cell(name: Str, shape: &Shape, columns: &mut Columns) -> Result<(), ColumnFault>
     ensures flat { OnOk result ((types : List Ty) → Adds columns.old columns.new
-        (cell_column name (spec.level types shape.now))) }
+        (cell_column name (spec.shape_layer types shape.now))) }
     ensures not_flat { IfErr result (λ e. e ≢ ColumnFault.Memory → (types : List Ty) →
-        cell_column name (spec.level types shape.now) ≡ None) }
+        cell_column name (spec.shape_layer types shape.now) ≡ None) }
 {
     match cell_kind(shape) {
         Some(kind) => {
@@ -137,7 +137,7 @@ fn add_cell(name: Str, shape: &Shape, columns: &mut Columns) -> Result<(), Colum
 }
 
 fn cell_kind(shape: &Shape) -> Option<ColumnKind>
-    ensures { (types : List Ty) → result ≡ kind_of (spec.level types shape.now) }
+    ensures { (types : List Ty) → result ≡ kind_of (spec.shape_layer types shape.now) }
 {
     match shape {
         Shape::Int => Some(ColumnKind::Int),

@@ -28,9 +28,9 @@ impl Model for Types {
 
     ghost coded = { coded_list (Prim.hlevel (coded_types.the_row.coded)) };
 
-    ghost use Rattle.type_table.specs.Table.{types_of, IsTable};
+    ghost use Rattle.type_table.specs.Table.{kept_types, IsTable};
 
-    ghost view = { λ types. types_of types.shapes.entries };
+    ghost view = { λ types. kept_types types.shapes.entries };
 
     ghost invariant = { λ types. IsTable types.shapes.entries };
 }
@@ -77,7 +77,7 @@ impl Types {
     /// How deep the parts of the type lie, as `flume_types::depth` counts.
     pub fn depth(&self, id: TypeId) -> u32
         requires { id < length self.now }
-        ensures { result ≡ spec.capped (depth_of (spec.type_at self.now id)) }
+        ensures { result ≡ spec.depth_kept (depth_of (spec.type_at self.now id)) }
     {
         depth_at(&self.shapes, id)
     }
@@ -85,7 +85,7 @@ impl Types {
     /// One level of the type. Its parts have smaller numbers.
     pub fn shape(&self, id: TypeId) -> &Shape
         requires { id < length self.now }
-        ensures level { out-Ty (spec.type_at self.now id) ≡ spec.level self.now result.now }
+        ensures level { out-Ty (spec.type_at self.now id) ≡ spec.shape_layer self.now result.now }
         ensures within { spec.IsWithin (length self.now) result.now }
         ensures smaller { spec.IsWithin id result.now }
     {

@@ -8,7 +8,7 @@ use Rattle.clap.proofs.OnLiterals.{clap_on_literals}
 use Rattle.drill_text.proofs.FirstLemmas.{number_begins}
 use Rattle.drill_text.proofs.NumberLemmas.{number_spelled}
 use Rattle.int_text.proofs.IntFacts.{le-to}
-use Rattle.command_words.specs.Words.{count_in, is_operand, make_app, most_made, workload, workload_at, workload_for}
+use Rattle.command_words.specs.Words.{bounded_count, is_operand, make_app, most_made, workload, workload_at, workload_for}
 use Rattle.command_words.specs.declared.workload.Workload.{Workload}
 use Rattle.word_laws.proofs.GrammarLemmas.{at_first, built_command}
 use Rattle.word_laws.proofs.OperandLemmas.{faults_from, operand_first, operand_taken, operand_walked}
@@ -41,7 +41,7 @@ answer fault w =
     if is_empty (or_else fault []) then workload_at (codes "make") (finished makes.rules w.held)
     else None
 
-counted : (n : ℕ) → n ≤ most_made → count_in (decimal n) ≡ Some n
+counted : (n : ℕ) → n ≤ most_made → bounded_count (decimal n) ≡ Some n
 counted n few = rw (number_spelled n (omega (arith, few))) (rw (le-to n most_made few) refl)
 
 operand : (n : ℕ) → n ≤ most_made → is_operand (decimal n) ≡ true

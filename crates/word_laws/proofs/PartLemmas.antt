@@ -17,7 +17,7 @@ use Rattle.drill_text.proofs.DrillLemmas.{neither}
 use Rattle.drill_text.proofs.NumberLemmas.{spelled_up_to}
 use Rattle.command_words.specs.Options.{drill_given, number_given}
 use Rattle.command_words.specs.Words.{dash, is_operand, plan_given}
-use Rattle.word_laws.specs.Parts.{AskForRun, Fail, Name, Part, Partitions, PlanFile, Script, Shards, Tries, Workers, id_of, value_of}
+use Rattle.word_laws.specs.Parts.{AskForRun, Fail, Name, Part, Partitions, PlanFile, Script, Shards, Tries, Workers, id_of, part_value}
 use Rattle.word_laws.proofs.RowLemmas.{is_named}
 use Rattle.crew.specs.declared.drill.Entry.{Entry}
 use Rattle.run_settings.specs.Settings.{RunSettings}
@@ -93,7 +93,7 @@ names_itself Script = refl
 names_itself _ = refl
 
 found_there : (part : Part) (parts seen : List Part) → list_any (is_named part.name) seen ≡ false
-    → value_of part.name (seen ++ part ∷ parts) ≡ Some part.value
+    → part_value part.name (seen ++ part ∷ parts) ≡ Some part.value
 found_there part parts seen new =
     ap (option_map (λ (p : Part). p.value)) (find_past (is_named part.name) seen (part ∷ parts) new)
     ∙ rw (names_itself part.name) refl
@@ -146,7 +146,7 @@ plan_operand (Some text) from value given is =
 -- the value of a part among them is a word that is no option
 operand_of : (parts : List Part) (script : Text) (settings : RunSettings)
     (from : Option Text) → is_operand script ≡ true → AskForRun parts script settings from
-    → (name : Name) (value : Text) → value_of name parts ≡ Some value → is_operand value ≡ true
+    → (name : Name) (value : Text) → part_value name parts ≡ Some value → is_operand value ≡ true
 operand_of parts script settings from is asks Script value there =
     let same : Some script ≡ Some value = sym asks.for_script ∙ there in
     let also : script ≡ value = cc same in
@@ -169,8 +169,8 @@ operands_from : (parts seen whole : List Part) (script : Text) (settings : RunSe
     → seen ++ parts ≡ whole → Fresh seen parts → AreOperands parts
 operands_from [] seen whole script settings from is asks all new = tt
 operands_from (part ∷ parts) seen whole script settings from is asks all new =
-    let there : value_of part.name whole ≡ Some part.value =
-    ap (value_of part.name) (sym all) ∙ found_there part parts seen new.0 in (
+    let there : part_value part.name whole ≡ Some part.value =
+    ap (part_value part.name) (sym all) ∙ found_there part parts seen new.0 in (
       operand_of whole script settings from is asks part.name part.value there,
       operands_from parts (seen ++ part ∷ []) whole script settings from is asks
           (append_assoc seen (part ∷ []) parts ∙ all) new.1,

@@ -14,7 +14,7 @@ use Rattle.command_words.specs.Cached.{CachedRun, cached_app, cached_at, cached_
 use Rattle.command_words.specs.Options.{drill_given, number_given, settings_given}
 use Rattle.command_words.specs.Words.{is_operand, is_set, plan_given}
 use Rattle.word_laws.specs.CachedWords.{HasPlainWords}
-use Rattle.word_laws.specs.Parts.{AskForRun, Fail, Name, Part, Partitions, PlanFile, Script, Shards, Tries, Workers, id_of, value_of, words_of}
+use Rattle.word_laws.specs.Parts.{AskForRun, Fail, Name, Part, Partitions, PlanFile, Script, Shards, Tries, Workers, id_of, part_value, part_words}
 use Rattle.word_laws.proofs.PartLemmas.{names_itself}
 use Rattle.word_laws.proofs.RunLemmas.{run_asked}
 
@@ -80,23 +80,23 @@ are_apart (one ∷ all) new i j d less within =
 
 value_past : (name other : Name) (value : Option Text) (rest : List Part)
     → bytes_eq (id_of other) (id_of name) ≡ false
-    → value_of name (part_if other value ++ rest) ≡ value_of name rest
+    → part_value name (part_if other value ++ rest) ≡ part_value name rest
 value_past name other None rest apart = refl
 value_past name other (Some value) rest apart = rw apart refl
 
 no_value : (name : Name) (all : List Given) → IsNew name all
-    → value_of name (parts_in all) ≡ None
+    → part_value name (parts_in all) ≡ None
 no_value name [] new = refl
 no_value name (one ∷ all) new =
     value_past name one.0 one.1 (parts_in all) new.0 ∙ no_value name all new.1
 
-value_here : (name : Name) (value : Option Text) (rest : List Part) → value_of name rest ≡ None
-    → value_of name (part_if name value ++ rest) ≡ value
+value_here : (name : Name) (value : Option Text) (rest : List Part) → part_value name rest ≡ None
+    → part_value name (part_if name value ++ rest) ≡ value
 value_here name None rest none = none
 value_here name (Some value) rest none = rw (names_itself name) refl
 
 value_in : (name : Name) (value : Option Text) (before behind : List Given) → IsNew name before
-    → IsNew name behind → value_of name (parts_in (before ++ (name, value) ∷ behind)) ≡ value
+    → IsNew name behind → part_value name (parts_in (before ++ (name, value) ∷ behind)) ≡ value
 value_in name value [] behind new none =
     value_here name value (parts_in behind) (no_value name behind none)
 value_in name value (one ∷ before) behind new none =
@@ -241,7 +241,7 @@ plain_of_rows rows run e =
     let same : made ≡ run = cc i.1 in
     let parts = plain_parts w.0 rows in
     subst HasPlainWords same (
-      codes "run" ∷ flat_map words_of parts,
+      codes "run" ∷ flat_map part_words parts,
       run_asked w.0 parts s.0 None i.0 (asks_plainly w.0 rows s.0 s.1),
     )
 

@@ -18,7 +18,7 @@ use Rattle.clap.specs.declared.parser.matches.ValueSource.{ValueSource}
 use Rattle.clap.specs.declared.parser.matches.ValueSource.TheVariants.{CommandLine}
 use Rattle.drill_text.proofs.DrillLemmas.{neither}
 use Rattle.drill_text.proofs.NumberLemmas.{both}
-use Rattle.word_laws.specs.Parts.{Name, Part, Script, id_of, value_of}
+use Rattle.word_laws.specs.Parts.{Name, Part, Script, id_of, part_value}
 use Rattle.word_laws.proofs.StepLemmas.{rules, running, script, waiting_fault, with_part}
 
 -- ---- the rows of parts
@@ -174,7 +174,7 @@ value_first (Some part) = refl
 value_first None = refl
 
 pub first_value : (name : Name) (parts : List Part)
-    → first_of (id_of name) (map row parts) ≡ value_of name parts
+    → first_of (id_of name) (map row parts) ≡ part_value name parts
 first_value name parts =
     ap (option_and_then (λ (r : Row). slice_get r.values 0)) (found name parts)
     ∙ value_first (find (is_named name) parts)
@@ -185,7 +185,7 @@ is_explicit (Some part) word is = refl
 is_explicit None word is = cc is
 
 -- the script is there
-pub checks_pass : (parts : List Part) (word : Text) → value_of Script parts ≡ Some word
+pub checks_pass : (parts : List Part) (word : Text) → part_value Script parts ≡ Some word
     → check_fault running (map row parts) false ≡ []
 checks_pass parts word there =
     let given : is_given (id_of Script) (map row parts) ≡ true =

@@ -16,7 +16,7 @@ use Rattle.drill_text.specs.Drills.{◌>>=◌}
 use Rattle.drill_text.proofs.DrillLemmas.{neither}
 use Rattle.command_words.specs.Options.{settings_given}
 use Rattle.command_words.specs.Words.{Asked, asked_at, asked_for, asked_of, asking, flume_app, is_operand, plan_given, run_of, run_with}
-use Rattle.word_laws.specs.Parts.{AskForRun, Fail, Name, Part, Partitions, PlanFile, Script, Shards, Tries, Workers, words_of}
+use Rattle.word_laws.specs.Parts.{AskForRun, Fail, Name, Part, Partitions, PlanFile, Script, Shards, Tries, Workers, part_words}
 use Rattle.word_laws.specs.Grammar.{WordsAskFor}
 use Rattle.command_words.specs.declared.words.Command.{Command}
 use Rattle.command_words.specs.declared.words.Command.TheVariants.{Run}
@@ -56,9 +56,9 @@ record IsWalked (seen parts : List Part) (h : Held) (position : ℕ) : Type 0 wh
   held : Held
   place : ℕ
   holds : Holds (seen ++ parts) held
-  walk_is : fold (walked rules []) (at_position h position) (flat_map words_of parts)
+  walk_is : fold (walked rules []) (at_position h position) (flat_map part_words parts)
       ≡ at_position held place
-  faults : faults_from running (at_position h position) (flat_map words_of parts)
+  faults : faults_from running (at_position h position) (flat_map part_words parts)
       ≡ last_fault running (at_position held place)
 
 walks : (parts seen : List Part) (h : Held) (position : ℕ) → Holds seen h → Fresh seen parts
@@ -72,7 +72,7 @@ walks [] seen h position holds new operands placed = record {
   faults = refl;
 }
 walks (part ∷ parts) seen h position holds new operands placed =
-    let words = flat_map words_of parts in
+    let words = flat_map part_words parts in
     let at = at_place part.name seen position placed new.0 in
     let rest = walks parts (seen ++ part ∷ []) (with_part part.name part.value h)
     (place_behind part.name position) (holds_more seen h part holds new.0) new.1 operands.1
@@ -202,11 +202,11 @@ nothing_fails parts script settings from h place asks holds =
 
 pub run_asked : (script : Text) (parts : List Part) (settings : RunSettings) (from : Option Text)
     → is_operand script ≡ true → AskForRun parts script settings from
-    → WordsAskFor (codes "run" ∷ flat_map words_of parts) (Run settings from) script
+    → WordsAskFor (codes "run" ∷ flat_map part_words parts) (Run settings from) script
 run_asked script parts settings from is asks program =
     let end = walks parts [] nothing_held 1 holds_none (fresh parts [] asks.apart)
     (are_operands parts script settings from is asks) (λ none. refl) in
-    run_entered program (flat_map words_of parts)
+    run_entered program (flat_map part_words parts)
     ∙ ap₂ (answer running (codes "run"))
     (end.faults ∙ nothing_fails parts script settings from end.held end.place asks end.holds)
     end.walk_is

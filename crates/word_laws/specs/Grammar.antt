@@ -3,7 +3,7 @@ use Rattle.std.specs.Prelude.{◌≡◌, List, [], ◌∷◌, Option, Some, None
 use Rattle.std.specs.List.{flat_map}
 use Rattle.clap.specs.Words.{Text}
 use Rattle.run_settings.specs.Settings.{RunSettings, standard}
-use Rattle.word_laws.specs.Parts.{AskForRun, Part, words_of}
+use Rattle.word_laws.specs.Parts.{AskForRun, Part, part_words}
 use Rattle.command_words.specs.Words.{asked_for}
 use Rattle.command_words.specs.declared.words.Command.{Command}
 use Rattle.command_words.specs.declared.words.Command.TheVariants.{Check, Plan, Direct, Run}
@@ -30,4 +30,4 @@ pub record TakesGrammar (script : Text) : Type 0 where
   pub run : WordsAskFor (codes "run" ∷ script ∷ []) (Run standard None) script
   pub options : (parts : List Part) (settings : RunSettings) (from : Option Text)
       → AskForRun parts script settings from
-      → WordsAskFor (codes "run" ∷ flat_map words_of parts) (Run settings from) script
+      → WordsAskFor (codes "run" ∷ flat_map part_words parts) (Run settings from) script

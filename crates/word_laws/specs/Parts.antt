@@ -38,12 +38,12 @@ abbrev pub words_for : Name → Text → List Text
 words_for Script value = value ∷ []
 words_for name value = (dash ∷ dash ∷ id_of name) ∷ value ∷ []
 
-abbrev pub words_of : Part → List Text
-words_of part = words_for part.name part.value
+abbrev pub part_words : Part → List Text
+part_words part = words_for part.name part.value
 
 -- the value of the part of this name
-abbrev pub value_of : Name → List Part → Option Text
-value_of name parts =
+abbrev pub part_value : Name → List Part → Option Text
+part_value name parts =
     option_map (λ part. part.value) (find (λ part. bytes_eq (id_of part.name) (id_of name)) parts)
 
 -- parts that ask for a run of the script with these settings, of the plan of a file where one is
@@ -51,14 +51,15 @@ value_of name parts =
 pub record AskForRun (parts : List Part) (script : Text) (settings : RunSettings)
     (from : Option Text) : Type 0 where
   pub apart : AllPairs (λ one other. one.name ≢ other.name) parts
-  pub for_script : value_of Script parts ≡ Some script
-  pub for_workers : number_given standard.workers most_workers (value_of Workers parts)
+  pub for_script : part_value Script parts ≡ Some script
+  pub for_workers : number_given standard.workers most_workers (part_value Workers parts)
       ≡ Some settings.workers
-  pub for_shards : number_given standard.shards most_shards (value_of Shards parts)
+  pub for_shards : number_given standard.shards most_shards (part_value Shards parts)
       ≡ Some settings.shards
-  pub for_partitions : number_given standard.partitions most_partitions (value_of Partitions parts)
+  pub for_partitions : number_given standard.partitions most_partitions
+      (part_value Partitions parts)
       ≡ Some settings.partitions
-  pub for_tries : number_given standard.tries most_tries (value_of Tries parts)
+  pub for_tries : number_given standard.tries most_tries (part_value Tries parts)
       ≡ Some settings.tries
-  pub for_drill : drill_given (value_of Fail parts) ≡ Some settings.drill
-  pub for_plan : plan_given (value_of PlanFile parts) ≡ Some from
+  pub for_drill : drill_given (part_value Fail parts) ≡ Some settings.drill
+  pub for_plan : plan_given (part_value PlanFile parts) ≡ Some from

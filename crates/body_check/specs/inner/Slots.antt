@@ -13,7 +13,7 @@ use Rattle.expression_check.specs.of_expression_types.Sight.{Sight, with_name}
 use Rattle.expression_check.specs.of_expression_types.Fields.{member_type, side_types}
 use Rattle.expression_check.specs.of_expression_types.Types.{is_same, is_bool}
 use Rattle.expression_check.specs.Slots.{SlotsAndType, slots_of}
-use Rattle.body_check.specs.Outputs.{output_of}
+use Rattle.body_check.specs.Outputs.{output_written}
 
 -- a statement, and what is in sight behind it
 abbrev pub Placed : Type 0
@@ -58,7 +58,7 @@ module _ (line : ℕ) where
 
   abbrev pub emit_slots : List Ty → Option (List ℕ) → Expr → Sight → Checked Placed
   emit_slots gives to e s = do
-    output ← or_fault line BadNumber (output_of (length gives) to)
+    output ← or_fault line BadNumber (output_written (length gives) to)
     wanted ← or_fault line BadNumber (slice_get gives output)
     slots ← slots_as (λ t. is_same t wanted) e s
     Ok (stmt.Emit output slots, s)

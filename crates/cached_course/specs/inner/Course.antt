@@ -10,8 +10,8 @@ use Rattle.exec_plan.specs.declared.plan.Plan.{Plan}
 use Rattle.flume_collection.specs.declared.trap.Trap.{Trap}
 use Rattle.flume_value.specs.Ranges.{IsHeld}
 use Rattle.flume_value.specs.declared.value.Value.{Value}
-use Rattle.kept_results.specs.Lists.{found_of, given_to, input_numbers, later_of}
-use Rattle.kept_results.specs.Sizes.{beside, nodes_needed, sizes_kept, sizes_told}
+use Rattle.kept_results.specs.Lists.{found_of, rows_for_script, input_numbers, later_of}
+use Rattle.kept_results.specs.Sizes.{size_pairs, nodes_needed, sizes_kept, sizes_told}
 use Rattle.outside.specs.Saves.{HasFiles}
 use Rattle.outside.specs.Says.{HasLine}
 use Rattle.outside.specs.Seen.{SeenScreen, SeenShelf, SeenSource}
@@ -67,7 +67,7 @@ pub record WasGiven (script : Script) (asked : List (ℕ × List ℕ)) (rows : L
   pub looked : List (Option Saved)
   pub was : WereLooked script asked looked before after
   pub program : given.program.script ≡ later_of script (found_of asked looked)
-  pub lists : given.lists ≡ given_to script (found_of asked looked) rows
+  pub lists : given.lists ≡ rows_for_script script (found_of asked looked) rows
   pub known : given.known.items ≡ sizes_kept script (found_of asked looked)
   pub missing : AreMissing script (not_found asked looked) given.missing.items
   pub needed : given.needed.items ≡ nodes_needed script
@@ -77,7 +77,7 @@ pub record WasGiven (script : Script) (asked : List (ℕ × List ℕ)) (rows : L
 -- what is known of sizes, and behind it what a run has counted of the collections that it needs
 abbrev pub counted_too : Script → List (ℕ × ℕ) → List (List ℕ × ℕ) → List (ℕ × ℕ)
 counted_too script known ran =
-    known ++ beside (nodes_needed script) (map (λ line. line.1) ran)
+    known ++ size_pairs (nodes_needed script) (map (λ line. line.1) ran)
 
 -- what is known of sizes where what was given means this table
 abbrev pub known_by : Given → CollectionTable → List (ℕ × ℕ)

@@ -4,14 +4,14 @@ use Rattle.std.specs.Bool.{MatchBool}
 use Rattle.atomic_table.specs.Table.{Me, Step}
 use Rattle.atomic_table.specs.Seated.{TableId}
 use Rattle.claim_board.specs.declared.size.Size.{Size}
-use Rattle.claim_board.specs.Protocol.{PassState, fresh, drawn, IsOpen}
+use Rattle.claim_board.specs.Protocol.{PassState, pass_begun, drawn, IsOpen}
 use Rattle.claim_board.specs.Boards.{Board, Pass, Passes, AreBefore, Saw, HasWon, HasLost}
 use Rattle.claim_board.specs.Told.{draw_of}
 use Rattle.claim_board.specs.Seats.{View, limit_at, maker_view, pass_view}
 
 -- the pass that a view stands for
 abbrev pub first_pass : List PassState → PassState
-first_pass [] = fresh 0
+first_pass [] = pass_begun 0
 first_pass (p ∷ ps) = p
 
 abbrev pub pass_in : View → PassState
@@ -53,7 +53,7 @@ abbrev pub make_left : View → View
 make_left v = maker_view v.size (v.made + 1) v.passes
 
 abbrev pub make_right : View → View
-make_right v = pass_view v.size (fresh v.made)
+make_right v = pass_view v.size (pass_begun v.made)
 
 -- the maker takes a pass over, before those that it has
 abbrev pub take_over : View → View → View

@@ -3,18 +3,18 @@ use Rattle.std.specs.Prelude.{◌≡◌, ◌||◌, ◌++◌, ℕ, List, [], Opti
 use Rattle.std.specs.List.{flat_map}
 use Rattle.flume_value.specs.Bag.{bag_of}
 use Rattle.flume_value.specs.declared.value.Value.{Value}
-use Rattle.dofn_eval.specs.Function.{Function as Fun}
+use Rattle.dofn_eval.specs.Function.{SlotFunction as Fun}
 use Rattle.dofn_eval.specs.Run.{slots_mean}
 use Rattle.flume_collection.specs.Calls.{Called, emissions, trap_of}
 use Rattle.flume_collection.specs.declared.trap.Trap.{Trap}
 use Rattle.script_program.specs.Script.{Function}
-use Rattle.direct_meaning.specs.Calls.{answer_of, answered}
+use Rattle.direct_meaning.specs.Calls.{answer_of, call_answered}
 use Rattle.direct_meaning.specs.declared.kept.Kept.{Kept}
 use Rattle.direct_meaning.specs.inner.Kept.{has_traps}
 
 -- what a call of a function with slots on an element answers
 unfoldable pub slots_answer : Fun → Value → Option Called
-slots_answer fun element = answered element (slots_mean fun.outputs fun.body element)
+slots_answer fun element = call_answered element (slots_mean fun.outputs fun.body element)
 
 -- what is emitted to the output of that place, where there is an answer
 abbrev pub emitted_by : ℕ → Option Called → List Value

@@ -11,7 +11,7 @@ use Rattle.script_laws.specs.WellFormed.{AllFit}
 use Rattle.direct_meaning.specs.Direct.{collections, meaning, traps_of}
 use Rattle.direct_meaning.specs.Inputs.{AreLists, Sourced, sourced_by}
 use Rattle.direct_meaning.specs.Made.{AreMade}
-use Rattle.script_program.specs.Needed.{is_needed, numbered}
+use Rattle.script_program.specs.Needed.{is_needed, collections_numbered}
 use Rattle.direct_meaning.specs.declared.kept.Kept.{Kept}
 use Rattle.direct_meaning.specs.inner.Kept.{KeepsAny}
 
@@ -19,7 +19,7 @@ use Rattle.direct_meaning.specs.inner.Kept.{KeepsAny}
 abbrev pub sourced_from : Script → ℕ → Named Node → List Sourced
 sourced_from script number nodes =
     flat_map (λ it. sourced_by it.1.1.made it.1.1.type)
-    (filter (λ it. is_needed script it.0) (numbered number nodes))
+    (filter (λ it. is_needed script it.0) (collections_numbered number nodes))
 
 -- Before the node of this number, with these rows to come, this kept, and these traps found: the
 -- nodes before it have made a table, and going on from there comes to the script's meaning.

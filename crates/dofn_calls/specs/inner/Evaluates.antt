@@ -13,8 +13,8 @@ use Rattle.dofn_calls.specs.declared.evaluate.Pairing.{Pairing}
 use Rattle.dofn_calls.specs.declared.evaluate.Pairing.TheVariants.{Operation, Member}
 use Rattle.dofn_calls.specs.declared.evaluate.Branch.{Branch}
 use Rattle.dofn_calls.specs.declared.evaluate.Branch.TheVariants.{Truth, Part}
-use Rattle.dofn_eval.specs.Meaning.{value_of}
-use Rattle.dofn_eval.specs.Run.{Emissions, SlotState, state, emitted_to, run, run_one as one_run}
+use Rattle.dofn_eval.specs.Meaning.{expression_value}
+use Rattle.dofn_eval.specs.Run.{Emissions, SlotState, state, emitted_to, run_statements, run_one as one_run}
 use Rattle.dofn_eval.specs.Run.{for_each, side_of, by_side}
 use Rattle.dofn_calls.specs.inner.Operands.{values, named}
 
@@ -29,7 +29,7 @@ Returns = Evaluates (λ a. a)
 
 -- what an expression gives with these values in scope
 abbrev pub value_in : Scope → Expr → Outcome Value
-value_in scope e = value_of e (values scope)
+value_in scope e = expression_value e (values scope)
 
 abbrev pub paired : Pairing → Value → Value → Outcome Value
 paired (Operation op) = of_two op
@@ -53,7 +53,7 @@ branch_size (Part e) = size-Expr e.now
 
 -- what a block emits with these values in scope, behind what was emitted so far
 abbrev pub run_in : Scope → List Stmt → Emissions → Outcome Emissions
-run_in scope block out = run block (values scope) out
+run_in scope block out = run_statements block (values scope) out
 
 -- ---- where a block has named values so far
 
@@ -64,7 +64,7 @@ abbrev pub run_one : Scope → Stmt → List Value → Emissions → Outcome Slo
 run_one outer stmt names out = one_run stmt (state_in outer names out)
 
 abbrev pub value_behind : Scope → List Value → Expr → Outcome Value
-value_behind outer names e = value_of e (named names (values outer))
+value_behind outer names e = expression_value e (named names (values outer))
 
 -- the values in scope with that of an expression more
 abbrev pub name : Scope → List Value → Expr → Outcome (List Value)
@@ -79,11 +79,13 @@ abbrev pub run_if : Scope → Expr → List Stmt → List Stmt → Emissions →
 run_if scope c a b out = chosen (value_in scope c) (run_in scope a out) (run_in scope b out)
 
 abbrev pub run_for : Scope → Expr → List Stmt → Emissions → Outcome Emissions
-run_for scope e body out = for_each (run body) (value_in scope e) (values scope) out
+run_for scope e body out = for_each (run_statements body) (value_in scope e) (values scope) out
 
 abbrev pub run_case : Scope → Expr → List Stmt → List Stmt → Emissions → Outcome Emissions
-run_case scope e a b out = by_side (run a) (run b) (value_in scope e) (values scope) out
+run_case scope e a b out =
+    by_side (run_statements a) (run_statements b) (value_in scope e) (values scope) out
 
 -- the same for an either that is there
 abbrev pub run_side : Scope → Value → List Stmt → List Stmt → Emissions → Outcome Emissions
-run_side scope x a b out = side_of (run a) (run b) (left_of x) (right_of x) (values scope) out
+run_side scope x a b out =
+    side_of (run_statements a) (run_statements b) (left_of x) (right_of x) (values scope) out

@@ -25,7 +25,7 @@ use Rattle.flume_grammar.specs.declared.parts.Suffix.{Suffix}
 use Rattle.flume_grammar.specs.declared.parts.Suffix.TheVariants as suffix
 use Rattle.flume_grammar.specs.inner.Out.{Out, give, bind, at, one, next, all_of}
 use Rattle.flume_grammar.specs.inner.Reading.{is_sign, sign_at, word_at, comma_at}
-use Rattle.flume_grammar.specs.Parts.{none, with_part}
+use Rattle.flume_grammar.specs.Parts.{none, with_named_part}
 use Rattle.flume_grammar.specs.inner.Types.{at_comma, whole_type}
 use Rattle.flume_grammar.specs.Limits.{Limits, the_limits}
 use Rattle.flume_grammar.specs.Operators.{operator_of, rank, left_rank}
@@ -148,7 +148,7 @@ continued limit inner least x ts =
 abbrev pub field : Inner → Parts Expr → List Token → Out (Parts Expr)
 field inner p ts =
     bind (one word_at ts) (λ w us. bind (one (sign_at sign.Colon) us)
-    (λ _ vs. bind (inner 1 vs) (λ x ws. give (with_part p w x.0 x.1) ws)))
+    (λ _ vs. bind (inner 1 vs) (λ x ws. give (with_named_part p w x.0 x.1) ws)))
 
 -- the members of a list so far, with the depth of the deepest
 abbrev pub Members : Type 0

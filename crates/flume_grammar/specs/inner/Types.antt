@@ -16,7 +16,7 @@ use Rattle.flume_grammar.specs.declared.start.TypeStart.TheVariants as start
 use Rattle.flume_grammar.specs.inner.Out.{Out, give, bind, no_deeper, at, one, next, all_of}
 use Rattle.flume_grammar.specs.inner.Reading.{sign_at, word_at, comma_at, is_at_sign}
 use Rattle.flume_grammar.specs.Limits.{Limits, the_limits}
-use Rattle.flume_grammar.specs.Parts.{Tree, none, with_part}
+use Rattle.flume_grammar.specs.Parts.{Tree, none, with_named_part}
 
 abbrev pub deep_start : ℕ → Token → TypeStart → Result TypeStart Stop
 deep_start limit t s = if nat_lt 1 limit then Ok s else Err (at t TooDeep)
@@ -64,7 +64,7 @@ pair_type inner ts =
 abbrev pub field_type : Inner → Parts Tree → List Token → Out (Parts Tree)
 field_type inner p ts =
     bind (one word_at ts) (λ w us. bind (one (sign_at sign.Colon) us)
-    (λ _ vs. bind (inner vs) (λ x ws. give (with_part p w x.0 x.1) ws)))
+    (λ _ vs. bind (inner vs) (λ x ws. give (with_named_part p w x.0 x.1) ws)))
 
 abbrev pub at_comma : {A : Type 0} → A → List Token → Bool
 at_comma p ts = is_at_sign sign.Comma (next ts)

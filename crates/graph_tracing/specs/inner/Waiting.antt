@@ -9,7 +9,7 @@ use Rattle.exec_graph.specs.declared.graph.Place.{Place}
 use Rattle.pass_rewrites.specs.of_fuse_chain.Numbers.{after_kids}
 use Rattle.pass_rewrites.specs.of_fuse_chain.Rewrites.{FusesTo, Fusion, is_sibling, other_of}
 use Rattle.graph_rewrites.specs.declared.rewrite.Rewrite.{Rewrite}
-use Rattle.pass_rewrites.specs.Passes.{as_rewrite, present}
+use Rattle.pass_rewrites.specs.Passes.{as_rewrite, present_fusions}
 use Rattle.graph_tracing.specs.declared.trace.Trace.{Trace}
 
 -- no two Pdos read one collection
@@ -43,7 +43,7 @@ pub record IsUnderway (siblings : Bool) (l total : ℕ → ℕ) (t : Trace) (m :
     (whole : List Rewrite) : Type 0 where
   pub rest : List Fusion
   pub await : Await siblings t.graph m ns rest
-  pub written : t.rewrites ++ map as_rewrite (present l rest) ≡ whole
+  pub written : t.rewrites ++ map as_rewrite (present_fusions l rest) ≡ whole
   pub last : (n : ℕ) → after_kids rest l n ≡ total n
 
 -- none of these is there

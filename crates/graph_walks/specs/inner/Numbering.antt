@@ -1,7 +1,7 @@
 -- Outputs numbered one behind the other, step by step as they are held.
 use Rattle.std.specs.Prelude.{ℕ, List, [], ◌∷◌, ◌++◌}
 use Rattle.std.specs.List.{flat_map}
-use Rattle.graph_laws.specs.of_exec_graph.Forests.{Branch, Twig, after, after_out, new_out, numbered}
+use Rattle.graph_laws.specs.of_exec_graph.Forests.{Branch, Twig, next_after, after_out, new_out, numbered}
 use Rattle.graph_walks.specs.Outs.{out_list, outs}
 
 -- each under the numbers behind those of the ones before it
@@ -16,7 +16,7 @@ numbered_twig n t =
     record { out = new_out n t.out; kids = numbered (after_out n t.out) t.kids }
 
 abbrev pub after_twig : ℕ → Twig → ℕ
-after_twig n t = after (after_out n t.out) t.kids
+after_twig n t = next_after (after_out n t.out) t.kids
 
 abbrev pub twig_outs : Twig → List ℕ
 twig_outs t = out_list t.out ++ outs t.kids

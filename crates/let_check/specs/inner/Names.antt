@@ -2,7 +2,7 @@
 use Rattle.std.specs.Prelude.{◌≡◌, ℕ, List, [], ◌∷◌, false, is_some, ⊤}
 use Rattle.operation_check.specs.of_written_types.Named.{find}
 use Rattle.script_program.specs.declared.made.Standing.TheVariants.{Hidden}
-use Rattle.script_program.specs.Script.{Making, State, with_name, with_node}
+use Rattle.script_program.specs.Script.{Making, State, with_standing, with_node}
 
 -- each name is new behind the names before it
 abbrev pub AreNew : List (List ℕ) → List Making → State → Type 0
@@ -15,4 +15,4 @@ AreNew (name ∷ names) (making ∷ makings) s =
 abbrev pub AreFree : List (List ℕ) → State → Type 0
 AreFree [] s = ⊤
 AreFree (name ∷ names) s =
-    (is_some (find name s.names) ≡ false) × AreFree names (with_name name Hidden s)
+    (is_some (find name s.names) ≡ false) × AreFree names (with_standing name Hidden s)

@@ -6,7 +6,7 @@ use Rattle.combine_table.specs.declared.comb.Comb.{Comb}
 use Rattle.partial_tables.specs.Lifted.{IsLifted, accumulators_of}
 use Rattle.shuffle_parts.specs.declared.out.Sent.{Sent}
 use Rattle.shuffle_parts.specs.declared.out.Sent.TheVariants as sent
-use Rattle.shuffle_parts.specs.Partitions.{parted}
+use Rattle.shuffle_parts.specs.Partitions.{in_parts}
 use Rattle.exec_plan.specs.declared.plan.Take.{Take}
 use Rattle.exec_plan.specs.declared.plan.OutChannel.{OutChannel}
 use Rattle.exec_plan.specs.declared.plan.OutChannel.TheVariants.{Group, Pass}
@@ -21,12 +21,12 @@ ArePassed _ values = ⊥
 
 -- the pairs of a channel that groups, by the partition of their keys
 abbrev pub AreParted : ℕ → Filling → List Value → Type 0
-AreParted n (Grouped parts) pairs = parts.items ≡ parted n pairs
+AreParted n (Grouped parts) pairs = parts.items ≡ in_parts n pairs
 AreParted n _ pairs = ⊥
 
 -- those of a lifted one, put into the accumulators of that partition
 abbrev pub AreLifted : Comb → ℕ → Filling → List Value → Type 0
-AreLifted c n (Combined parts) pairs = AllZip (IsLifted c) parts.items (parted n pairs)
+AreLifted c n (Combined parts) pairs = AllZip (IsLifted c) parts.items (in_parts n pairs)
 AreLifted c n _ pairs = ⊥
 
 abbrev pub AreFilled : Option Comb → ℕ → Filling → List Value → Type 0

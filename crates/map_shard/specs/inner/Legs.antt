@@ -10,7 +10,7 @@ use Rattle.exec_graph.specs.World.{World}
 use Rattle.exec_plan.specs.Wellformed.{IsNumbered}
 use Rattle.exec_plan.specs.declared.plan.OutChannel.{OutChannel}
 use Rattle.task_safety.specs.of_task_lists.Outs.{IsSent}
-use Rattle.task_safety.specs.of_task_lists.Runs.{all_given, counts_of, kept_count, traps_of}
+use Rattle.task_safety.specs.of_task_lists.Runs.{all_emissions, counts_of, kept_count, traps_in_order}
 use Rattle.forest_steps.specs.Functions.{world_of}
 use Rattle.forest_steps.specs.Safety.{SafeOf}
 use Rattle.map_shard.specs.declared.legs.Legs.{Legs}
@@ -35,24 +35,24 @@ module _ (w : World) (p m : ℕ) (does : Option Forest) (os : List OutChannel)
     (xs : List Value) where
   -- nothing traps; what the output channels were given, and the counts
   pub record AreLegs (legs : Legs) : Type 0 where
-    pub calm : traps_of w does xs ≡ []
-    pub filled : AllZip (IsFilled p (taken m (all_given w does xs))) os legs.fillings.items
+    pub calm : traps_in_order w does xs ≡ []
+    pub filled : AllZip (IsFilled p (taken m (all_emissions w does xs))) os legs.fillings.items
     pub counts : legs.counts.items ≡ map kept_count (counts_of w does xs)
 
   -- that, or the first trap
   abbrev pub AreLegsOr : Result Legs Trap → Type 0
   AreLegsOr (Ok legs) = AreLegs legs
-  AreLegsOr (Err trap) = slice_get (traps_of w does xs) 0 ≡ Some trap
+  AreLegsOr (Err trap) = slice_get (traps_in_order w does xs) 0 ≡ Some trap
 
   -- the same of what the channels get in the end
   pub record IsWhole (out : MapOut) : Type 0 where
-    pub calm : traps_of w does xs ≡ []
-    pub sent : AllZip (IsSent p (taken m (all_given w does xs))) os out.sent
+    pub calm : traps_in_order w does xs ≡ []
+    pub sent : AllZip (IsSent p (taken m (all_emissions w does xs))) os out.sent
     pub counts : out.counts ≡ map kept_count (counts_of w does xs)
 
   abbrev pub IsWholeOr : Result MapOut Trap → Type 0
   IsWholeOr (Ok out) = IsWhole out
-  IsWholeOr (Err trap) = slice_get (traps_of w does xs) 0 ≡ Some trap
+  IsWholeOr (Err trap) = slice_get (traps_in_order w does xs) 0 ≡ Some trap
 
 -- ---- the same of the steps of a map task
 
@@ -63,7 +63,8 @@ module _ {F : Type 0} (w : World) (steps : Steps F) where
     pub numbered : IsNumbered steps.does.now
     pub taken : AreTakes steps.m steps.channels.now steps.takes.now
     pub safe : AllByRecursion (SafeOf w takes steps.does.now) xs
-    pub fit : AllByRecursion (CanSend steps.m (all_given w steps.does.now xs)) steps.channels.now
+    pub fit : AllByRecursion (CanSend steps.m (all_emissions w steps.does.now xs))
+        steps.channels.now
 
   abbrev pub IsWholeIn : List Value → Result MapOut Trap → Type 0
   IsWholeIn xs = IsWholeOr w steps.partitions steps.m steps.does.now steps.channels.now xs

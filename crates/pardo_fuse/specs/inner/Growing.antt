@@ -2,7 +2,7 @@
 use Rattle.std.specs.Prelude.{ℕ, Option}
 use Rattle.exec_graph.specs.Forests.{Forest}
 use Rattle.pardo_fuse.specs.Readers.{cut_of}
-use Rattle.pardo_fuse.specs.Fusing.{named}
+use Rattle.pardo_fuse.specs.Fusing.{name_for}
 use Rattle.pardo_fuse.specs.declared.trees.Growth.{Growth}
 use Rattle.pardo_fuse.specs.inner.Naming.{over_at, steps_at, trees_at}
 
@@ -10,7 +10,7 @@ abbrev pub steps_of : Growth → Forest
 steps_of g = steps_at (cut_of g.blocked.now) g.number
 
 abbrev pub name_of : Growth → Option ℕ → Option ℕ
-name_of g o = named (cut_of g.blocked.now) g.number o
+name_of g o = name_for (cut_of g.blocked.now) g.number o
 
 abbrev pub over : Growth → Option ℕ → Forest
 over g o = over_at (cut_of g.blocked.now) g.levels g.number o

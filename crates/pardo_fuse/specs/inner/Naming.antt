@@ -3,7 +3,7 @@
 use Rattle.std.specs.Prelude.{◌≡◌, ℕ, ◌+◌, ◌<◌, ◌^◌, ◌==◌, true, cond, List, [], ◌∷◌, ◌++◌, Option, Some, None, nat_eq}
 use Rattle.std.specs.List.{flat_map, AllByRecursion}
 use Rattle.std.specs.HashMap.{HashMap, get}
-use Rattle.exec_graph.specs.Forests.{Forest, Bare, Grow, after, after_out}
+use Rattle.exec_graph.specs.Forests.{Forest, Bare, Grow, next_after, after_out}
 use Rattle.exec_graph.specs.Meaning.{node_at, place}
 use Rattle.exec_graph.specs.Places.{code}
 use Rattle.exec_graph.specs.declared.graph.Place.{Place}
@@ -31,7 +31,7 @@ names_from h s Bare = []
 names_from h s (Grow l kids rest) =
     out_names h s l.out
     ++ (names_from h (after_out s l.out) kids
-    ++ names_from h (after (after_out s l.out) kids) rest)
+    ++ names_from h (next_after (after_out s l.out) kids) rest)
 
 abbrev pub left_names : Cut → ℕ → Node → List Name
 left_names b n (Pdo c f) = cond (leads b n c) (names_from n 0 (forest_over b c)) []
@@ -67,13 +67,13 @@ steps_at b n = step_in (node_at b.graph.nodes n)
 
 -- the outputs of a forest of node h have been named
 pub record IsNamed (h : ℕ) (f : Forest) (s t : ℕ) (old new : List Name) : Type 0 where
-  pub next : t ≡ after s f
+  pub next : t ≡ next_after s f
   pub names : new ≡ old ++ names_from h s f
 
 -- and that of one output, with those of what stands over it
 pub record IsTreeNamed (h : ℕ) (o : Option ℕ) (kids : Forest) (s t : ℕ) (old new : List Name)
     : Type 0 where
-  pub next : t ≡ after (after_out s o) kids
+  pub next : t ≡ next_after (after_out s o) kids
   pub names : new ≡ old ++ (out_names h s o ++ names_from h (after_out s o) kids)
 
 -- ---- nodes that are left

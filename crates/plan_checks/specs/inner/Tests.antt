@@ -16,7 +16,7 @@ use Rattle.exec_plan.specs.declared.plan.Mscr.{Mscr as Channels}
 use Rattle.exec_plan.specs.declared.plan.Stage.{Stage}
 use Rattle.exec_plan.specs.declared.plan.Stage.TheVariants.{Mscr, Flatten, Operate}
 use Rattle.exec_plan.specs.declared.plan.Plan.{Plan}
-use Rattle.exec_plan.specs.Wellformed.{stage_has_objects, is_pass, most_channels, outs_at, results_at, width}
+use Rattle.exec_plan.specs.Wellformed.{stage_has_objects, is_pass, most_channels, outputs_count_at, results_at, results_given}
 use Rattle.exec_plan.specs.Meaning.{in_reads}
 use Rattle.plan_checks.specs.inner.Counts.{outs_from}
 
@@ -25,7 +25,7 @@ made_test sources before (at.Source n) = nat_lt n sources
 made_test sources before (at.Result stage number) = nat_lt number (results_at before stage)
 
 abbrev pub exists_test : List InChannel → Take → Bool
-exists_test ins k = nat_lt k.out (outs_at (slice_get ins k.channel))
+exists_test ins k = nat_lt k.out (outputs_count_at (slice_get ins k.channel))
 
 abbrev pub is_there : Option ℕ → Bool
 is_there None = false
@@ -56,7 +56,7 @@ out_test ins passed n (Pass k i) = (i == n) && exists_test ins k
 abbrev pub outs_test : List InChannel → Bool → ℕ → List OutChannel → Bool
 outs_test ins passed n [] = true
 outs_test ins passed n (c ∷ cs) =
-    out_test ins passed n c && outs_test ins (passed || is_pass c) (n + width c) cs
+    out_test ins passed n c && outs_test ins (passed || is_pass c) (n + results_given c) cs
 
 abbrev pub in_test : ℕ → List Stage → InChannel → Bool
 in_test sources before c =

@@ -17,7 +17,7 @@ use Rattle.outside.specs.declared.loads.LoadFault.{LoadFault}
 use Rattle.outside.specs.declared.loads.LoadFault.TheVariants as load
 use Rattle.run_texts.specs.declared.status.Status.{Status}
 use Rattle.run_texts.specs.declared.status.Status.TheVariants.{InputRefused, ReadFault, WantOfMemory, TooLong, NoFile}
-use Rattle.script_program.specs.Needed.{is_needed, numbered}
+use Rattle.script_program.specs.Needed.{is_needed, collections_numbered}
 use Rattle.script_program.specs.Script.{Node, Script}
 use Rattle.written_types.specs.Named.{Named}
 use Rattle.script_loading.specs.Accepted.{Refused}
@@ -46,7 +46,7 @@ fault_status row_fault.Memory name = WantOfMemory
 abbrev pub inputs_from : Script → ℕ → Named Node → List Wanted
 inputs_from script number nodes =
     flat_map (λ it. wanted_by it.1.1.made it.1.1.type)
-    (filter (λ it. is_needed script it.0) (numbered number nodes))
+    (filter (λ it. is_needed script it.0) (collections_numbered number nodes))
 
 -- this holds of the inputs of the nodes below a number
 abbrev pub HoldsBelow : (List Wanted → Type 0) → Script → ℕ → Type 0

@@ -4,12 +4,12 @@ use Rattle.body_check.specs.of_written_types.Named.{Named}
 use Rattle.script_program.specs.declared.made.Made.{Made}
 use Rattle.script_program.specs.declared.made.Node.{Node as HeldNode}
 use Rattle.script_program.specs.declared.made.Output.{Output}
-use Rattle.script_program.specs.Needed.{has, read_from}
+use Rattle.script_program.specs.Needed.{holds_number, read_from}
 
 -- each flag tells whether its number is among these
 abbrev pub AreFlags : List ℕ → List Bool → Type 0
 AreFlags numbers flags =
-    (n : ℕ) → n < length flags → slice_index_or flags n false ≡ has numbers n
+    (n : ℕ) → n < length flags → slice_index_or flags n false ≡ holds_number numbers n
 
 -- how collections in memory are made, in order
 abbrev pub held_made : Named HeldNode → List Made

@@ -21,7 +21,7 @@ impl State {
     pub fn hide(&mut self, alloc: Global, name: &Str) -> Result<(), AllocError>
         requires { is_some (find name.now self.old.state.names) ≡ false }
         ensures state { OnOk result (self.new.state
-            ≡ spec.with_name name.now Standing.Hidden self.old.state) }
+            ≡ spec.with_standing name.now Standing.Hidden self.old.state) }
         ensures types { self.new.types ≡ self.old.types }
     {
         let key = name.copy(alloc)?;

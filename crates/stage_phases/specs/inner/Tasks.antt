@@ -13,7 +13,7 @@ use Rattle.reduce_part.specs.Reducing.{Reducing}
 use Rattle.phase_outs.specs.declared.stop.PhaseStop.{PhaseStop}
 use Rattle.phase_outs.specs.declared.stop.PhaseStop.TheVariants as stop
 use Rattle.task_lists.specs.Outs.{IsCalm, IsFirstTaskTrap}
-use Rattle.task_lists.specs.Tasks.{Task, places}
+use Rattle.task_lists.specs.Tasks.{Task, asks_of}
 use Rattle.plan_phases.specs.declared.fault.RunFault.{RunFault}
 use Rattle.plan_phases.specs.declared.fault.RunFault.TheVariants as fault
 use Rattle.plan_phases.specs.Phases.{PhaseTasks}
@@ -71,4 +71,4 @@ module _ {O : Type 0} where
         is_value k (Ok out) → IsCalm w task
     pub trapped : (k : ℕ) (task : Task) (trap : Trap) → slice_get ph.tasks k ≡ Some task →
         is_value k (Err trap) → IsFirstTaskTrap w task trap
-    pub asks : (k : ℕ) (task : Task) → slice_get ph.tasks k ≡ Some task → asked k ≡ places task
+    pub asks : (k : ℕ) (task : Task) → slice_get ph.tasks k ≡ Some task → asked k ≡ asks_of task

@@ -3,7 +3,7 @@ use Rattle.std.specs.Prelude.{◌≡◌, ℕ, ◌<◌, List, [], ◌∷◌, ◌+
 use Rattle.std.specs.Option.{IsSomeAnd}
 use Rattle.exec_graph.specs.of_flume_collection.Calls.{or_none}
 use Rattle.flume_value.specs.declared.value.Value.{Value}
-use Rattle.shards.specs.Shards.{joined}
+use Rattle.shards.specs.Shards.{concatenated}
 use Rattle.exec_graph.specs.World.{World}
 use Rattle.exec_plan.specs.declared.plan.Grouping.{Grouping}
 use Rattle.exec_plan.specs.declared.plan.InChannel.{InChannel}
@@ -71,5 +71,5 @@ AreOutsFrom w n t ins (c ∷ cs) outs =
 -- what they count for script node i
 abbrev pub channel_counts : World → ℕ → Split → Lists → List InChannel → OutChannel → List ℕ
 channel_counts w i n t ins (Group g) =
-    joined (λ p. (task_counts w i).reduces g (reduce_task w n t ins g p)) n.partitions
+    concatenated (λ p. (task_counts w i).reduces g (reduce_task w n t ins g p)) n.partitions
 channel_counts w i n t ins (Pass k number) = []

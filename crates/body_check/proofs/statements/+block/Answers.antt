@@ -7,7 +7,7 @@ use Rattle.expression_check.proofs.of_type_table.TableLemmas.{Extends-twice}
 use Rattle.expression_check.specs.of_written_types.Answer.{Checked, Gives, Fails, or_fault}
 use Rattle.expression_check.proofs.of_written_types.FailsLemmas.{Fails-first, Fails-same}
 use Rattle.expression_check.specs.of_expression_types.Fields.{side_types}
-use Rattle.expression_check.specs.Slots.{typed}
+use Rattle.expression_check.specs.Slots.{slots_typed}
 use Rattle.body_check.specs.inner.Frames.{InBody}
 use Rattle.body_check.specs.inner.Slots.{Placed, slots_in, block_slots, both_slots, placed_of}
 use Rattle.body_check.proofs.PlacedLemmas.{placed-If, placed-For, placed-Case}
@@ -96,5 +96,5 @@ place_case-returns-in-Err-both_sides-clause-gives t c =
     Fails-same e _ _
     (case-goes-on line c.args.e.now left right_ (slots_in (placed_of gives) a) (slots_in
     (placed_of gives) b) s
-    (typed mid.types x) types_of c.in_ok-x.ensures.gives has)
+    (slots_typed mid.types x) types_of c.in_ok-x.ensures.gives has)
     (Fails-first e _ _ fails)

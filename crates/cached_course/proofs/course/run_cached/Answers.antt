@@ -1,7 +1,7 @@
 use Rattle.std.proofs.Common.{◌∙◌, List, Option, ap, arith, is_some, map, refl}
 use Rattle.cache_store.specs.declared.entry.CacheEntry.{CacheEntry}
 use Rattle.outside.specs.Accounts.{Account}
-use Rattle.run_course.specs.World.{world}
+use Rattle.run_course.specs.Outside.{world}
 use Rattle.run_course.proofs.PromiseLemmas.{shelf_alone}
 use Rattle.cached_course.specs.declared.saving.Reused.{Reused}
 use Rattle.cached_course.proofs.AnswerLemmas.{delivered, delivered_asks, delivered_for}

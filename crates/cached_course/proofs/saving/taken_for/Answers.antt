@@ -1,5 +1,5 @@
 use Rattle.std.proofs.Common.{◌∙◌, ℕ, List, ap}
-use Rattle.kept_results.specs.Lists.{given_lists}
+use Rattle.kept_results.specs.Lists.{rows_given}
 use Rattle.script_program.specs.Saved.{with_saved}
 use Rattle.cached_course.proofs.GivenLemmas.{inputs_below}
 use Rattle.cached_course.proofs.saving.taken_for.Goals as goal
@@ -20,6 +20,6 @@ pub returns-in-Ok-clause-lists : goal.returns-in-Ok-clause-lists
 returns-in-Ok-clause-lists c =
     (rw c.as_program-held.ensures.is at c.in-Ok.ensures)
     ∙ ap
-    (λ (l : List ℕ). given_lists c.with_saved-later.result.script l c.args.rows
+    (λ (l : List ℕ). rows_given c.with_saved-later.result.script l c.args.rows
     c.args.it.found.members.items)
     c.as_slice-asked.ensures.value

@@ -5,7 +5,7 @@ use Rattle.std.proofs.lemmas.Result.{IfOk-weaker}
 use Rattle.flume_value.specs.declared.value.Value.{Value}
 use Rattle.flume_collection.specs.declared.trap.Trap.{Trap}
 use Rattle.direct_meaning.proofs.CallLemmas.{gives_answer, traps_answer}
-use Rattle.direct_meaning.specs.Objects.{answered_once as once, one_of, only}
+use Rattle.direct_meaning.specs.Objects.{answered_once as once, emission_on, only}
 use Rattle.direct_meaning.proofs.operate.answered_once.Goals as goal
 
 abbrev no_single : Trap → Result Value Trap
@@ -18,7 +18,8 @@ returns-in-Ok c =
     IfOk-weaker c.one_of.result _ _
     (λ one is. ap (option_map (once c.args.origin x)) answer
     ∙ ap (λ (s : Result Value Trap). Some s)
-    (ap (λ (l : List Value). one_of c.args.origin x (only l)) (sym c.emitted.ensures) ∙ sym is))
+    (ap (λ (l : List Value). emission_on c.args.origin x (only l)) (sym c.emitted.ensures) ∙ sym
+    is))
     c.one_of.ensures
 
 pub returns-in_ok-trap-in-Err-Trap : goal.returns-in_ok-trap-in-Err-Trap

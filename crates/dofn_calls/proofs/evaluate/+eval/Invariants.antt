@@ -3,7 +3,7 @@ use denote.Param.Weighed.{most}
 use Rattle.dofn_eval.specs.declared.expr.Expr.{size-Expr}
 use Rattle.dofn_calls.specs.inner.Operands.{values}
 use Rattle.dofn_calls.specs.inner.Evaluates.{branch_size}
-use Rattle.dofn_eval.specs.Meaning.{value_of, values_of}
+use Rattle.dofn_eval.specs.Meaning.{expression_value, part_values}
 use Rattle.dofn_calls.proofs.evaluate.+eval.Given as goal
 
 abbrev pub decreases-eval : goal.decreases-eval
@@ -24,5 +24,5 @@ decreases-eval_branch l = 3 * branch_size l.branch + 1
 
 abbrev pub invariant-eval_all-loop-part : goal.invariant-eval_all-loop-part
 invariant-eval_all-loop-part l =
-    values_of value_of l.parts (values l.scope) []
-    ≡ values_of value_of (drop l.part-index l.parts) (values l.scope) l.items.items
+    part_values expression_value l.parts (values l.scope) []
+    ≡ part_values expression_value (drop l.part-index l.parts) (values l.scope) l.items.items

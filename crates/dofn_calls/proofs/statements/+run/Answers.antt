@@ -1,6 +1,6 @@
 use Rattle.std.proofs.Common.{arith, ap, sym, subst, ◌∙◌}
 use Rattle.dofn_eval.specs.Outcome.{Gives}
-use Rattle.dofn_eval.specs.Run.{run, for_each}
+use Rattle.dofn_eval.specs.Run.{run_statements, for_each}
 use Rattle.dofn_calls.specs.inner.Operands.{content, values, named}
 use Rattle.dofn_calls.specs.inner.Evaluates.{Evaluates}
 use Rattle.dofn_calls.proofs.PassingLemmas.{for_each-passes}
@@ -36,6 +36,7 @@ pub run_for-returns-in-Some : goal.run_for-returns-in-Some
 run_for-returns-in-Some t c =
     let env = values c.args.scope.now in let out = c.args.out.now in
     subst (λ o. Evaluates (λ _. c.pass_on.new.out) c.pass_on.result o)
-    (sym ((λ i. for_each (run (c.in-Some.ensures.passes i)) (c.in_ok-x.ensures i) env out)
+    (sym ((λ i. for_each (run_statements (c.in-Some.ensures.passes i)) (c.in_ok-x.ensures i) env
+    out)
     ∙ for_each-passes c.in-Some.output (Gives (content c.in_ok-x.x)) env out))
     c.pass_on.ensures

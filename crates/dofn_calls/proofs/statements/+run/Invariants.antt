@@ -2,7 +2,7 @@ use Rattle.std.proofs.Common.{◌≡◌, ◌+◌, ◌*◌, max, drop}
 use denote.Param.Weighed.{most}
 use Rattle.dofn_eval.specs.declared.stmt.Stmt.{size-Stmt}
 use Rattle.dofn_calls.specs.inner.Operands.{values, named}
-use Rattle.dofn_eval.specs.Run.{state, run_all, run_one, run, each}
+use Rattle.dofn_eval.specs.Run.{state, run_all, run_one, run_statements, each}
 use Rattle.dofn_calls.proofs.statements.+run.Given as goal
 
 abbrev pub decreases-run_block : goal.decreases-run_block
@@ -36,5 +36,5 @@ invariant-run_block-loop-stmt l =
 
 abbrev pub invariant-run_each-loop-member : goal.invariant-run_each-loop-member
 invariant-run_each-loop-member l =
-    each (run l.body) l.members (values l.scope) l.fn.out
-    ≡ each (run l.body) (drop l.member-index l.members) (values l.scope) l.out
+    each (run_statements l.body) l.members (values l.scope) l.fn.out
+    ≡ each (run_statements l.body) (drop l.member-index l.members) (values l.scope) l.out

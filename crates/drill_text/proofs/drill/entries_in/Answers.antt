@@ -22,7 +22,7 @@ returns-in-None-entry_in c =
     c.split-part-items.ensures.pattern) in
     let turn = YieldsList-turn all c.loop-part.yielded _ c.loop-part.yielded_by _ _
     c.in-Some.part c.in-Some.is c.next.ensures.steps in
-    sym (entries_stop (spec.parts c.args.text.now) _ c.in-Some.part.now turn.0 turn.1
+    sym (entries_stop (spec.drill_parts c.args.text.now) _ c.in-Some.part.now turn.0 turn.1
     (sym c.entry_in.ensures ∙ c.in-None-entry_in.is))
 
 -- at the end every part was yielded

@@ -1,5 +1,5 @@
 use Rattle.std.proofs.Common.{ℕ, map, string_bytes, subst}
-use Rattle.made_course.specs.of_run_course.World.{world}
+use Rattle.made_course.specs.of_run_course.Outside.{world}
 use Rattle.flume_run.specs.Cached.{CachedPromises, without_entries}
 use Rattle.flume_run.proofs.top.flume.Goals as goal
 

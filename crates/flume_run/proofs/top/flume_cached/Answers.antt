@@ -3,7 +3,7 @@ use Rattle.std.specs.Option.{option_map}
 use Rattle.command_words.specs.Held.{cached_in}
 use Rattle.crew.proofs.Accounts.{all_grew_not}
 use Rattle.made_course.specs.of_run_course.Answers.{IsRefused}
-use Rattle.made_course.specs.of_run_course.World.{Keeps, world}
+use Rattle.made_course.specs.of_run_course.Outside.{Keeps, world}
 use Rattle.run_texts.specs.declared.status.Status.{Status}
 use Rattle.run_texts.specs.declared.status.Status.TheVariants.{WantOfMemory}
 use Rattle.flume_run.proofs.Promised.{lends_others, lends_reused, of_no_cache, of_no_memory, of_others, of_reused}

@@ -3,7 +3,7 @@ use Rattle.std.specs.Prelude.{IfSome, Option}
 use Rattle.command_words.specs.Workloads.{IsWithinLimits}
 use Rattle.command_words.specs.declared.workload.Workload.{Workload}
 use Rattle.crew.proofs.Accounts.{all_grew_not}
-use Rattle.made_course.specs.of_run_course.World.{world}
+use Rattle.made_course.specs.of_run_course.Outside.{world}
 use Rattle.run_texts.specs.declared.status.Status.{Status}
 use Rattle.flume_run.proofs.Promised.{lends_made, lends_other, of_make, of_no_memory, of_script}
 use Rattle.flume_run.specs.Promises.{Promises}

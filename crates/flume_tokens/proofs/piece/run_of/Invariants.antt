@@ -1,11 +1,12 @@
 use Rattle.std.proofs.Common.{◌≡◌, ◌+◌, ◌-◌, ◌≤◌, length, drop}
 use Rattle.std.specs.List.{prefix_len}
-use Rattle.flume_tokens.specs.Pieces.{is_in}
+use Rattle.flume_tokens.specs.Pieces.{is_of_class}
 use Rattle.flume_tokens.proofs.piece.run_of.Given as goal
 
 abbrev pub invariant-loop-end : goal.invariant-loop-end
 invariant-loop-end l =
-    (l.end + prefix_len (is_in l.class) (drop l.end l.bytes) ≡ prefix_len (is_in l.class) l.bytes)
+    (l.end + prefix_len (is_of_class l.class) (drop l.end l.bytes) ≡ prefix_len
+    (is_of_class l.class) l.bytes)
     × (l.end ≤ length l.bytes)
 
 abbrev pub decreases-loop-end : goal.decreases-loop-end

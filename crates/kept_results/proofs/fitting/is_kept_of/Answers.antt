@@ -6,7 +6,7 @@ use Rattle.flume_value.specs.declared.value.Value.{Value}
 use Rattle.saved_results.specs.declared.saved.Size.{Size}
 use Rattle.script_program.specs.Program.{node_in}
 use Rattle.kept_results.proofs.FitLemmas.{tells}
-use Rattle.kept_results.specs.Kept.{AreMembersOf, IsKeptOf}
+use Rattle.kept_results.specs.Kept.{AreMembersFor, IsKeptOf}
 use Rattle.kept_results.specs.inner.Named.{are_named}
 use Rattle.kept_results.proofs.fitting.is_kept_of.Goals as goal
 use Rattle.kept_results.proofs.fitting.is_kept_of.Goals.{else-named, then-named}
@@ -24,10 +24,10 @@ returns c =
     ∙ (λ i. are_named (c.as_slice-sizes.ensures i)
     ((c.as_slice.ensures ∙ c.in_ok-names.ensures) i)) in
     let over = subst (λ (members : List Value).
-    IsTrue fits ↔ AreMembersOf (node_in c.types.result.now held) members) c.as_slice-2.ensures
+    IsTrue fits ↔ AreMembersFor (node_in c.types.result.now held) members) c.as_slice-2.ensures
     c.are_members_of-fits.ensures in
     let members = subst (λ (types : List Ty).
-    IsTrue fits ↔ AreMembersOf (node_in types held) saved.members) c.types.ensures over in
+    IsTrue fits ↔ AreMembersFor (node_in types held) saved.members) c.types.ensures over in
     let is : c.if-named.result ≡ (named && fits) =
     elim c.if-named.branch [
       | then-named w ↦ w.result-is ∙ ap (λ b. b && fits) (sym w.if-named.true)

@@ -1,7 +1,7 @@
 use Rattle.std.proofs.Common.{List, if◌then◌else◌, ◌∙◌}
 use Rattle.std.specs.Option.{option_map}
 use Rattle.std.specs.Prelude.{is_ok}
-use Rattle.cache_store.specs.Entries.{with_entry}
+use Rattle.cache_store.specs.Entries.{with_cache_entry}
 use Rattle.cache_store.specs.declared.entry.CacheEntry.{CacheEntry}
 use Rattle.kept_results.proofs.keeping.keep_one.Goals as goal
 
@@ -11,5 +11,5 @@ returns-clause-entries g c =
     c.keep.ensures.entries
     ∙ (λ i. if is_ok c.keep.result
     then option_map (λ (entries : List CacheEntry).
-    with_entry entries (c.as_bytes.ensures i) (c.as_bytes-2.ensures i)) before
+    with_cache_entry entries (c.as_bytes.ensures i) (c.as_bytes-2.ensures i)) before
     else before)

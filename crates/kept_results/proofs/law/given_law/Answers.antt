@@ -3,14 +3,14 @@ use Rattle.std.specs.List.{AllByRecursion as Each}
 use Rattle.saved_meaning.specs.of_direct_meaning.Inputs.{AreInputs}
 use Rattle.flume_collection.specs.Collection.{Collection}
 use Rattle.flume_value.specs.declared.value.Value.{Value}
-use Rattle.saved_meaning.specs.Found.{chosen, lists_for}
+use Rattle.saved_meaning.specs.Found.{marked_ones, lists_for}
 use Rattle.saved_results.specs.declared.saved.Saved.{Saved}
 use Rattle.saved_meaning.specs.of_script_laws.WellFormed.{IsWellFormed}
 use Rattle.script_program.specs.Saved.{HasNoSaved}
 use Rattle.script_program.specs.Script.{Script}
 use Rattle.kept_results.specs.Asked.{asked_nodes}
 use Rattle.kept_results.specs.Kept.{AreKept}
-use Rattle.kept_results.specs.Lists.{HasMembers, found_of, given_to, kept_table, later_of}
+use Rattle.kept_results.specs.Lists.{HasMembers, found_of, rows_for_script, kept_table, later_of}
 use Rattle.kept_results.proofs.FoundLemmas.{ascend, lists, own, right}
 use Rattle.kept_results.proofs.ListLemmas.{kept_are, marks_are, numbers_of}
 use Rattle.kept_results.proofs.law.given_law.Goals as goal
@@ -20,7 +20,7 @@ meant : (script : Script) (asked : List (ℕ × List ℕ)) (looked : List (Optio
     → HasNoSaved script
     → map (λ (it : ℕ × List ℕ). it.0) asked ≡ map (λ (it : ℕ × List ℕ). it.0) (asked_nodes script)
     → AreKept script asked looked → Each (HasMembers table) (found_of asked looked)
-    → given_to script (found_of asked looked) rows
+    → rows_for_script script (found_of asked looked) rows
     ≡ lists_for script (later_of script (found_of asked looked)) rows table
 meant script asked looked rows table well unsaved are kept has =
     let found = found_of asked looked in
@@ -28,7 +28,7 @@ meant script asked looked rows table well unsaved are kept has =
     let members =
     kept_are script found table unsaved (ascend script well asked looked are kept)
     (right script well asked looked are kept table has) in
-    λ i. chosen (marks i) rows ++ sym members i
+    λ i. marked_ones (marks i) rows ++ sym members i
 
 pub returns-clause-meant : goal.returns-clause-meant
 returns-clause-meant c = meant

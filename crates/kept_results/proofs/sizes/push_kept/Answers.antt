@@ -1,13 +1,13 @@
 use Rattle.std.proofs.Common.{◌++◌, map}
 use Rattle.saved_results.specs.declared.saved.Size.{Size}
-use Rattle.kept_results.specs.Sizes.{beside}
+use Rattle.kept_results.specs.Sizes.{size_pairs}
 use Rattle.kept_results.proofs.SizeLemmas.{line_next, no_line}
 use Rattle.kept_results.proofs.sizes.push_kept.Goals as goal
 
 pub loop-place-preserved : goal.loop-place-preserved
 loop-place-preserved c =
     let size = (λ (size : Size). size.members) in
-    let whole = c.args.known.now.items ++ beside c.args.nodes.now (map size c.args.sizes.now) in
+    let whole = c.args.known.now.items ++ size_pairs c.args.nodes.now (map size c.args.sizes.now) in
     line_next size c.args.nodes.now c.args.sizes.now c.loop-place.place c.loop-place.known.items
     whole c.loop-place.invariant c.index-nodes-place.result c.in-Some.size.now c.push.new.self.items
     c.loop-place-test.true c.in-Some.ensures.lookup.3.0 c.in-Some.ensures.lookup.1
@@ -17,5 +17,5 @@ pub returns-in_default : goal.returns-in_default
 returns-in_default c =
     let size = (λ (size : Size). size.members) in
     no_line size c.args.nodes.now c.args.sizes.now c.loop-place.place c.loop-place.known.items
-    (c.args.known.now.items ++ beside c.args.nodes.now (map size c.args.sizes.now))
+    (c.args.known.now.items ++ size_pairs c.args.nodes.now (map size c.args.sizes.now))
     c.loop-place.invariant c.in_default.ensures.lookup.3

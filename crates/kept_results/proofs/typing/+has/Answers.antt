@@ -6,7 +6,7 @@ use Rattle.flume_types.specs.Typing.{each_has, has_type}
 use Rattle.flume_types.specs.declared.types.Ty.{Ty-F}
 use Rattle.flume_value.specs.declared.value.Value.{Value-F, out-Value}
 use Rattle.flume_value.specs.declared.value.Value.TheVariants as variant
-use Rattle.type_table.specs.Table.{field_at, level, type_at}
+use Rattle.type_table.specs.Table.{field_at, shape_layer, type_at}
 use Rattle.kept_results.proofs.TypingLemmas.{shaped}
 use Rattle.kept_results.proofs.typing.+has.Goals as goal
 
@@ -25,7 +25,7 @@ has_type-returns-in-Int t c =
     c.is_int.ensures types n
     ∙ sym
     (shaped c.args.value.now (type_at types c.args.id) (Value-F.Int n)
-    (level types c.shape-shape.result.now) (ap out-Value c.in-Int.is ∙ variant.outs-Int n)
+    (shape_layer types c.shape-shape.result.now) (ap out-Value c.in-Int.is ∙ variant.outs-Int n)
     c.shape-shape.ensures.level)
 
 pub has_type-returns-in-Bool : goal.has_type-returns-in-Bool
@@ -35,7 +35,7 @@ has_type-returns-in-Bool t c =
     c.is_bool.ensures types b
     ∙ sym
     (shaped c.args.value.now (type_at types c.args.id) (Value-F.Bool b)
-    (level types c.shape-shape.result.now) (ap out-Value c.in-Bool.is ∙ variant.outs-Bool b)
+    (shape_layer types c.shape-shape.result.now) (ap out-Value c.in-Bool.is ∙ variant.outs-Bool b)
     c.shape-shape.ensures.level)
 
 pub has_type-returns-in-Text : goal.has_type-returns-in-Text
@@ -45,7 +45,8 @@ has_type-returns-in-Text t c =
     c.is_text.ensures types text
     ∙ sym
     (shaped c.args.value.now (type_at types c.args.id) (Value-F.Text text)
-    (level types c.shape-shape.result.now) (ap out-Value c.in-Text.is ∙ variant.outs-Text text)
+    (shape_layer types c.shape-shape.result.now) (ap out-Value c.in-Text.is ∙ variant.outs-Text
+    text)
     c.shape-shape.ensures.level)
 
 pub has_type-returns-in-List-shape : goal.has_type-returns-in-List-shape
@@ -58,7 +59,7 @@ has_type-returns-in-List-shape t c =
     ∙ sym
     (shaped c.args.value.now (type_at types c.args.id) (Value-F.List items) (Ty-F.List part)
     (ap out-Value c.in-List.is ∙ variant.outs-List items)
-    (c.shape-shape.ensures.level ∙ ap (level types) c.in-List-shape.is))
+    (c.shape-shape.ensures.level ∙ ap (shape_layer types) c.in-List-shape.is))
 
 pub has_type-returns-in-Rec-shape : goal.has_type-returns-in-Rec-shape
 has_type-returns-in-Rec-shape t c =
@@ -71,4 +72,4 @@ has_type-returns-in-Rec-shape t c =
     ∙ sym
     (shaped c.args.value.now (type_at types c.args.id) (Value-F.Rec items)
     (Ty-F.Rec (map (field_at types) parts)) (ap out-Value c.in-Rec.is ∙ variant.outs-Rec items)
-    (c.shape-shape.ensures.level ∙ ap (level types) c.in-Rec-shape.is))
+    (c.shape-shape.ensures.level ∙ ap (shape_layer types) c.in-Rec-shape.is))

@@ -1,5 +1,5 @@
 use Rattle.std.proofs.Common.{map, refl, arith}
-use Rattle.run_course.specs.World.{world}
+use Rattle.run_course.specs.Outside.{world}
 use Rattle.made_course.proofs.Delivered.{delivered, stopped}
 use Rattle.made_course.proofs.Promised.{makes}
 use Rattle.made_course.proofs.course.make.Goals as goal

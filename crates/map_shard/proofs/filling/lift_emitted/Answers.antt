@@ -4,7 +4,7 @@ use Rattle.flume_value.specs.declared.value.Value.{Value}
 use Rattle.std.specs.List.{AllZip}
 use Rattle.partial_tables.specs.Lifted.{IsLifted}
 use Rattle.partial_tables.specs.Merges.{IsCombinable}
-use Rattle.shuffle_parts.specs.Partitions.{parted}
+use Rattle.shuffle_parts.specs.Partitions.{in_parts}
 use Rattle.map_shard.proofs.Emitting.{behind, of_parts}
 use Rattle.map_shard.proofs.filling.lift_emitted.Goals as goal
 
@@ -27,6 +27,6 @@ returns c done stands =
     let values = c.into_parts-values.result.0.items in
     let couples = c.into_parts-values.result.1.items in
     subst (λ (l : List Value). IfOk c.lift_more-2.result (λ all.
-    AllZip (IsLifted c.args.comb) all.items (parted c.args.partitions l)))
+    AllZip (IsLifted c.args.comb) all.items (in_parts c.args.partitions l)))
     (behind done values couples c.args.pairs c.into_parts-values.ensures)
     (c.lift_more-2.ensures _ (c.in_ok-parts.ensures done stands))

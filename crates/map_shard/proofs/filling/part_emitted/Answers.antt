@@ -2,7 +2,7 @@ use Rattle.std.proofs.Common.{◌≡◌, ◌++◌, List, map, subst}
 use Rattle.std.specs.Prelude.{IfOk}
 use Rattle.flume_value.specs.declared.value.Value.{Value}
 use Rattle.bag_groups.specs.Pairs.{IsPair}
-use Rattle.shuffle_parts.specs.Partitions.{parted}
+use Rattle.shuffle_parts.specs.Partitions.{in_parts}
 use Rattle.map_shard.proofs.Emitting.{behind, of_parts}
 use Rattle.map_shard.proofs.filling.part_emitted.Goals as goal
 
@@ -23,6 +23,6 @@ returns c done stands =
     let values = c.into_parts-values.result.0.items in
     let couples = c.into_parts-values.result.1.items in
     subst (λ (l : List Value). IfOk c.part_more-2.result (λ all.
-    all.items ≡ parted c.args.partitions l))
+    all.items ≡ in_parts c.args.partitions l))
     (behind done values couples c.args.pairs c.into_parts-values.ensures)
     (c.part_more-2.ensures _ (c.in_ok-parts.ensures done stands))

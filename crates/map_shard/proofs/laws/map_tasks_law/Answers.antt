@@ -1,4 +1,4 @@
-use Rattle.map_shard.specs.Tables.{split, table}
+use Rattle.map_shard.specs.Tables.{split_into, table}
 use Rattle.map_shard.proofs.Fitting.{are_outs, can_work}
 use Rattle.task_safety.specs.of_task_lists.Tasks.{map_task_of}
 use Rattle.map_shard.proofs.laws.map_tasks_law.Goals as goal
@@ -7,7 +7,7 @@ pub returns-clause-can_work : goal.returns-clause-can_work
 returns-clause-can_work g c w sources results s k shards partitions same some few parts ready =
     let called = g.F.Functions.called c.args.functions.now in
     let takes = g.F.Functions.can_call c.args.functions.now in
-    let n = split shards partitions in
+    let n = split_into shards partitions in
     let t = table sources results in
     can_work c.args.functions.now sources results s shards partitions w called takes k same ready
     (λ r m i g at all lift. c.typed_law.ensures.given ready.signatures w n ready.types t k r m i s g

@@ -3,10 +3,10 @@ use Rattle.std.proofs.lemmas.List.{length-map}
 use Rattle.outside.specs.declared.file.File.{File}
 use Rattle.memory_outside.specs.declared.slots.Slot.{Slot}
 use Rattle.outside.specs.Files.{with_file}
-use Rattle.memory_outside.specs.Slots.{bytes_at, file_of, files_of, place_of}
+use Rattle.memory_outside.specs.Slots.{bytes_at, slot_file, slot_files, place_of_file}
 use Rattle.memory_outside.proofs.Places.{within}
 use Rattle.memory_outside.proofs.RoomLemmas.{sizes}
-use Rattle.cache_store.specs.Entries.{with_entry}
+use Rattle.cache_store.specs.Entries.{with_cache_entry}
 use Rattle.memory_outside.specs.inner.Entries.{as_entry, entries_of}
 use Rattle.memory_outside.proofs.Fitting.{fits_pushed, fits_replaced, pushed, replaced}
 use Rattle.memory_outside.proofs.SlotEntries.{FilesFit, entries_fit, entries_with, slot_entries}
@@ -14,16 +14,17 @@ use Rattle.memory_outside.proofs.put.put.Goals as goal
 
 -- where the files are with one more or as they were, so are the entries
 as_put : (old new : List Slot) (key value : List ℕ) (files : List File) (fits : Bool)
-    → files ≡ with_file (files_of old) key value
-    → files_of new ≡ (if fits then files else files_of old)
-    → entries_of new ≡ (if fits then with_entry (entries_of old) key value else entries_of old)
+    → files ≡ with_file (slot_files old) key value
+    → slot_files new ≡ (if fits then files else slot_files old)
+    → entries_of new
+    ≡ (if fits then with_cache_entry (entries_of old) key value else entries_of old)
 as_put old new key value files true is put = entries_with old new key value (put ∙ is)
 as_put old new key value files false is put =
     slot_entries new ∙ ap (map as_entry) put ∙ sym (slot_entries old)
 
 pub replace-requires-clause-within : goal.replace-requires-clause-within
 replace-requires-clause-within c =
-    let p : place_of (files_of c.args.slots.now.items) c.args.key.now ≡ Some c.in-Some.k
+    let p : place_of_file (slot_files c.args.slots.now.items) c.args.key.now ≡ Some c.in-Some.k
     = sym (rw c.deref.ensures.value at c.in-Some.ensures) in
     let below = within c.args.slots.now.items c.args.key.now c.in-Some.k p in
     omega (arith, c.args.slots.now.ok.0, below)
@@ -31,21 +32,21 @@ replace-requires-clause-within c =
 pub returns-in-Some-clause-entries : goal.returns-in-Some-clause-entries
 returns-in-Some-clause-entries c =
     let slots = c.args.slots.now.items in
-    let p : place_of (files_of slots) c.args.key.now ≡ Some c.in-Some.k
+    let p : place_of_file (slot_files slots) c.args.key.now ≡ Some c.in-Some.k
     = sym (rw c.deref.ensures.value at c.in-Some.ensures) in
     as_put slots c.replace.new.slots.items c.args.key.now c.args.value.now _ c.replace.result
-    (replaced (files_of slots) c.args.key.now c.args.value.now c.in-Some.k p)
+    (replaced (slot_files slots) c.args.key.now c.args.value.now c.in-Some.k p)
     c.replace.ensures.files
 
 pub returns-in-Some-clause-fits : goal.returns-in-Some-clause-fits
 returns-in-Some-clause-fits c =
     let slots = c.args.slots.now.items in
-    let files = files_of slots in
+    let files = slot_files slots in
     let count = vec_len c.args.slots.now + vec_len c.args.spare.now in
-    let p : place_of files c.args.key.now ≡ Some c.in-Some.k
+    let p : place_of_file files c.args.key.now ≡ Some c.in-Some.k
     = sym (rw c.deref.ensures.value at c.in-Some.ensures) in
     let few : length files ≤ vec_len c.args.slots.now + vec_len c.args.spare.now
-    = omega (arith, c.args.slots.now.ok.0, length-map slots file_of) in
+    = omega (arith, c.args.slots.now.ok.0, length-map slots slot_file) in
     entries_fit slots c.args.key.now c.args.value.now count c.args.room (IsTrue c.replace.result)
     (fits_replaced files c.args.key.now c.args.value.now c.in-Some.k count c.args.room
     (IsTrue c.replace.result) p few
@@ -56,20 +57,20 @@ returns-in-Some-clause-fits c =
 pub returns-in-None-clause-entries : goal.returns-in-None-clause-entries
 returns-in-None-clause-entries c =
     let slots = c.args.slots.now.items in
-    let p : place_of (files_of slots) c.args.key.now ≡ None
+    let p : place_of_file (slot_files slots) c.args.key.now ≡ None
     = sym (rw c.deref.ensures.value at c.in-None.ensures) in
     as_put slots c.add.new.slots.items c.args.key.now c.args.value.now _ c.add.result
-    (pushed (files_of slots) c.args.key.now c.args.value.now p) c.add.ensures.files
+    (pushed (slot_files slots) c.args.key.now c.args.value.now p) c.add.ensures.files
 
 pub returns-in-None-clause-fits : goal.returns-in-None-clause-fits
 returns-in-None-clause-fits c =
     let slots = c.args.slots.now.items in
-    let files = files_of slots in
+    let files = slot_files slots in
     let spare = vec_len c.args.spare.now in
-    let p : place_of files c.args.key.now ≡ None
+    let p : place_of_file files c.args.key.now ≡ None
     = sym (rw c.deref.ensures.value at c.in-None.ensures) in
     let many : length files ≡ vec_len c.args.slots.now
-    = omega (arith, c.args.slots.now.ok.0, length-map slots file_of) in
+    = omega (arith, c.args.slots.now.ok.0, length-map slots slot_file) in
     entries_fit slots c.args.key.now c.args.value.now (vec_len c.args.slots.now + spare)
     c.args.room (IsTrue c.add.result)
     (subst (λ n. IsTrue c.add.result ↔ FilesFit (n + spare) c.args.room

@@ -1,9 +1,10 @@
 use Rattle.std.proofs.Common.{◌≡◌, ◌+◌, drop}
 use Rattle.std.specs.Option.{option_map}
-use Rattle.memory_outside.specs.Slots.{files_of, place_of}
+use Rattle.memory_outside.specs.Slots.{slot_files, place_of_file}
 use Rattle.memory_outside.proofs.slots.slot_place.Given as goal
 
 -- no file before this one has the name
 abbrev pub invariant-loop-k : goal.invariant-loop-k
-invariant-loop-k l = option_map (λ j. l.k + j) (place_of (files_of (drop l.k l.slots)) l.name)
-    ≡ place_of (files_of l.slots) l.name
+invariant-loop-k l =
+    option_map (λ j. l.k + j) (place_of_file (slot_files (drop l.k l.slots)) l.name)
+    ≡ place_of_file (slot_files l.slots) l.name

@@ -3,14 +3,14 @@ use Rattle.std.specs.List.{flat_map}
 use Rattle.exec_graph.specs.Forests.{Bare, Branch, Twig, grown, limb}
 use Rattle.exec_graph.specs.Twigs.{twig}
 use Rattle.pardo_fuse.specs.Readers.{cut_of}
-use Rattle.pardo_fuse.specs.Fusing.{least, over_outs}
+use Rattle.pardo_fuse.specs.Fusing.{least_number, over_outs}
 use Rattle.pardo_fuse.specs.inner.Numbers.{members_at}
 use Rattle.pardo_fuse.proofs.Leasts.{around, around_done, around_split, least_step, limb_begun, members_none, members_some, outs_left, over_left}
 use Rattle.pardo_fuse.proofs.numbers.+least.Goals as goal
 
 pub least_in-returns-then-levels-eq0 : goal.least_in-returns-then-levels-eq0
 least_in-returns-then-levels-eq0 t c =
-    sym (ap (least c.args.so_far)
+    sym (ap (least_number c.args.so_far)
     (members_none (cut_of c.args.blocked.now) c.args.levels c.args.numbers.now
     c.if-levels-eq0.true))
 
@@ -32,10 +32,10 @@ least_in-returns t c =
     let k = c.args.levels - 1 in
     let i = c.loop-number.number-index in
     let ns = c.args.numbers.now in
-    sym (ap (least c.loop-number.least)
+    sym (ap (least_number c.loop-number.least)
     (around_done b k i ns (omega (arith, c.loop-number-test.false))))
     ∙ c.loop-number.invariant
-    ∙ ap (least c.args.so_far) (sym (members_some b c.args.levels ns (omega arith)))
+    ∙ ap (least_number c.args.so_far) (sym (members_some b c.args.levels ns (omega arith)))
 
 pub least_with-loop-step-preserved : goal.least_with-loop-step-preserved
 least_with-loop-step-preserved t c =

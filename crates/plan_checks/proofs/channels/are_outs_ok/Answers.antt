@@ -1,5 +1,5 @@
 use Rattle.std.proofs.Common.{◌+◌, ◌<◌, length, arith, sym, ◌∙◌}
-use Rattle.exec_plan.specs.Wellformed.{width}
+use Rattle.exec_plan.specs.Wellformed.{results_given}
 use Rattle.plan_checks.proofs.Deciding.{outs_step}
 use Rattle.plan_checks.proofs.channels.are_outs_ok.Goals as goal
 
@@ -9,7 +9,7 @@ loop-channel-preserved c =
     let w = c.width_of.ensures in
     let s = c.saturating_add-count.ensures in
     let lt : c.loop-channel.channel-index < length c.args.outputs.now = omega arith in (
-      i.0 + width c.channel-item.result,
+      i.0 + results_given c.channel-item.result,
       omega arith,
       outs_step c.args.inputs.now c.loop-channel.passed c.has_passed-passed.result i.0
           c.loop-channel.channel-index c.args.outputs.now c.channel-item.result lt

@@ -16,3 +16,6 @@ returns-clause-traced c =
     (sym (c.in_ok-rewrites.ensures ∙ ap lifts_in c.as_slice.ensures
     ∙ ap (λ (h : Graph). lifts_in h.nodes) c.in_ok-graph.ensures.lifted))
     (lifts_traced g c.requires))
+
+pub returns-clause-lifts : goal.returns-clause-lifts
+returns-clause-lifts c = c.in_ok-rewrites.ensures ∙ ap lifts_in c.as_slice.ensures

@@ -32,5 +32,5 @@ returns c =
     c.in_ok-lifted.lifted.graph c.in_ok-blocked.blocked c.in_ok-fused.fused.blocked
     c.in_ok-sunk.sunk.rewrites c.in_ok-lifted.lifted.rewrites c.in_ok-fused.fused.rewrites
     c.in_ok-sunk.ensures.sunk c.in_ok-lifted.ensures.lifted c.in_ok-blocked.ensures.same
-    c.in_ok-blocked.ensures.blocked c.in_ok-sunk.ensures.traced c.in_ok-lifted.ensures.traced
-    c.in_ok-fused.ensures)
+    c.in_ok-blocked.ensures.blocked c.in_ok-sunk.ensures.sinking c.in_ok-lifted.ensures.traced
+    c.in_ok-lifted.ensures.lifts c.in_ok-fused.ensures)

@@ -43,7 +43,7 @@ returns-clause-forms c =
     c.in_ok-plan.ensures.formed)
 
 pub returns-clause-order : goal.returns-clause-order
-returns-clause-order c = c.in_ok-refined.ensures.marked.order
+returns-clause-order c = c.in_ok-refined.ensures.order
 
 pub returns-clause-small : goal.returns-clause-small
 returns-clause-small c =

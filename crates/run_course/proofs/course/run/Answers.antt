@@ -1,6 +1,6 @@
 use Rattle.std.proofs.Common.{List, map, refl, string_bytes}
 use Rattle.outside.specs.Accounts.{Account}
-use Rattle.run_course.specs.World.{world}
+use Rattle.run_course.specs.Outside.{world}
 use Rattle.run_course.specs.declared.files.Written.{Written}
 use Rattle.run_course.proofs.AskLemmas.{delivered_for}
 use Rattle.run_course.proofs.CauseLemmas.{delivered}

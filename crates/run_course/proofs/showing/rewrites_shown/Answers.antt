@@ -21,6 +21,7 @@ returns c =
       c.in_ok-traced.traced.rewrites,
       c.in_ok-traced.ensures.optimised,
       c.in_ok-traced.ensures.leads,
+      c.in_ok-traced.ensures.order,
       subst (λ (bytes : List ℕ). IsTaken script bytes plan) (sym shown)
           (c.line_law.ensures script c.in_ok-traced.traced.rewrites plan
           c.in_ok-traced.ensures.small c.in_ok-traced.ensures.leads),

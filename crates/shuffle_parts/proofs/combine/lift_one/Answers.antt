@@ -1,5 +1,5 @@
 use Rattle.std.proofs.Common.{[], get_or, arith}
-use Rattle.shuffle_parts.specs.Partitions.{parted}
+use Rattle.shuffle_parts.specs.Partitions.{in_parts}
 use Rattle.shuffle_parts.proofs.Lifting.{here, lifted_at, put_at}
 use Rattle.shuffle_parts.proofs.combine.lift_one.Goals as goal
 
@@ -32,6 +32,6 @@ returns c done stands =
     let within = c.partition-at.ensures.within in
     put_at c.args.comb n at done parts stands within c.put.new.self c.args.pair.now
     c.key.result.now c.key.ensures c.partition-at.ensures.part
-    (c.in_ok-put.ensures (get_or (parted n done) at [])
+    (c.in_ok-put.ensures (get_or (in_parts n done) at [])
     (lifted_at c.args.comb n at done parts stands within c.index_mut.result.now
     c.index_mut.ensures.value))

@@ -1,6 +1,6 @@
 use Rattle.std.proofs.Common.{◌≡◌, ◌++◌, ◌∷◌, [], length, map, rules, ap, ◌∙◌}
 use Rattle.flume_value.specs.declared.value.Value.{Value}
-use Rattle.shuffle_parts.specs.Partitions.{parted}
+use Rattle.shuffle_parts.specs.Partitions.{in_parts}
 use Rattle.shuffle_parts.proofs.Putting.{all_put, none_put, one_put}
 use Rattle.shuffle_parts.proofs.parts.part_more.Goals as goal
 
@@ -19,7 +19,7 @@ loop-pair-preserved g c =
     search rules in
     one_put _ _ _ _ _ _ _ _ _ _ c.loop-pair.invariant next
     (λ done stands. c.in_ok-put_in.ensures done stands
-    ∙ ap (λ (v : Value). parted c.args.partitions (done ++ v ∷ [])) c.into_couple.ensures)
+    ∙ ap (λ (v : Value). in_parts c.args.partitions (done ++ v ∷ [])) c.into_couple.ensures)
 
 pub returns : goal.returns
 returns g c =

@@ -1,9 +1,9 @@
 use Rattle.std.proofs.Common.{◌≡◌}
-use Rattle.shuffle_parts.specs.Partitions.{parted}
+use Rattle.shuffle_parts.specs.Partitions.{in_parts}
 use Rattle.shuffle_parts.proofs.Putting.{ArePut}
 use Rattle.shuffle_parts.proofs.parts.part_more.Given as goal
 
 abbrev pub invariant-loop-pair : goal.invariant-loop-pair
 invariant-loop-pair g l =
-    ArePut g.P.Paired.as_pair (λ done parts. parts ≡ parted l.partitions done) l.fn.parts.items
+    ArePut g.P.Paired.as_pair (λ done parts. parts ≡ in_parts l.partitions done) l.fn.parts.items
     l.fn.pairs.items l.parts.items l.yielded l.pair-iterator.rest.items

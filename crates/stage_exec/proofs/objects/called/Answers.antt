@@ -1,7 +1,7 @@
 use Rattle.std.proofs.Common.{map, sym, ◌∙◌}
 use Rattle.std.proofs.lemmas.Result.{IfOk-weaker}
 use Rattle.stage_results.specs.of_map_shard.Tables.{table}
-use Rattle.task_lists.specs.Lists.{calm}
+use Rattle.task_lists.specs.Lists.{calm_list}
 use Rattle.stage_exec.proofs.Acting.{none_calm}
 use Rattle.stage_exec.proofs.objects.called.Goals as goal
 
@@ -17,7 +17,7 @@ pub returns-in-None : goal.returns-in-None
 returns-in-None g c w e =
     let t = table c.args.sources.now c.args.results.now in
     rw c.new.ensures
-    (c.no_value_law.ensures w c.args.origin c.args.function (map (calm t) c.args.takes.now)
+    (c.no_value_law.ensures w c.args.origin c.args.function (map (calm_list t) c.args.takes.now)
     (sym c.in_ok-values_of.ensures ∙ c.in-None.is)
     ∙ none_calm t c.args.takes.now)
 
@@ -26,7 +26,7 @@ returns-in_ok-operate-in-Some g c w e =
     let t = table c.args.sources.now c.args.results.now in
     IfOk-weaker c.one.result _ _
     (λ made is.
-    c.in_ok-operate-in-Some.ensures w (map (calm t) c.args.takes.now) e
+    c.in_ok-operate-in-Some.ensures w (map (calm_list t) c.args.takes.now) e
     (sym c.in_ok-values_of.ensures ∙ c.in-Some.is)
     ∙ sym is)
     c.one.ensures

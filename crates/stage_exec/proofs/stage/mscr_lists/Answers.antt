@@ -1,6 +1,6 @@
 use Rattle.std.proofs.Common.{◌∙◌, sum, sym}
 use Rattle.std.proofs.lemmas.List.Sums.{sum_by-append}
-use Rattle.stage_results.specs.of_map_shard.Tables.{split}
+use Rattle.stage_results.specs.of_map_shard.Tables.{split_into}
 use Rattle.stage_results.proofs.of_step_counts.Growing.{grown_as, grown_then}
 use Rattle.task_lists.specs.Plans.{task_counts}
 use Rattle.task_lists.specs.Tasks.{map_phase, reduce_phase}
@@ -8,7 +8,7 @@ use Rattle.stage_exec.proofs.stage.mscr_lists.Goals as goal
 
 pub returns : goal.returns
 returns c w t made =
-    let n = split c.args.shards c.args.partitions in
+    let n = split_into c.args.shards c.args.partitions in
     let s = c.args.stage.now in
     let first = rw (← c.deref.ensures.value) at made.maps in
     record {

@@ -1,5 +1,5 @@
 use Rattle.std.proofs.Common.{sym, subst}
-use Rattle.map_shard.specs.Tables.{split}
+use Rattle.map_shard.specs.Tables.{split_into}
 use Rattle.task_lists.specs.Outs.{AreMapOuts}
 use Rattle.stage_phases.proofs.Reducing.{count_within}
 use Rattle.stage_phases.proofs.reduce.reduce_tasks.Goals as goal
@@ -9,10 +9,10 @@ new-requires g c =
     let inputs = c.args.inputs.now in
     let within = c.partitions.ensures.within in
     let h = c.requires.ready in
-    let made = subst (λ p. AreMapOuts h.world (split inputs.settings.now.shards p) h.lists
+    let made = subst (λ p. AreMapOuts h.world (split_into inputs.settings.now.shards p) h.lists
     c.args.stage.now c.args.maps.now) (sym c.partitions.ensures.value) h.made in
     c.reduce_tasks_law.ensures.can_reduce h.world
-    (split inputs.settings.now.shards c.partitions.result) h.lists c.args.stage.now
+    (split_into inputs.settings.now.shards c.partitions.result) h.lists c.args.stage.now
     c.args.maps.now c.args._number h.answers h.cut.0 within.0 within.1 h.ready made
 
 pub returns-clause-count : goal.returns-clause-count

@@ -1,7 +1,7 @@
 use Rattle.std.proofs.Common.{◌≡◌, ◌+◌, ◌∙◌, ap, arith, drop, sum, sym}
 use Rattle.std.proofs.Math.ListN.{drop_of_length-le}
-use Rattle.shards.specs.Shards.{joined}
-use Rattle.stage_phases.specs.of_map_shard.Tables.{split}
+use Rattle.shards.specs.Shards.{concatenated}
+use Rattle.stage_phases.specs.of_map_shard.Tables.{split_into}
 use Rattle.step_counts.specs.Owners.{owners_of}
 use Rattle.step_counts.proofs.Growing.{grown_as}
 use Rattle.task_lists.specs.Plans.{task_counts}
@@ -23,7 +23,7 @@ loop-p-preserved c = record {
       );
   grown = λ w shards t ins here behind is are.
       let p = c.loop-p._p in
-      let n = split shards c.args.partitions in
+      let n = split_into shards c.args.partitions in
       let left = c.loop-p.invariant.next here behind are.count is in
       let x = next_out c.args.partitions here behind _ p are.count c.loop-p-test.true left.0 in
       counted_more w n t ins c.args.grouping.now here are p x.0 _ _ _ c.loop-p-test.true x.1.at
@@ -34,7 +34,7 @@ loop-p-preserved c = record {
 
 pub returns-clause-lists : goal.returns-clause-lists
 returns-clause-lists c w shards t ins next =
-    let n = split shards c.args.partitions in
+    let n = split_into shards c.args.partitions in
     let here = next.0 in
     let are = next.3 in
     let left = c.loop-p.invariant.next here next.1 are.count next.2 in
@@ -44,11 +44,11 @@ returns-clause-lists c w shards t ins next =
 
 pub returns-clause-grown : goal.returns-clause-grown
 returns-clause-grown c w shards t ins next =
-    let n = split shards c.args.partitions in
+    let n = split_into shards c.args.partitions in
     let g = c.args.grouping.now in
     let end : c.loop-p._p ≡ c.args.partitions =
     omega (arith, c.loop-p-test.false, c.loop-p.auto._p-end) in
     grown_as _ _ _ _
     (λ i. ap (λ k. sum
-    (joined (λ p. (task_counts w i).reduces g (reduce_task w n t ins g p)) k)) end)
+    (concatenated (λ p. (task_counts w i).reduces g (reduce_task w n t ins g p)) k)) end)
     (c.loop-p.invariant.grown w shards t ins next.0 next.1 next.2 next.3)

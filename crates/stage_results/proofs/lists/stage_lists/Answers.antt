@@ -2,7 +2,7 @@ use Rattle.std.proofs.Common.{◌≡◌, ◌+◌, ◌∙◌, List, Some, ap, ari
 use Rattle.std.proofs.lemmas.Option.{slice_get_read}
 use Rattle.std.specs.Vec.Iter.{into_iter_items}
 use Rattle.exec_graph.specs.of_flume_collection.Calls.{or_none}
-use Rattle.stage_phases.specs.of_map_shard.Tables.{split}
+use Rattle.stage_phases.specs.of_map_shard.Tables.{split_into}
 use Rattle.flume_value.specs.declared.value.Value.{Value}
 use Rattle.shuffle_parts.specs.Outs.{all_passed}
 use Rattle.stage_results.proofs.SideBySide.{behind_first}
@@ -17,7 +17,7 @@ loop-channel-init c = record {
       ∙ c.in_ok-passed_lists.ensures r values
       (subst (λ n. all_passed c.args.maps.items n ≡ Some values) here found);
   along = λ w shards t some maps reduces.
-      let n = split shards c.args.partitions in
+      let n = split_into shards c.args.partitions in
       let s = c.args.stage.now in
       let outs = stage_outs w n t s.inputs c.requires.some s c.args.reduces.items refl reduces in
       along_none w n t s _ _ _ (rw c.into_iter-outs.ensures.rest outs) c.new-lists.ensures.items
@@ -34,7 +34,7 @@ loop-channel-preserved c = record {
       ∙ c.loop-channel.invariant.passed (suc r) values
       (subst (λ n. all_passed c.args.maps.items n ≡ Some values) next found);
   along = λ w shards t some maps reduces.
-      let n = split shards c.args.partitions in
+      let n = split_into shards c.args.partitions in
       let s = c.args.stage.now in
       let r = c.loop-channel.channel-index in
       let x = c.channel-item.result in

@@ -1,7 +1,7 @@
 use Rattle.std.proofs.Common.{◌≡◌, ◌*◌, ◌/◌, ◌∷◌, [], ◌∙◌, ap, arith, get_or, length, map, sum, sym}
-use Rattle.shards.specs.Shards.{joined}
+use Rattle.shards.specs.Shards.{concatenated}
 use Rattle.exec_plan.specs.declared.plan.InChannel.{InChannel}
-use Rattle.stage_phases.specs.of_map_shard.Tables.{split}
+use Rattle.stage_phases.specs.of_map_shard.Tables.{split_into}
 use Rattle.step_counts.specs.Owners.{owners_of}
 use Rattle.step_counts.proofs.Growing.{grown_as}
 use Rattle.task_lists.specs.Plans.{steps_count, task_counts}
@@ -22,12 +22,12 @@ loop-k-preserved c w partitions t made =
 
 pub returns : goal.returns
 returns c w partitions t made =
-    let n = split c.args.shards partitions in
+    let n = split_into c.args.shards partitions in
     let s = c.args.stage.now in
     let outs = c.args.outs.now in
     let all : c.loop-k.k ≡ length s.inputs * c.args.shards =
     omega (arith, c.loop-k-test.false, c.loop-k.auto.k-end, c.requires.count) in
     grown_as _ _ _ _
-    (λ i. ap (λ k. sum (joined (λ j. steps_count w i (map_task_at n t s j) ∷ []) k)) all
+    (λ i. ap (λ k. sum (concatenated (λ j. steps_count w i (map_task_at n t s j) ∷ []) k)) all
     ∙ ap sum (sym (c.numbers_law.ensures.map_counts (task_counts w i).maps n t s c.requires.some)))
     (c.loop-k.invariant w partitions t made)

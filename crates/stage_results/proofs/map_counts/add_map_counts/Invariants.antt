@@ -1,7 +1,7 @@
 use Rattle.std.proofs.Common.{ℕ, ◌∷◌, [], sum}
-use Rattle.shards.specs.Shards.{joined}
+use Rattle.shards.specs.Shards.{concatenated}
 use Rattle.exec_graph.specs.World.{World}
-use Rattle.stage_phases.specs.of_map_shard.Tables.{split}
+use Rattle.stage_phases.specs.of_map_shard.Tables.{split_into}
 use Rattle.step_counts.specs.Sizes.{HaveGrown}
 use Rattle.task_lists.specs.Outs.{AreMapOuts}
 use Rattle.task_lists.specs.Plans.{steps_count}
@@ -11,7 +11,8 @@ use Rattle.stage_results.proofs.map_counts.add_map_counts.Given as goal
 abbrev pub invariant-loop-k : goal.invariant-loop-k
 invariant-loop-k l =
     (w : World) (partitions : ℕ) (t : Lists)
-    → AreMapOuts w (split l.shards partitions) t l.stage l.outs
+    → AreMapOuts w (split_into l.shards partitions) t l.stage l.outs
     → HaveGrown (λ i. sum
-    (joined (λ k. steps_count w i (map_task_at (split l.shards partitions) t l.stage k) ∷ []) l.k))
+    (concatenated (λ k. steps_count w i (map_task_at (split_into l.shards partitions) t l.stage k) ∷
+    []) l.k))
     l.fn.sizes l.sizes

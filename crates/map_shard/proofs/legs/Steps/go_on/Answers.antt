@@ -1,6 +1,6 @@
 use Rattle.std.proofs.Common.{◌++◌, List, sym, ap, ◌∙◌, subst}
 use Rattle.std.specs.List.{AllZip}
-use Rattle.task_safety.specs.of_task_lists.Runs.{all_given}
+use Rattle.task_safety.specs.of_task_lists.Runs.{all_emissions}
 use Rattle.task_safety.specs.of_forest_courses.Courses.{IsCourse}
 use Rattle.map_shard.specs.declared.filling.Filling.{Filling}
 use Rattle.map_shard.specs.inner.Fillings.{IsFilled}
@@ -17,7 +17,7 @@ pub send_given-requires-clause-stands : goal.send_given-requires-clause-stands
 send_given-requires-clause-stands g c =
     let t = c.args.self.now in
     let w = own_world g.F.Functions.called t in
-    (taken t.m (all_given w t.does.now c.requires.stands.0), c.requires.stands.1.filled)
+    (taken t.m (all_emissions w t.does.now c.requires.stands.0), c.requires.stands.1.filled)
 
 pub returns-in_ok-with_counts-in-Ok : goal.returns-in_ok-with_counts-in-Ok
 returns-in_ok-with_counts-in-Ok g c done stands =
@@ -25,7 +25,7 @@ returns-in_ok-with_counts-in-Ok g c done stands =
     let w = own_world g.F.Functions.called t in
     let more = c.in_ok-more-in-Ok.ensures in
     let all = c.in_ok-with_counts-in-Ok.ensures in
-    let before = taken t.m (all_given w t.does.now done) in
+    let before = taken t.m (all_emissions w t.does.now done) in
     legs_joined w t.partitions t.m t.does.now done c.args.leg.now t.channels.now
     c.requires.single c.args.legs c.in_ok-with_counts-in-Ok.field-0 c.in-Ok.given stands
     (subst (IsCourse w t.does.now c.args.leg.now) c.in-Ok.is c.in_ok-given.ensures)

@@ -3,17 +3,18 @@ use Rattle.std.proofs.lemmas.Option.{same_Some}
 use Rattle.std.proofs.lemmas.List.{length-map}
 use Rattle.std.proofs.lemmas.List.Elements.{All-pop}
 use Rattle.outside.specs.Files.{with_file}
-use Rattle.memory_outside.specs.Slots.{file_of, files_of, place_of, slot_size, HasRoom, IsPlace}
+use Rattle.memory_outside.specs.Slots.{slot_file, slot_files, place_of_file, slot_size, HasSlotRoom, IsPlace}
 use Rattle.memory_outside.proofs.Places.{Rewritten, rewritten, added_at, at_place, at_none, within}
 use Rattle.memory_outside.proofs.RoomLemmas.{sizes}
 use Rattle.memory_outside.proofs.shelf.MemShelfShelf.begin.Goals as goal
 use Rattle.memory_outside.proofs.shelf.MemShelfShelf.begin.Goals.{In-Some, In-None, After-empty_file, After-add_file}
 
-found : (c : In-Some) → place_of (files_of c.self.inside.slots.items) c.args.name.now
+found : (c : In-Some) → place_of_file (slot_files c.self.inside.slots.items) c.args.name.now
     ≡ Some c.in-Some.k
 found c = sym (rw (c.deref.ensures.value, c.as_bytes.ensures.value) at c.in-Some.ensures)
 
-missing : (c : In-None) → place_of (files_of c.self.inside.slots.items) c.args.name.now ≡ None
+missing : (c : In-None)
+    → place_of_file (slot_files c.self.inside.slots.items) c.args.name.now ≡ None
 missing c = sym (rw (c.deref.ensures.value, c.as_bytes.ensures.value) at c.in-None.ensures)
 
 pub empty_file-requires-clause-within : goal.empty_file-requires-clause-within
@@ -25,16 +26,17 @@ empty_file-requires-clause-within c =
           c.in-Some.k (found (goal.at.empty_file-requires-clause-within c).In-Some),
     )
 
-emptied : (c : After-empty_file) → Rewritten (files_of c.self.inside.slots.items)
-    (files_of c.empty_file.new.slots.items) c.args.name.now [] c.in-Some.k
+emptied : (c : After-empty_file) → Rewritten (slot_files c.self.inside.slots.items)
+    (slot_files c.empty_file.new.slots.items) c.args.name.now [] c.in-Some.k
 emptied c =
-    let p : place_of (files_of c.self.inside.slots.items) c.args.name.now ≡ Some c.in-Some.k
+    let p : place_of_file (slot_files c.self.inside.slots.items) c.args.name.now ≡ Some c.in-Some.k
     = sym (rw (c.deref.ensures.value, c.as_bytes.ensures.value) at c.in-Some.ensures) in
     rewritten _ _ _ _ _ p c.empty_file.ensures.files
 
 pub invariant_of-self-in-Some : goal.invariant_of-self-in-Some
 invariant_of-self-in-Some c = record {
-  begun_is_place = λ x e. subst (IsPlace (files_of c.empty_file.new.slots.items)) (same_Some _ _ e)
+  begun_is_place =
+      λ x e. subst (IsPlace (slot_files c.empty_file.new.slots.items)) (same_Some _ _ e)
       (emptied (goal.at.invariant_of-self-in-Some c).After-empty_file).place;
   slots_room = c.empty_file.ensures.rooms;
   spare_room = c.self.invariant.spare_room;
@@ -56,10 +58,10 @@ pub returns-in-Some-clause-name : goal.returns-in-Some-clause-name
 returns-in-Some-clause-name c =
     (emptied (goal.at.returns-in-Some-clause-name c).After-empty_file).name_is
 
-there : (c : After-add_file) → Rewritten (files_of c.self.inside.slots.items)
-    (files_of c.add_file.new.slots.items) c.args.name.now [] c.len-k.result
+there : (c : After-add_file) → Rewritten (slot_files c.self.inside.slots.items)
+    (slot_files c.add_file.new.slots.items) c.args.name.now [] c.len-k.result
 there c =
-    let p : place_of (files_of c.self.inside.slots.items) c.args.name.now ≡ None
+    let p : place_of_file (slot_files c.self.inside.slots.items) c.args.name.now ≡ None
     = sym (rw (c.deref.ensures.value, c.as_bytes.ensures.value) at c.in-None.ensures) in
     let k : c.len-k.result ≡ length c.self.inside.slots.items
     = omega (arith, c.self.inside.slots.ok.0, c.len-k.ensures) in
@@ -68,10 +70,11 @@ there c =
 
 pub invariant_of-self-in-None : goal.invariant_of-self-in-None
 invariant_of-self-in-None c = record {
-  begun_is_place = λ x e. subst (IsPlace (files_of c.add_file.new.slots.items)) (same_Some _ _ e)
+  begun_is_place = λ x e. subst (IsPlace (slot_files c.add_file.new.slots.items)) (same_Some _ _ e)
       (there (goal.at.invariant_of-self-in-None c).After-add_file).place;
   slots_room = c.add_file.ensures.rooms;
-  spare_room = (All-pop (HasRoom c.self.inside.room) c.self.inside.spare.items c.pop.new.self.items
+  spare_room =
+      (All-pop (HasSlotRoom c.self.inside.room) c.self.inside.spare.items c.pop.new.self.items
       c.pop.result c.pop.ensures.items c.self.invariant.spare_room).0;
   within =
       let total = rw c.as_bytes-in-None.ensures.value at c.add_file.ensures.total in
@@ -103,13 +106,13 @@ passes named e never =
 
 pub returns-in-Some-clause-fails : goal.returns-in-Some-clause-fails
 returns-in-Some-clause-fails c =
-    let b = (at_place (files_of c.self.inside.slots.items) c.args.name.now c.in-Some.k
+    let b = (at_place (slot_files c.self.inside.slots.items) c.args.name.now c.in-Some.k
     (found (goal.at.returns-in-Some-clause-fails c).In-Some)).bytes_is in
     rw (← c.self.view_is) (passes _ (sym c.begin.ensures.named ∙ c.if-begin.false) (λ p. cc))
 
 pub returns-then-name-self-clause-fails : goal.returns-then-name-self-clause-fails
 returns-then-name-self-clause-fails c =
-    let b = (at_none (files_of c.self.inside.slots.items) c.args.name.now
+    let b = (at_none (slot_files c.self.inside.slots.items) c.args.name.now
     (missing (goal.at.returns-then-name-self-clause-fails c).In-None)).bytes_is in
     let u : c.used.result ≡ sum_by slot_size c.self.inside.slots.items
     = rw c.deref-in-None.ensures.value at c.used.ensures in
@@ -119,14 +122,14 @@ returns-then-name-self-clause-fails c =
 
 pub returns-in_default-clause-fails : goal.returns-in_default-clause-fails
 returns-in_default-clause-fails c =
-    let b = (at_none (files_of c.self.inside.slots.items) c.args.name.now
+    let b = (at_none (slot_files c.self.inside.slots.items) c.args.name.now
     (missing (goal.at.returns-in_default-clause-fails c).In-None)).bytes_is in
     let full : vec_len c.self.inside.slots + vec_len c.self.inside.spare
-    ≤ length (files_of c.self.inside.slots.items)
+    ≤ length (slot_files c.self.inside.slots.items)
     = omega (
       arith,
       c.self.inside.slots.ok.0,
-      length-map c.self.inside.slots.items file_of,
+      length-map c.self.inside.slots.items slot_file,
       c.in_default.ensures.cases.0,
     ) in
     rw (← c.self.view_is) (λ _. inr (b, inl full), λ _. refl)
@@ -140,7 +143,7 @@ returns-in-Some-pop-clause-fails c =
         arith,
         few,
         c.self.inside.slots.ok.0,
-        length-map c.self.inside.slots.items file_of,
+        length-map c.self.inside.slots.items slot_file,
         c.in-Some-pop.ensures.cases,
       ))
       | inr more ↦ absurd (omega (

@@ -1,6 +1,6 @@
 use Rattle.std.proofs.Common.{◌++◌, Some, arith, ap, ◌∙◌, length, take, unwrap_or, []}
 use Rattle.outside.specs.Files.{with_piece}
-use Rattle.memory_outside.specs.Slots.{name_at, bytes_at, files_of}
+use Rattle.memory_outside.specs.Slots.{file_name_at, bytes_at, slot_files}
 use Rattle.memory_outside.proofs.Places.{Rewritten, rewritten, within, written_files, written_name, written_place}
 use Rattle.memory_outside.proofs.shelf.MemShelfShelf.write.Goals as goal
 use Rattle.memory_outside.proofs.shelf.MemShelfShelf.write.Goals.{After-add_piece}
@@ -14,16 +14,16 @@ add_piece-requires-clause-within c =
           (c.self.invariant.begun_is_place c.in-Some.k c.in-Some.is),
     )
 
-more : (c : After-add_piece) → Rewritten (files_of c.self.inside.slots.items)
-    (files_of c.add_piece.new.slots.items)
-    (name_at (files_of c.self.inside.slots.items) c.in-Some.k)
-    (bytes_at (files_of c.self.inside.slots.items) c.in-Some.k ++ c.args.piece.now) c.in-Some.k
+more : (c : After-add_piece) → Rewritten (slot_files c.self.inside.slots.items)
+    (slot_files c.add_piece.new.slots.items)
+    (file_name_at (slot_files c.self.inside.slots.items) c.in-Some.k)
+    (bytes_at (slot_files c.self.inside.slots.items) c.in-Some.k ++ c.args.piece.now) c.in-Some.k
 more c = rewritten _ _ _ _ _ (c.self.invariant.begun_is_place c.in-Some.k c.in-Some.is)
     c.add_piece.ensures.files
 
 pub invariant_of-self-2 : goal.invariant_of-self-2
 invariant_of-self-2 c = record {
-  begun_is_place = written_place (files_of c.self.inside.slots.items) _ c.self.inside.begun
+  begun_is_place = written_place (slot_files c.self.inside.slots.items) _ c.self.inside.begun
       c.in-Some.k c.args.piece.now c.in-Some.is
       (c.self.invariant.begun_is_place c.in-Some.k c.in-Some.is)
       (more (goal.at.invariant_of-self-2 c).After-add_piece);
@@ -48,7 +48,7 @@ invariant_of-self-2 c = record {
 
 pub returns-clause-ok : goal.returns-clause-ok
 returns-clause-ok c =
-    ap Some (written_files (files_of c.self.inside.slots.items) _ c.self.inside.begun c.in-Some.k
+    ap Some (written_files (slot_files c.self.inside.slots.items) _ c.self.inside.begun c.in-Some.k
     c.args.piece.now c.in-Some.is (c.self.invariant.begun_is_place c.in-Some.k c.in-Some.is)
     (more (goal.at.returns-clause-ok c).After-add_piece)
     ∙ ap (λ shelf. with_piece shelf.files (unwrap_or shelf.begun [])
@@ -56,7 +56,7 @@ returns-clause-ok c =
 
 pub returns-clause-name : goal.returns-clause-name
 returns-clause-name c =
-    written_name (files_of c.self.inside.slots.items) _ c.self.inside.begun c.in-Some.k
+    written_name (slot_files c.self.inside.slots.items) _ c.self.inside.begun c.in-Some.k
     c.args.piece.now c.in-Some.is (c.self.invariant.begun_is_place c.in-Some.k c.in-Some.is)
     (more (goal.at.returns-clause-name c).After-add_piece)
     ∙ ap (λ shelf. unwrap_or shelf.begun []) c.self.view_is

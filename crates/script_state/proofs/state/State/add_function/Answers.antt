@@ -3,7 +3,7 @@ use Rattle.std.proofs.Common.{sym, ap, ◌∙◌, subst, arith}
 use Rattle.std.proofs.Math.Seq.{take-length}
 use Rattle.flume_types.specs.declared.types.Ty.{Ty}
 use Rattle.flume_grammar.specs.declared.tree.Function.{Function as Written}
-use Rattle.dofn_eval.specs.Function.{Function as Fun}
+use Rattle.dofn_eval.specs.Function.{SlotFunction as Fun}
 use Rattle.body_check.specs.of_written_types.Known.{Known}
 use Rattle.body_check.specs.of_written_types.Named.{Named, find}
 use Rattle.script_program.specs.declared.made.Function.{Function as HeldFunction}

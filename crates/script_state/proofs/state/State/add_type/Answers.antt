@@ -1,5 +1,5 @@
 use Rattle.type_table.specs.Table.{type_at}
-use Rattle.script_program.specs.Script.{with_type}
+use Rattle.script_program.specs.Script.{with_named_type}
 use Rattle.script_state.proofs.StateLemmas.{as-seen, grows-name, functions-kept, nodes-kept, state_in}
 use Rattle.script_state.proofs.state.State.add_type.Goals as goal
 
@@ -16,7 +16,8 @@ returns-clause-state c =
     let nodes =
     nodes-kept own.known new grows own.functions.entries own.nodes
     c.self.invariant in
-    as-seen (λ checking. with_type c.args.name (type_at checking.types c.args.id) checking.state)
+    as-seen (λ checking. with_named_type c.args.name (type_at checking.types c.args.id)
+    checking.state)
     c.self.view_is
     (λ i. record (state_in own) {
       types = c.in_ok-add.ensures.names i;

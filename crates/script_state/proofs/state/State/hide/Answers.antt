@@ -3,7 +3,7 @@ use Rattle.std.specs.Str.{bytes_eq}
 use Rattle.indexmap.proofs.CallerLemmas.{insert_entry-new}
 use Rattle.body_check.specs.of_written_types.Named.{find}
 use Rattle.script_program.specs.declared.made.Standing.TheVariants.{Hidden}
-use Rattle.script_program.specs.Script.{with_name}
+use Rattle.script_program.specs.Script.{with_standing}
 use Rattle.script_state.proofs.StateLemmas.{as-seen, none-is, state_in}
 use Rattle.script_state.proofs.state.State.hide.Goals as goal
 
@@ -20,5 +20,5 @@ returns-clause-state c =
     c.in_ok-insert.ensures.entries
     ∙ insert_entry-new bytes_eq own.names c.in_ok-key.key Hidden (none-is _ absent) in
     let names = put ∙ (λ j. own.names.entries ++ (key j, Hidden) ∷ []) in
-    as-seen (λ checking. with_name c.args.name.now Hidden checking.state) c.self.view_is
+    as-seen (λ checking. with_standing c.args.name.now Hidden checking.state) c.self.view_is
     (λ i. record (state_in own) { names = names i })

@@ -3,7 +3,7 @@ use Rattle.flume_value.specs.declared.value.Value.{Value}
 use Rattle.bag_groups.specs.Pairs.{key_of}
 use Rattle.bag_groups.proofs.PairLemmas.{key_of-pair}
 use Rattle.partial_tables.specs.Lifted.{IsLifted}
-use Rattle.shuffle_parts.specs.Partitions.{parted}
+use Rattle.shuffle_parts.specs.Partitions.{in_parts}
 use Rattle.shuffle_parts.proofs.Lifting.{here, lifted_at, put_at}
 use Rattle.shuffle_parts.proofs.combine.CouplePaired.lift.Goals as goal
 
@@ -36,7 +36,7 @@ returns c done stands =
     let within = c.partition-at.ensures.within in
     let key = c.in_ok-key.key in
     let whole = c.in_ok-key.ensures in
-    let old = get_or (parted n done) at [] in
+    let old = get_or (in_parts n done) at [] in
     put_at c.args.comb n at done parts stands within c.put_parts.new.self c.args.self key
     (subst (λ (p : Value). key_of p ≡ Some key) whole (key_of-pair key c.in_ok-key.value))
     c.partition-at.ensures.part
