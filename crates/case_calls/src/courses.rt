@@ -1,7 +1,8 @@
 // What the calls of a case share, and what is told of them.
 use crate::caches::cache_of;
 use crate::calls::Call;
-use crate::outcomes::{CacheCounts, outcome_of};
+use crate::meetings::Meetings;
+use crate::outcomes::{Seen, outcome_of};
 use crate::pages::{Caller, Calls, Invocation};
 use crate::worlds::World;
 use case_reports::Report;
@@ -54,7 +55,8 @@ impl Course {
         call: &Call,
     ) -> Result<(), AllocError> {
         let (alloc, case) = (calls.alloc, calls.case);
-        let mut world = World::new(alloc, case, &self.kept, &call.faults)?;
+        let meetings = Meetings::new();
+        let mut world = World::new(alloc, case, &self.kept, &call.faults, &meetings)?;
         let before = self.cache.faults();
         let with = Invocation {
             rt: calls.rt,
@@ -62,11 +64,13 @@ impl Course {
             words: &calls.command.words,
         };
         let status = calls.caller.call(&with, &mut world, &mut self.cache);
-        let cache = CacheCounts {
-            faults: self.cache.faults().saturating_sub(before),
+        let seen = Seen {
+            cache: self.cache.faults().saturating_sub(before),
             entries: self.cache.entry_count(),
+            met_in_map: meetings.map.was_held(),
+            met_in_reduce: meetings.reduce.was_held(),
         };
-        let told = self.tell(alloc, case, call, status, &world, cache);
+        let told = self.tell(alloc, case, call, status, &world, seen);
         drop(world);
         told
     }
@@ -77,10 +81,10 @@ impl Course {
         case: &Case,
         call: &Call,
         status: u8,
-        world: &World,
-        cache: CacheCounts,
+        world: &World<'_>,
+        seen: Seen,
     ) -> Result<(), AllocError> {
-        let outcome = outcome_of(alloc, case, status, world, cache)?;
+        let outcome = outcome_of(alloc, case, status, world, seen)?;
         self.report.push(&call.head, outcome)?;
         if self.kept.is_empty() {
             keep(alloc, case, world, &mut self.kept)?;
@@ -94,7 +98,7 @@ impl Course {
 fn keep(
     alloc: Global,
     case: &Case,
-    world: &World,
+    world: &World<'_>,
     kept: &mut Vec<TextFile>,
 ) -> Result<(), AllocError> {
     for file in &case.later {

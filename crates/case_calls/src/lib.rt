@@ -1,5 +1,5 @@
-//! The calls of worked cases of `flume` (`print_cases`, and `page_of` for one case): each is made
-//! over a world of the memory forms, by a `Caller`, and what it leaves there is told.
+//! The calls of worked cases of `flume` (`print_cases`): each is made over a world of the memory
+//! forms, by a `Caller`, and what it leaves there is told.
 //!
 //! The call itself is the caller's, so that nothing here stands on `flume`. What is promised is
 //! that a caller is handed sixteen hosts, and that all cases are made, safely.
@@ -8,10 +8,12 @@
 mod caches;
 mod calls;
 mod courses;
+mod hosts;
+mod meetings;
 mod outcomes;
 mod pages;
 mod rooms;
 mod worlds;
 
-pub use pages::{Caller, Invocation, page_of, print_cases};
+pub use pages::{Caller, Invocation, print_cases};
 pub use worlds::World;

@@ -1,18 +1,22 @@
 // What a call left of its world, as it is told.
+use crate::hosts::CaseHost;
 use crate::worlds::World;
 use case_reports::{Counts, Outcome, push_name, push_text};
-use memory_outside::{MemHost, MemShelf};
+use memory_outside::MemShelf;
 use std::alloc::{AllocError, Global};
 use std::str;
 use worked_cases::Case;
 
-/// What a cache tells of a call.
+/// What is seen of a call beside its world.
 #[derive(Clone, Copy)]
-pub struct CacheCounts {
-    /// How often it failed.
-    pub faults: u64,
+pub struct Seen {
+    /// How often the cache failed.
+    pub cache: u64,
     /// How many entries it has then.
     pub entries: usize,
+    /// Whether two hosts met in each phase.
+    pub met_in_map: bool,
+    pub met_in_reduce: bool,
 }
 
 /// What the screen and the shelf hold, and what was counted.
@@ -20,27 +24,29 @@ pub fn outcome_of(
     alloc: Global,
     case: &Case,
     status: u8,
-    world: &World,
-    cache: CacheCounts,
+    world: &World<'_>,
+    seen: Seen,
 ) -> Result<Outcome, AllocError> {
     let mut outcome = Outcome {
         status,
         screen: String::new(alloc),
         files: String::new(alloc),
-        counts: counts_of(alloc, world, cache),
+        counts: counts_of(alloc, world, seen),
     };
     fill(alloc, &mut outcome, case, world)?;
     Ok(outcome)
 }
 
-fn counts_of(alloc: Global, world: &World, cache: CacheCounts) -> Counts {
+fn counts_of(alloc: Global, world: &World<'_>, seen: Seen) -> Counts {
     Counts {
         source: world.source.faults(),
         shelf: world.shelf.faults(),
         screen: world.screen.faults(),
-        cache: cache.faults,
-        entries: cache.entries as u64,
+        cache: seen.cache,
+        entries: seen.entries as u64,
         losses: Vec::new(alloc),
+        met_in_map: seen.met_in_map,
+        met_in_reduce: seen.met_in_reduce,
     }
 }
 
@@ -49,7 +55,7 @@ fn fill(
     alloc: Global,
     outcome: &mut Outcome,
     case: &Case,
-    world: &World,
+    world: &World<'_>,
 ) -> Result<(), AllocError> {
     push_text(alloc, &mut outcome.screen, world.screen.text())?;
     push_files(alloc, &mut outcome.files, &world.shelf)?;
@@ -72,7 +78,7 @@ fn push_files(alloc: Global, told: &mut String, shelf: &MemShelf) -> Result<(), 
     Ok(())
 }
 
-fn push_losses(losses: &mut Vec<u64>, hosts: &[MemHost]) -> Result<(), AllocError> {
+fn push_losses(losses: &mut Vec<u64>, hosts: &[CaseHost<'_>]) -> Result<(), AllocError> {
     for host in hosts {
         losses.push(host.losses())?;
     }

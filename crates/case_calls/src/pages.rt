@@ -26,7 +26,7 @@ pub trait Caller {
     fn call<X: Threads + Sync>(
         &self,
         with: &Invocation<'_, X>,
-        world: &mut World,
+        world: &mut World<'_>,
         cache: &mut MemCache,
     ) -> u8
         requires hosts { vec_len world.old.hosts ≡ 16 }
@@ -56,8 +56,7 @@ fn print_entry<X: Threads + Sync + Print, C: Caller>(
     println!(rt; "{page}")
 }
 
-/// What came of the calls of a case, in order, or the mistake in it.
-pub fn page_of<X: Threads + Sync, C: Caller>(
+fn page_of<X: Threads + Sync, C: Caller>(
     rt: &X,
     caller: &C,
     alloc: Global,

@@ -1,6 +1,8 @@
 // The world of a call: what the memory forms hold, and which of their calls fail.
 ghost use Rattle.std.specs.Prelude.{◌≡◌, IfOk, vec_len};
 
+use crate::hosts::CaseHost;
+use crate::meetings::Meetings;
 use crate::rooms::fitting;
 use flume_value::{Pile, Str};
 use memory_outside::{MemHost, MemScreen, MemShelf, MemSource};
@@ -10,11 +12,11 @@ use worked_cases::{Case, Faults, HostDown, TextFile};
 
 /// The outside of a call.
 #[derive(Drop)]
-pub struct World {
+pub struct World<'a> {
     pub source: MemSource,
     pub shelf: MemShelf,
     pub screen: MemScreen,
-    pub hosts: Vec<MemHost>,
+    pub hosts: Vec<CaseHost<'a>>,
 }
 
 const HOSTS: u32 = 16;
@@ -22,21 +24,28 @@ const HOSTS: u32 = 16;
 // The most bytes that a screen takes.
 const SCREEN: u64 = 2_000_000;
 
-impl World {
-    /// The world of a case, with these files before its own, in which these calls fail.
+impl<'a> World<'a> {
+    /// The world of a case, with these files before its own, in which these calls fail, and whose
+    /// hosts meet there, where they do.
     pub fn new(
         alloc: Global,
         case: &Case,
         kept: &[TextFile],
         faults: &Faults,
-    ) -> Result<World, AllocError>
+        meetings: &'a Meetings,
+    ) -> Result<World<'a>, AllocError>
         ensures { IfOk result (λ world. vec_len world.hosts ≡ 16) }
     {
+        let meetings = if case.hosts_meet {
+            Some(meetings)
+        } else {
+            None
+        };
         Ok(World {
             source: source_of(alloc, kept, &case.files, faults)?,
             shelf: shelf_of(alloc, case, faults)?,
             screen: screen_of(alloc, faults)?,
-            hosts: hosts_of(alloc, &faults.hosts)?,
+            hosts: hosts_of(alloc, &faults.hosts, meetings)?,
         })
     }
 }
@@ -91,12 +100,17 @@ fn file_of(alloc: Global, text: &TextFile) -> Result<File, AllocError> {
     })
 }
 
-fn hosts_of(alloc: Global, downs: &[HostDown]) -> Result<Vec<MemHost>, AllocError>
+fn hosts_of<'a>(
+    alloc: Global,
+    downs: &[HostDown],
+    meetings: Option<&'a Meetings>,
+) -> Result<Vec<CaseHost<'a>>, AllocError>
     ensures { IfOk result (λ hosts. vec_len hosts ≡ 16) }
 {
     let mut hosts = Vec::new(alloc);
     for number in 0..HOSTS {
-        hosts.push(host_of(alloc, downs, number)?)?;
+        let host = host_of(alloc, downs, number)?;
+        hosts.push(CaseHost::new(host, meetings))?;
     }
     Ok(hosts)
 }

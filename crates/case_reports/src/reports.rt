@@ -27,6 +27,9 @@ pub struct Counts {
     pub entries: u64,
     /// How often each host was down, where that is told.
     pub losses: Vec<u64>,
+    /// Whether two hosts met in each phase, where they were to wait for one another.
+    pub met_in_map: bool,
+    pub met_in_reduce: bool,
 }
 
 /// The page of a case so far: what is told of its calls, and what each of them left.
@@ -152,6 +155,7 @@ fn push_counts(page: &mut String, counts: &Counts) -> Result<(), AllocError> {
     push_count(page, ", cache failed ", counts.cache)?;
     push_count(page, ", cache has ", counts.entries)?;
     push_losses(page, &counts.losses)?;
+    push_meetings(page, counts)?;
     page.push('\n')
 }
 
@@ -161,6 +165,16 @@ fn push_losses(page: &mut String, losses: &[u64]) -> Result<(), AllocError> {
             push_number(page, ", host ", host as u64, " lost ")?;
             push_number(page, "", *losses, "")?;
         }
+    }
+    Ok(())
+}
+
+fn push_meetings(page: &mut String, counts: &Counts) -> Result<(), AllocError> {
+    if counts.met_in_map {
+        page.push_str(", hosts met in map")?;
+    }
+    if counts.met_in_reduce {
+        page.push_str(", hosts met in reduce")?;
     }
     Ok(())
 }

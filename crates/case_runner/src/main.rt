@@ -19,7 +19,7 @@ impl Caller for Flume {
     fn call<X: Threads + Sync>(
         &self,
         with: &Invocation<'_, X>,
-        world: &mut World,
+        world: &mut World<'_>,
         cache: &mut MemCache,
     ) -> u8 {
         let status = flume_cached(

@@ -32,6 +32,8 @@ pub struct Case {
     pub is_twice: bool,
     /// Whether the losses of the hosts are told.
     pub tells_losses: bool,
+    /// Whether hosts wait for one another in each phase, and it is told whether they met.
+    pub hosts_meet: bool,
 }
 
 /// A command line: as it is written, and its words, with the program's name first.
@@ -114,6 +116,7 @@ impl Case {
             has_pairs: false,
             is_twice: false,
             tells_losses: false,
+            hosts_meet: false,
         }
     }
 }

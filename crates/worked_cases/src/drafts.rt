@@ -180,6 +180,7 @@ fn add_alone(alloc: Global, case: &mut Case, word: Word, rest: &[u8]) -> Result<
         Word::Pairs => case.has_pairs = true,
         Word::Twice => case.is_twice = true,
         Word::Losses => case.tells_losses = true,
+        Word::Meets => case.hosts_meet = true,
         Word::Entry => case.entries.push(TextFile {
             name: Vec::new(alloc),
             bytes: Vec::new(alloc),

@@ -29,6 +29,7 @@ pub enum Word {
     When,
     Pairs,
     Losses,
+    Meets,
     Keeps,
     Twice,
 }
@@ -43,7 +44,7 @@ impl Word {
     }
 }
 
-const WORDS: [(&[u8], Word); 15] = [
+const WORDS: [(&[u8], Word); 16] = [
     (b"flume", Word::Flume),
     (b"calls", Word::Calls),
     (b"script", Word::Script),
@@ -57,6 +58,7 @@ const WORDS: [(&[u8], Word); 15] = [
     (b"when", Word::When),
     (b"pairs", Word::Pairs),
     (b"losses", Word::Losses),
+    (b"meets", Word::Meets),
     (b"keeps", Word::Keeps),
     (b"twice", Word::Twice),
 ];
